@@ -1,0 +1,232 @@
+-- The laws of the field, gathered in a record (`IsField`), and proved at every width at which α generates the symbols other than 0.
+-- The ring laws hold for all numbers, since a product reduces its operands; the others speak of symbols.
+-- Assumes nothing.
+use mathlib.Core.Path.{_≡_, refl, sym, ap, ap₂, _∙_, subst}
+use mathlib.Core.Logic.{_≢_}
+use Prim.Native.Nat.{ℕ, zero, suc, _+_, _-_, _*_, _≤_, _<_}
+use native.Mathlib.Nat.{zero-add, suc-add, add-zero, add-suc, mul-zero, mul-suc, mul-comm, one-mul}
+use native.Mathlib.Decide.{decLt, ℕ-discrete}
+use native.Mathlib.Omega.{arith}
+use lib.Pow.{pow-mono}
+use Rattle.field.specs.Polynomial.{add}
+use Rattle.field.proofs.Polynomial.{add-comm, add-assoc, add-left-comm, add-zero-l, add-zero-r, add-self, add-lt, add-cancel, eq-of-add}
+use Rattle.field.specs.Field.{order, double, product, power, inverse, α}
+use Rattle.field.proofs.Ring.{product-lt, product-comm, product-assoc, product-one-l, product-one-r, product-zero-l, product-zero-r, product-add-l, product-add-r}
+use Rattle.field.proofs.Powers.{one-lt, power-zero, power-suc, power-one, zero-power, one-power, power-lt, power-add, power-power, power-product, product-left-comm}
+
+-- an exponent below q-1 at which the power of α is a
+pub record ExponentOf (m a : ℕ) : Type 0 where
+  pub exponent : ℕ
+  pub below : exponent < order m - 1
+  pub is-power : power m α exponent ≡ a
+
+-- what is computed at each width: α generates the symbols other than 0, and q-1 is the least power, other than 0, that is 1
+pub record Generates (m : ℕ) : Type 0 where
+  pub wide : 1 < m
+  pub cycle : power m α (order m - 1) ≡ 1
+  pub least : (k : ℕ) → 0 < k → k < order m - 1 → power m α k ≢ 1
+  pub exponent : (a : ℕ) → a ≢ 0 → a < order m → ExponentOf m a
+
+-- a symbol is given back by its cube
+abbrev pub CubeInjective : ℕ → Type 0
+CubeInjective m = (a b : ℕ) → a < order m → b < order m → power m a 3 ≡ power m b 3 → a ≡ b
+
+pub record IsField (m : ℕ) : Type 0 where
+  pub positive : 0 < m
+  pub one-lt : 1 < order m
+  -- sum
+  pub add-lt : (a b : ℕ) → a < order m → b < order m → add a b < order m
+  pub add-comm : (a b : ℕ) → add a b ≡ add b a
+  pub add-assoc : (a b c : ℕ) → add (add a b) c ≡ add a (add b c)
+  pub add-left-comm : (a b c : ℕ) → add a (add b c) ≡ add b (add a c)
+  pub add-zero : (a : ℕ) → add a 0 ≡ a
+  pub zero-add : (a : ℕ) → add 0 a ≡ a
+  pub add-self : (a : ℕ) → add a a ≡ 0
+  pub eq-of-add : (a b : ℕ) → add a b ≡ 0 → a ≡ b
+  -- product
+  pub product-lt : (a b : ℕ) → product m a b < order m
+  pub product-comm : (a b : ℕ) → product m a b ≡ product m b a
+  pub product-assoc : (a b c : ℕ) → product m (product m a b) c ≡ product m a (product m b c)
+  pub product-left-comm : (a b c : ℕ) → product m a (product m b c) ≡ product m b (product m a c)
+  pub product-one : (a : ℕ) → a < order m → product m a 1 ≡ a
+  pub one-product : (a : ℕ) → a < order m → product m 1 a ≡ a
+  pub product-zero : (a : ℕ) → product m a 0 ≡ 0
+  pub zero-product : (a : ℕ) → product m 0 a ≡ 0
+  pub product-add : (a b c : ℕ) → product m a (add b c) ≡ add (product m a b) (product m a c)
+  pub add-product : (a b c : ℕ) → product m (add a b) c ≡ add (product m a c) (product m b c)
+  pub product-inverse : (a : ℕ) → a ≢ 0 → a < order m → product m a (inverse m a) ≡ 1
+  pub inverse-lt : (a : ℕ) → inverse m a < order m
+  pub no-zero-divisors : (a b : ℕ) → a ≢ 0 → a < order m → b < order m → product m a b ≡ 0 → b ≡ 0
+  pub product-nonzero : (a b : ℕ) → a ≢ 0 → a < order m → b ≢ 0 → b < order m → product m a b ≢ 0
+  pub product-cancel : (a b c : ℕ) → a ≢ 0 → a < order m → b < order m → c < order m → product m a b ≡ product m a c → b ≡ c
+  pub square-injective : (a b : ℕ) → a < order m → b < order m → product m a a ≡ product m b b → a ≡ b
+  -- powers
+  pub power-lt : (a e : ℕ) → power m a e < order m
+  pub power-zero : (a : ℕ) → power m a 0 ≡ 1
+  pub power-suc : (a e : ℕ) → power m a (suc e) ≡ product m a (power m a e)
+  pub power-one : (a : ℕ) → a < order m → power m a 1 ≡ a
+  pub one-power : (e : ℕ) → power m 1 e ≡ 1
+  pub zero-power : (e : ℕ) → power m 0 (suc e) ≡ 0
+  pub power-add : (a i j : ℕ) → power m a (i + j) ≡ product m (power m a i) (power m a j)
+  pub power-power : (a i j : ℕ) → power m (power m a i) j ≡ power m a (i * j)
+  pub power-product : (a b e : ℕ) → power m (product m a b) e ≡ product m (power m a e) (power m b e)
+  pub power-nonzero : (a e : ℕ) → a ≢ 0 → a < order m → power m a e ≢ 0
+  pub power-cycle : (a : ℕ) → a ≢ 0 → a < order m → power m a (order m - 1) ≡ 1
+  -- α
+  pub α-nonzero : (k : ℕ) → power m α k ≢ 0
+  pub α-cycle : power m α (order m - 1) ≡ 1
+  pub α-distinct : (i j : ℕ) → i < order m - 1 → j < order m - 1 → power m α i ≡ power m α j → i ≡ j
+  pub α-generates : (a : ℕ) → a ≢ 0 → a < order m → ExponentOf m a
+
+module _ (m : ℕ) (g : Generates m) where
+  positive : 0 < m
+  positive = omega (arith, g .wide)
+
+  -- Fermat
+  cycle : (a : ℕ) → a ≢ 0 → a < order m → power m a (order m - 1) ≡ 1
+  cycle a n h =
+      let k = g .exponent a n h .exponent in
+      ap (λ (x : ℕ). power m x (order m - 1)) (sym (g .exponent a n h .is-power))
+      ∙ power-power m positive α k (order m - 1)
+      ∙ ap (power m α) (mul-comm k (order m - 1))
+      ∙ sym (power-power m positive α (order m - 1) k)
+      ∙ ap (λ (x : ℕ). power m x k) (g .cycle)
+      ∙ one-power m positive k
+
+  inverts : (a : ℕ) → a ≢ 0 → a < order m → product m a (inverse m a) ≡ 1
+  unfolding inverse
+  inverts a n h =
+      let two : 2 ≤ order m = one-lt m positive in
+      let e : suc (order m - 2) ≡ order m - 1 = omega arith in
+      sym (power-suc m a (order m - 2)) ∙ ap (power m a) e ∙ cycle a n h
+
+  cancel : (a b c : ℕ) → a ≢ 0 → a < order m → b < order m → c < order m → product m a b ≡ product m a c → b ≡ c
+  cancel a b c n h hb hc e = sym (undo b hb) ∙ ap (product m (inverse m a)) e ∙ undo c hc
+    where
+      undo : (x : ℕ) → x < order m → product m (inverse m a) (product m a x) ≡ x
+      undo x l =
+          sym (product-assoc m positive (inverse m a) a x)
+          ∙ ap (λ (y : ℕ). product m y x) (product-comm m (inverse m a) a ∙ inverts a n h)
+          ∙ product-one-l m x l
+
+  divisors : (a b : ℕ) → a ≢ 0 → a < order m → b < order m → product m a b ≡ 0 → b ≡ 0
+  divisors a b n h l e =
+      let z : 0 < order m = omega (arith, one-lt m positive) in
+      cancel a b 0 n h l z (e ∙ sym (product-zero-r m a))
+
+  power-not : (a e : ℕ) → a ≢ 0 → a < order m → power m a e ≢ 0
+  power-not a zero n h = λ e. (let f : _≡_ {A = ℕ} 1 0 = sym (power-zero m a) ∙ e in omega arith)
+  power-not a (suc i) n h = λ e. power-not a i n h (divisors a (power m a i) n h (power-lt m positive a i) (sym (power-suc m a i) ∙ e))
+
+  α-lt : α < order m
+  α-lt = let h : 4 ≤ order m = pow-mono (g .wide) in omega arith
+
+  α-not : (k : ℕ) → power m α k ≢ 0
+  α-not k = power-not α k (omega arith) α-lt
+
+  -- the square of a sum is the sum of the squares
+  square-add : (a b : ℕ) → product m (add a b) (add a b) ≡ add (product m a a) (product m b b)
+  square-add a b =
+      product-add-l m positive a b (add a b)
+      ∙ ap₂ add (product-add-r m positive a a b) (product-add-r m positive b a b ∙ ap (λ (x : ℕ). add x (product m b b)) (product-comm m b a))
+      ∙ add-assoc (product m a a) (product m a b) (add (product m a b) (product m b b))
+      ∙ ap (add (product m a a)) (add-cancel (product m a b) (product m b b))
+
+  squares : (a b : ℕ) → a < order m → b < order m → product m a a ≡ product m b b → a ≡ b
+  squares a b h l e = eq-of-add a b (go (ℕ-discrete (add a b) 0))
+    where
+      zero-square : product m (add a b) (add a b) ≡ 0
+      zero-square = square-add a b ∙ ap (λ (x : ℕ). add x (product m b b)) e ∙ add-self (product m b b)
+
+      go : Dec (add a b ≡ 0) → add a b ≡ 0
+      go (yes z) = z
+      go (no n) = divisors (add a b) (add a b) n (add-lt m a b h l) (add-lt m a b h l) zero-square
+
+  distinct-lt : (i j : ℕ) → i < j → j < order m - 1 → power m α i ≡ power m α j → ⊥
+  distinct-lt i j h l e =
+      g .least (j - i) (omega arith) (omega arith)
+      (sym (cancel (power m α i) 1 (power m α (j - i)) (α-not i) (power-lt m positive α i) (one-lt m positive) (power-lt m positive α (j - i))
+      (product-one-r m (power m α i) (power-lt m positive α i) ∙ e ∙ ap (power m α) rest ∙ power-add m positive α i (j - i))))
+    where
+      rest : j ≡ i + (j - i)
+      rest = omega arith
+
+  distinct : (i j : ℕ) → i < order m - 1 → j < order m - 1 → power m α i ≡ power m α j → i ≡ j
+  distinct i j h l e = go (decLt i j) (decLt j i)
+    where
+      go : Dec (i < j) → Dec (j < i) → i ≡ j
+      go (yes p) d = absurd (distinct-lt i j p l e)
+      go (no p) (yes r) = absurd (distinct-lt j i r h (sym e))
+      go (no p) (no r) = omega arith
+
+  inverse-below : (a : ℕ) → inverse m a < order m
+  unfolding inverse
+  inverse-below a = power-lt m positive a (order m - 2)
+
+  pub isField : IsField m
+  isField =
+      record {
+        positive = positive;
+        one-lt = one-lt m positive;
+        add-lt = add-lt m;
+        add-comm = add-comm;
+        add-assoc = add-assoc;
+        add-left-comm = add-left-comm;
+        add-zero = add-zero-r;
+        zero-add = add-zero-l;
+        add-self = add-self;
+        eq-of-add = eq-of-add;
+        product-lt = product-lt m positive;
+        product-comm = product-comm m;
+        product-assoc = product-assoc m positive;
+        product-left-comm = product-left-comm m positive;
+        product-one = product-one-r m;
+        one-product = product-one-l m;
+        product-zero = product-zero-r m;
+        zero-product = product-zero-l m;
+        product-add = product-add-r m positive;
+        add-product = product-add-l m positive;
+        product-inverse = inverts;
+        inverse-lt = inverse-below;
+        no-zero-divisors = divisors;
+        product-nonzero = λ a b n h k l e. k (divisors a b n h l e);
+        product-cancel = cancel;
+        square-injective = squares;
+        power-lt = power-lt m positive;
+        power-zero = power-zero m;
+        power-suc = power-suc m;
+        power-one = power-one m;
+        one-power = one-power m positive;
+        zero-power = zero-power m;
+        power-add = power-add m positive;
+        power-power = power-power m positive;
+        power-product = power-product m positive;
+        power-nonzero = power-not;
+        power-cycle = cycle;
+        α-nonzero = α-not;
+        α-cycle = g .cycle;
+        α-distinct = distinct;
+        α-generates = g .exponent;
+      }
+
+  -- 3 does not divide q-1, which is so at every odd width
+  pub cubes : (k : ℕ) → order m ≡ 3 * k + 2 → CubeInjective m
+  cubes k q a b h l e = go (ℕ-discrete a 0) (ℕ-discrete b 0)
+    where
+      units : order m - 1 ≡ 1 + 3 * k
+      units = omega arith
+
+      -- a symbol times a power of its cube is 1
+      split : (x : ℕ) → x ≢ 0 → x < order m → product m (power m (power m x 3) k) x ≡ 1
+      split x n u =
+          product-comm m (power m (power m x 3) k) x
+          ∙ ap₂ (product m) (sym (power-one m x u)) (power-power m positive x 3 k)
+          ∙ sym (power-add m positive x 1 (3 * k)) ∙ ap (power m x) (sym units) ∙ cycle x n u
+
+      go : Dec (a ≡ 0) → Dec (b ≡ 0) → a ≡ b
+      go (yes p) (yes r) = p ∙ sym r
+      go (yes p) (no r) = absurd (power-not b 3 r l (sym e ∙ ap (λ (x : ℕ). power m x 3) p ∙ zero-power m 2))
+      go (no p) (yes r) = absurd (power-not a 3 p h (e ∙ ap (λ (x : ℕ). power m x 3) r ∙ zero-power m 2))
+      go (no p) (no r) =
+          cancel (power m (power m a 3) k) a b (power-not (power m a 3) k (power-not a 3 p h) (power-lt m positive a 3)) (power-lt m positive (power m a 3) k) h l
+          (split a p h ∙ sym (split b r l) ∙ ap (λ (x : ℕ). product m (power m x k) b) (sym e))

@@ -1,0 +1,9 @@
+pub mod Check
+pub mod Polynomial
+pub mod Ring
+pub mod Powers
+pub mod Laws
+pub mod Widths
+pub mod PowerTable
+pub mod Steps
+pub mod Ask

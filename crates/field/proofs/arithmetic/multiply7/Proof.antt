@@ -1,0 +1,50 @@
+-- `field::arithmetic::multiply7` meets its contract: the exponents of two symbols make that of their product. Assumes nothing.
+use borrow.Author.Needs.{needs}
+use mathlib.Core.Path.{sym, ap, _∙_}
+use Prim.Native.Nat.{ℕ}
+use native.Mathlib.Omega.{arith}
+use Rattle.field.specs.Field.{product}
+use Rattle.field.proofs.Ring.{product-zero-l, product-zero-r}
+use Rattle.field.proofs.Widths.{fieldAt, Width.seven}
+use Rattle.field.proofs.Steps.{product-exponents}
+use Rattle.field.proofs.arithmetic.multiply7.Statement.{statement}
+use Rattle.field.proofs.arithmetic.multiply7.Tie as tie
+
+returns : tie.Need-returns
+returns c = λ h l. sym (ap (λ (x : ℕ). product 7 x (c .before .args .b)) (c .if1 .taken) ∙ product-zero-l 7 (c .before .args .b))
+
+returns-2 : tie.Need-returns-2
+returns-2 c = λ h l. sym (ap (product 7 (c .before .before .args .a)) (c .if2 .taken) ∙ product-zero-r 7 (c .before .before .args .a))
+
+logarithm-requires : tie.Need-logarithm-requires
+logarithm-requires c κs = search needs
+
+logarithm-requires-2 : tie.Need-logarithm-requires-2
+logarithm-requires-2 c κs = search needs
+
+add-t7 : tie.Need-add-t7
+add-t7 c = omega (arith, c .logarithm2 .ensures .0, c .before .logarithm .ensures .0)
+
+power-of-alpha-requires : tie.Need-power-of-alpha-requires
+power-of-alpha-requires c κs = omega (arith, c .logarithm2 .ensures .0, c .before .logarithm .ensures .0)
+
+returns-3 : tie.Need-returns-3
+returns-3 c = λ h l.
+    (let s = c .before .before .before .before .before in
+    let i = c .before .before .logarithm in
+    let j = c .before .logarithm2 in
+    c .power-of-alpha .ensures
+    ∙ product-exponents 7 (fieldAt seven) (s .args .a) (s .args .b) (i .result .0) (j .result .0)
+    (i .ensures .1 (c .before .before .before .before .if1 .left) h) (j .ensures .1 (c .before .before .before .if2 .left) l))
+
+pub multiply7-spec : {M : Type 1} → statement M
+multiply7-spec =
+    tie.close
+    (tie.spec
+    returns
+    returns-2
+    logarithm-requires
+    logarithm-requires-2
+    add-t7
+    power-of-alpha-requires
+    returns-3)

@@ -1,0 +1,4 @@
+pub mod Polynomial
+pub mod Field
+pub mod Question
+pub mod Answer
