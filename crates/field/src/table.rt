@@ -7,7 +7,7 @@ use crate::Exponent;
 
 // α to the exponents 0 to 253: two logarithms can be added without a reduction modulo 127.
 const POWERS: [u8; 254] = [
-    1,
+    1, // exponent 0
     2,
     4,
     8,
@@ -23,7 +23,7 @@ const POWERS: [u8; 254] = [
     100,
     65,
     11,
-    22,
+    22, // exponent 16
     44,
     88,
     57,
@@ -39,7 +39,7 @@ const POWERS: [u8; 254] = [
     102,
     69,
     3,
-    6,
+    6, // exponent 32
     12,
     24,
     48,
@@ -55,7 +55,7 @@ const POWERS: [u8; 254] = [
     74,
     29,
     58,
-    116,
+    116, // exponent 48
     97,
     75,
     31,
@@ -71,7 +71,7 @@ const POWERS: [u8; 254] = [
     70,
     5,
     10,
-    20,
+    20, // exponent 64
     40,
     80,
     41,
@@ -87,7 +87,7 @@ const POWERS: [u8; 254] = [
     39,
     78,
     21,
-    42,
+    42, // exponent 80
     84,
     33,
     66,
@@ -103,7 +103,7 @@ const POWERS: [u8; 254] = [
     15,
     30,
     60,
-    120,
+    120, // exponent 96
     121,
     123,
     127,
@@ -119,7 +119,7 @@ const POWERS: [u8; 254] = [
     91,
     63,
     126,
-    117,
+    117, // exponent 112
     99,
     79,
     23,
@@ -135,7 +135,7 @@ const POWERS: [u8; 254] = [
     34,
     68,
     1,
-    2,
+    2, // exponent 128
     4,
     8,
     16,
@@ -151,7 +151,7 @@ const POWERS: [u8; 254] = [
     65,
     11,
     22,
-    44,
+    44, // exponent 144
     88,
     57,
     114,
@@ -167,7 +167,7 @@ const POWERS: [u8; 254] = [
     69,
     3,
     6,
-    12,
+    12, // exponent 160
     24,
     48,
     96,
@@ -183,7 +183,7 @@ const POWERS: [u8; 254] = [
     29,
     58,
     116,
-    97,
+    97, // exponent 176
     75,
     31,
     62,
@@ -199,7 +199,7 @@ const POWERS: [u8; 254] = [
     5,
     10,
     20,
-    40,
+    40, // exponent 192
     80,
     41,
     82,
@@ -215,7 +215,7 @@ const POWERS: [u8; 254] = [
     78,
     21,
     42,
-    84,
+    84, // exponent 208
     33,
     66,
     13,
@@ -231,7 +231,7 @@ const POWERS: [u8; 254] = [
     30,
     60,
     120,
-    121,
+    121, // exponent 224
     123,
     127,
     119,
@@ -247,7 +247,7 @@ const POWERS: [u8; 254] = [
     63,
     126,
     117,
-    99,
+    99, // exponent 240
     79,
     23,
     46,
@@ -260,12 +260,12 @@ const POWERS: [u8; 254] = [
     76,
     17,
     34,
-    68,
+    68, // exponent 253
 ];
 
 // The exponent at which the power of α is the symbol. The symbol 0 has none; its entry is not used.
 const LOGARITHMS: [u8; 128] = [
-    0,
+    0, // symbol 0
     0,
     1,
     31,
@@ -281,7 +281,7 @@ const LOGARITHMS: [u8; 128] = [
     84,
     104,
     93,
-    4,
+    4, // symbol 16
     124,
     8,
     121,
@@ -297,7 +297,7 @@ const LOGARITHMS: [u8; 128] = [
     46,
     94,
     51,
-    5,
+    5, // symbol 32
     82,
     125,
     60,
@@ -313,7 +313,7 @@ const LOGARITHMS: [u8; 128] = [
     69,
     116,
     23,
-    35,
+    35, // symbol 48
     118,
     12,
     28,
@@ -329,7 +329,7 @@ const LOGARITHMS: [u8; 128] = [
     71,
     52,
     110,
-    6,
+    6, // symbol 64
     14,
     83,
     92,
@@ -345,7 +345,7 @@ const LOGARITHMS: [u8; 128] = [
     120,
     78,
     114,
-    66,
+    66, // symbol 80
     41,
     68,
     22,
@@ -361,7 +361,7 @@ const LOGARITHMS: [u8; 128] = [
     27,
     24,
     56,
-    36,
+    36, // symbol 96
     49,
     119,
     113,
@@ -377,7 +377,7 @@ const LOGARITHMS: [u8; 128] = [
     21,
     58,
     75,
-    107,
+    107, // symbol 112
     54,
     20,
     74,

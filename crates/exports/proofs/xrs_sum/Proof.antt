@@ -1,0 +1,18 @@
+-- `exports::xrs_sum` meets its contract. Assumes nothing.
+use borrow.Author.Needs.{needs}
+use mathlib.Core.Path.{ap, _∙_}
+use Rattle.exports.specs.Packed.{packed}
+use Rattle.exports.proofs.xrs_sum.Statement.{statement}
+use Rattle.exports.proofs.xrs_sum.Tie as tie
+
+sum-requires : tie.Need-sum-requires
+sum-requires c κs = search needs
+
+pack-requires : tie.Need-pack-requires
+pack-requires c κs = search needs
+
+returns : tie.Need-returns
+returns c = c .pack .ensures ∙ ap packed (c .before .sum .ensures)
+
+pub xrs-sum-spec : {M : Type 1} → statement M
+xrs-sum-spec = tie.close (tie.spec sum-requires pack-requires returns)
