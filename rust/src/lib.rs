@@ -1,4 +1,7 @@
 //! Safe calls of the proved library. Nothing here can panic: a bad input is an `Err` that says which question was answered no.
+//!
+//! A word of width 3, 5 or 7 has n = q + 4 symbols, one to a byte, where q is 2^width: 12, 36 or 132. Its first five are check symbols, the
+//! other q - 1 are the data. A call that returns `Err` leaves every slice as it was.
 
 /// The question that was answered no, with the refusal number of document 01.
 #[derive(Clone, Copy, Debug, PartialEq, Eq)]
@@ -42,6 +45,9 @@ mod raw {
         pub fn xrs_product(width: u8, a: u8, b: u8) -> u32;
         pub fn xrs_power(width: u8, a: u8, e: u16) -> u32;
         pub fn xrs_inverse(width: u8, a: u8) -> u32;
+        pub fn xrs_encode(width: u8, data: *const u8, data_length: usize, word: *mut u8, word_length: usize) -> u32;
+        pub fn xrs_is_codeword(width: u8, word: *const u8, word_length: usize) -> u32;
+        pub fn xrs_read_data(width: u8, word: *const u8, word_length: usize, data: *mut u8, data_length: usize) -> u32;
     }
 }
 
@@ -96,4 +102,40 @@ pub fn power(width: u8, a: u8, e: u16) -> Result<u8, Refusal> {
 /// ```
 pub fn inverse(width: u8, a: u8) -> Result<u8, Refusal> {
     symbol(unsafe { raw::xrs_inverse(width, a) })
+}
+
+/// Writes the codeword of the data into `word`: five check symbols, then the data. What `word` held before does not matter.
+///
+/// ```
+/// let mut word = [255; 12];
+/// assert_eq!(xrs::encode(3, &[3, 0, 1, 0, 0, 0, 0], &mut word), Ok(()));
+/// assert_eq!(word, [2, 7, 5, 6, 1, 3, 0, 1, 0, 0, 0, 0]);
+/// assert_eq!(xrs::encode(3, &[8, 0, 1, 0, 0, 0, 0], &mut word), Err(xrs::Refusal::Symbol));
+/// assert_eq!(xrs::encode(5, &[3, 0, 1, 0, 0, 0, 0], &mut word), Err(xrs::Refusal::Length));
+/// ```
+pub fn encode(width: u8, data: &[u8], word: &mut [u8]) -> Result<(), Refusal> {
+    unpack(unsafe { raw::xrs_encode(width, data.as_ptr(), data.len(), word.as_mut_ptr(), word.len()) }).map(|_| ())
+}
+
+/// Are the five syndromes of `word` zero?
+///
+/// ```
+/// assert_eq!(xrs::is_codeword(3, &[1, 1, 1, 1, 1, 1, 0, 0, 0, 0, 0, 0]), Ok(true));
+/// assert_eq!(xrs::is_codeword(3, &[1, 1, 1, 1, 0, 1, 0, 0, 0, 0, 0, 0]), Ok(false));
+/// assert_eq!(xrs::is_codeword(3, &[1, 1, 1, 1, 8, 1, 0, 0, 0, 0, 0, 0]), Err(xrs::Refusal::Symbol));
+/// ```
+pub fn is_codeword(width: u8, word: &[u8]) -> Result<bool, Refusal> {
+    unpack(unsafe { raw::xrs_is_codeword(width, word.as_ptr(), word.len()) }).map(|value| value == 1)
+}
+
+/// Writes the data of the codeword `word` into `data`. What `data` held before does not matter.
+///
+/// ```
+/// let mut data = [255; 7];
+/// assert_eq!(xrs::read_data(3, &[1, 2, 4, 3, 6, 0, 1, 0, 0, 0, 0, 0], &mut data), Ok(()));
+/// assert_eq!(data, [0, 1, 0, 0, 0, 0, 0]);
+/// assert_eq!(xrs::read_data(3, &[0, 2, 4, 3, 6, 0, 1, 0, 0, 0, 0, 0], &mut data), Err(xrs::Refusal::Syndrome));
+/// ```
+pub fn read_data(width: u8, word: &[u8], data: &mut [u8]) -> Result<(), Refusal> {
+    unpack(unsafe { raw::xrs_read_data(width, word.as_ptr(), word.len(), data.as_mut_ptr(), data.len()) }).map(|_| ())
 }

@@ -1,8 +1,12 @@
 // The calls for C and Rust. Each returns refusal + 256 * value, as its contract says by the same definitions as the call behind it.
+// A slice is passed as its pointer, then its length.
 ghost use mathlib.Core.Path.{_≡_};
 ghost use Rattle.field.specs.Answer.{outcome, sumOf, productOf, powerOf, inverseOf};
+ghost use Rattle.code.specs.Call.{done, membership, encodeOf, encodeWritten, testOf, readOf, readWritten};
 ghost use Rattle.exports.specs.Packed.{packed};
+use code::Membership;
 use field::Answer;
+use field::Verdict;
 
 fn wide(x: u8) -> u32
     ensures { λ r. ⌜ r ≡ x ⌝ }
@@ -17,6 +21,27 @@ fn pack(a: Answer) -> u32
     match a {
         Answer::Value(x) => 256 * wide(x),
         Answer::Refused(q) => wide(field::refusal_number(q)),
+    }
+}
+
+// The verdict of a call that has no value of its own.
+fn pack_verdict(v: Verdict) -> u32
+    ensures { λ r. ⌜ r ≡ packed (done v) ⌝ }
+{
+    match v {
+        Verdict::Passed => 0,
+        Verdict::Refused(q) => wide(field::refusal_number(q)),
+    }
+}
+
+// The answer of the codeword test: 1 for yes.
+fn pack_membership(m: Membership) -> u32
+    ensures { λ r. ⌜ r ≡ packed (membership m) ⌝ }
+{
+    match m {
+        Membership::Codeword => 256,
+        Membership::Other => 0,
+        Membership::Refused(q) => wide(field::refusal_number(q)),
     }
 }
 
@@ -46,4 +71,30 @@ pub extern "C" fn xrs_inverse(width: u8, a: u8) -> u32
     ensures { λ r. ⌜ r ≡ packed (inverseOf width a) ⌝ }
 {
     pack(field::inverse(width, a))
+}
+
+// Writes the codeword of the message into the word.
+#[no_mangle]
+pub extern "C" fn xrs_encode(width: u8, message: &[u8], word: &mut [u8]) -> u32
+    ensures answer { λ r. ⌜ r ≡ packed (encodeOf width (now (message .entry)) (now (word .entry))) ⌝ }
+    ensures written { λ r. ⌜ now (word .exit) ≡ encodeWritten width (now (message .entry)) (now (word .entry)) ⌝ }
+{
+    pack_verdict(code::encode(width, message, word))
+}
+
+// Is the word a codeword?
+#[no_mangle]
+pub extern "C" fn xrs_is_codeword(width: u8, word: &[u8]) -> u32
+    ensures { λ r. ⌜ r ≡ packed (testOf width (now (word .entry))) ⌝ }
+{
+    pack_membership(code::test(width, word))
+}
+
+// Writes the data of the codeword into the message.
+#[no_mangle]
+pub extern "C" fn xrs_read_data(width: u8, word: &[u8], message: &mut [u8]) -> u32
+    ensures answer { λ r. ⌜ r ≡ packed (readOf width (now (word .entry)) (now (message .entry))) ⌝ }
+    ensures written { λ r. ⌜ now (message .exit) ≡ readWritten width (now (word .entry)) (now (message .entry)) ⌝ }
+{
+    pack_verdict(code::read(width, word, message))
 }

@@ -73,6 +73,7 @@ pub record IsField (m : ℕ) : Type 0 where
   pub power-nonzero : (a e : ℕ) → a ≢ 0 → a < order m → power m a e ≢ 0
   pub power-cycle : (a : ℕ) → a ≢ 0 → a < order m → power m a (order m - 1) ≡ 1
   -- α
+  pub α-lt : α < order m
   pub α-nonzero : (k : ℕ) → power m α k ≢ 0
   pub α-cycle : power m α (order m - 1) ≡ 1
   pub α-distinct : (i j : ℕ) → i < order m - 1 → j < order m - 1 → power m α i ≡ power m α j → i ≡ j
@@ -203,6 +204,7 @@ module _ (m : ℕ) (g : Generates m) where
         power-product = power-product m positive;
         power-nonzero = power-not;
         power-cycle = cycle;
+        α-lt = α-lt;
         α-nonzero = α-not;
         α-cycle = g .cycle;
         α-distinct = distinct;

@@ -1,4 +1,5 @@
-//! An independent implementation, written from document 01 and sharing no code or table with the library.
+//! An independent implementation, written from document 01 and sharing no code or table with the library. A refusal is its number.
+#![allow(dead_code)] // each test file uses its part
 
 /// The reduction polynomial of a width.
 pub fn modulus(width: u8) -> Option<u32> {
@@ -35,4 +36,63 @@ pub fn raise(width: u8, a: u8, e: u16) -> u8 {
 /// The inverse, by search.
 pub fn invert(width: u8, a: u8) -> Option<u8> {
     (0..=(1u16 << width) - 1).map(|b| b as u8).find(|&b| multiply(width, a, b) == 1)
+}
+
+/// q, the number of symbols.
+pub fn order(width: u8) -> usize {
+    1 << width
+}
+
+/// n, the number of places of a word.
+pub fn places(width: u8) -> usize {
+    order(width) + 4
+}
+
+/// The number of data symbols.
+pub fn items(width: u8) -> usize {
+    order(width) - 1
+}
+
+/// The field sum over i of α^(k·i) times c_i, each power raised anew.
+pub fn weighted(width: u8, data: &[u8], k: usize) -> u8 {
+    data.iter().enumerate().fold(0, |sum, (i, &c)| sum ^ multiply(width, raise(width, 2, (k * i) as u16), c))
+}
+
+/// The five syndromes of a word, by equation (11) of document 003.
+pub fn syndromes(width: u8, word: &[u8]) -> [u8; 5] {
+    std::array::from_fn(|k| word[k] ^ weighted(width, &word[5..], k))
+}
+
+/// Questions 1, 2 and 7 in their order; whether the lengths are right is asked only at a width of the field.
+fn ask(width: u8, lengths: impl Fn() -> bool, symbols: &[u8]) -> Result<(), u8> {
+    if modulus(width).is_none() {
+        Err(1)
+    } else if !lengths() {
+        Err(2)
+    } else if symbols.iter().any(|&symbol| symbol as usize >= order(width)) {
+        Err(6)
+    } else {
+        Ok(())
+    }
+}
+
+/// The codeword of the data, for a lent word of this length.
+pub fn encode(width: u8, data: &[u8], word_length: usize) -> Result<Vec<u8>, u8> {
+    ask(width, || word_length == places(width) && data.len() == items(width), data)?;
+    Ok((0..5).map(|k| weighted(width, data, k)).chain(data.iter().copied()).collect())
+}
+
+/// Is the word a codeword?
+pub fn is_codeword(width: u8, word: &[u8]) -> Result<bool, u8> {
+    ask(width, || word.len() == places(width), word)?;
+    Ok(syndromes(width, word) == [0; 5])
+}
+
+/// The data of a codeword, for lent data of this length.
+pub fn read_data(width: u8, word: &[u8], data_length: usize) -> Result<Vec<u8>, u8> {
+    ask(width, || word.len() == places(width) && data_length == items(width), word)?;
+    if syndromes(width, word) != [0; 5] {
+        return Err(9);
+    }
+    Ok(word[5..].to_vec())
 }

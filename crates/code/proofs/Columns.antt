@@ -1,0 +1,103 @@
+-- The code's matrix by columns: a word's syndromes are the sum of the columns, each times its symbol, and what the erased places add to
+-- them is the combination of the erased columns. Assumes nothing.
+use mathlib.Core.Path.{_≡_, refl, sym, ap, ap₂, _∙_}
+use mathlib.Core.Logic.{_≢_}
+use mathlib.Core.Bool.{Bool, true, false, cond}
+use mathlib.Core.List.{List, [], _∷_, map}
+use Prim.Native.Nat.{ℕ, _+_, _-_, _*_, _<_}
+use native.Mathlib.Omega.{arith}
+use borrow.Author.Tests.{eq-eqb, ne-eqb, lt-ltb, le-ltb}
+use Rattle.field.specs.Polynomial.{add}
+use Rattle.field.specs.Field.{order, product, power, α}
+use Rattle.field.specs.Question.{allBelow}
+use Rattle.field.proofs.Laws.{IsField}
+use Rattle.code.specs.Word.{checks, places, items, sum, syndrome}
+use Rattle.code.specs.Place.{column}
+use Rattle.code.specs.Erasure.{member, distinct, masked}
+use Rattle.code.proofs.Sums.{sum-cong, sum-split, sum-zero, sum-change}
+use Rattle.code.proofs.Members.{distinct-head, distinct-tail, below-head, below-tail}
+
+-- row k of the columns at the places ls, each times its value
+unfoldable pub combine : ℕ → List ℕ → List ℕ → ℕ → ℕ
+combine m [] zs k = 0
+combine m (l ∷ ls) [] k = 0
+combine m (l ∷ ls) (z ∷ zs) k = add (product m (column m l k) z) (combine m ls zs k)
+
+pub column-unit : (m k : ℕ) → k < checks → column m k k ≡ 1
+unfolding column
+column-unit m k h = rw (lt-ltb k checks h, eq-eqb k k refl)
+
+pub column-none : (m p k : ℕ) → p < checks → p ≢ k → column m p k ≡ 0
+unfolding column
+column-none m p k h d = rw (lt-ltb p checks h, ne-eqb p k d)
+
+pub column-data : (m i k : ℕ) → column m (checks + i) k ≡ power m α (k * i)
+unfolding column
+column-data m i k =
+    let e : checks + i - checks ≡ i = omega arith in
+    rw (le-ltb (checks + i) checks (omega arith)) (ap (λ (n : ℕ). power m α (k * n)) e)
+
+module _ {m : ℕ} (F : IsField m) where
+  column-check : (w : ℕ → ℕ) (k : ℕ) → k < checks → w k < order m → sum checks (λ p. product m (column m p k) (w p)) ≡ w k
+  column-check w k h b =
+      sum-change F checks (λ p. product m (column m p k) (w p)) (λ p. 0) k h
+      (λ i j d. ap (λ (n : ℕ). product m n (w i)) (column-none m i k j d) ∙ F .zero-product (w i))
+      ∙ ap₂ add (sum-zero F checks) (F .add-zero _ ∙ ap (λ (n : ℕ). product m n (w k)) (column-unit m k h) ∙ F .one-product (w k) b)
+      ∙ F .zero-add (w k)
+
+  -- the syndromes, uniformly over all places
+  pub syndrome-columns : (w : ℕ → ℕ) (k : ℕ) → k < checks → w k < order m → syndrome m w k ≡ sum (places m) (λ p. product m (column m p k) (w p))
+  syndrome-columns w k h b =
+      let split : checks + items m ≡ places m = omega arith in
+      ap₂ add (sym (column-check w k h b)) (sum-cong _ _ _ (λ i l. ap (λ (n : ℕ). product m n (w (checks + i))) (sym (column-data m i k))))
+      ∙ sym (sum-split F checks (items m) (λ p. product m (column m p k) (w p)))
+      ∙ ap (λ (n : ℕ). sum n (λ p. product m (column m p k) (w p))) split
+
+  -- the syndromes of two words that differ at one place only
+  pub syndrome-change : (u v : ℕ → ℕ) (p : ℕ) → p < places m → ((i : ℕ) → i < places m → i ≢ p → u i ≡ v i) → (k : ℕ) → k < checks
+      → u k < order m → v k < order m → syndrome m u k ≡ add (syndrome m v k) (product m (column m p k) (add (u p) (v p)))
+  syndrome-change u v p h same k l b b′ =
+      syndrome-columns u k l b
+      ∙ sum-change F (places m) (λ i. product m (column m i k) (u i)) (λ i. product m (column m i k) (v i)) p h
+      (λ i j d. ap (product m _) (same i j d))
+      ∙ ap₂ add (sym (syndrome-columns v k l b′)) (sym (F .product-add _ _ _))
+
+  masked-lt : (ls : List ℕ) (w : ℕ → ℕ) (p : ℕ) → w p < order m → masked ls w p < order m
+  masked-lt ls w p b = go (member p ls)
+    where
+      go : (t : Bool) → cond t 0 (w p) < order m
+      go true = omega arith
+      go false = b
+
+  -- a word's syndromes: those of the places outside the erasures, and the combination of the erased columns by its symbols there
+  pub syndrome-masked : (ls : List ℕ) → distinct ls ≡ true → allBelow (places m) ls ≡ true → (w : ℕ → ℕ) → ((p : ℕ) → p < places m → w p < order m)
+      → (k : ℕ) → k < checks → syndrome m w k ≡ add (syndrome m (masked ls w) k) (combine m ls (map w ls) k)
+  unfolding combine
+  syndrome-masked [] ds bs w b k h = sym (F .add-zero _)
+  syndrome-masked (l ∷ ls) ds bs w b k h =
+      syndrome-masked ls (distinct-tail l ls ds) (below-tail l ls (places m) bs) w b k h
+      ∙ ap (λ (n : ℕ). add n (combine m ls (map w ls) k)) one
+      ∙ F .add-assoc _ _ _
+    where
+      u : ℕ → ℕ
+      u = masked ls w
+
+      v : ℕ → ℕ
+      v = masked (l ∷ ls) w
+
+      bk : w k < order m
+      bk = b k (omega arith)
+
+      vl : v l ≡ 0
+      vl = rw (eq-eqb l l refl)
+
+      ul : u l ≡ w l
+      ul = rw (distinct-head l ls ds)
+
+      same : (i : ℕ) → i < places m → i ≢ l → u i ≡ v i
+      same i j d = rw (ne-eqb i l d)
+
+      one : syndrome m u k ≡ add (syndrome m v k) (product m (column m l k) (w l))
+      one =
+          syndrome-change u v l (below-head l ls (places m) bs) same k h (masked-lt ls w k bk) (masked-lt (l ∷ ls) w k bk)
+          ∙ ap (λ (n : ℕ). add (syndrome m v k) (product m (column m l k) n)) (ap₂ add ul vl ∙ F .add-zero (w l))

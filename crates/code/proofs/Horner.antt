@@ -1,0 +1,157 @@
+-- Horner's rule for the sums over the data, and one step of the pass that computes them. Assumes nothing.
+use mathlib.Core.Path.{_≡_, refl, sym, ap, ap₂, _∙_, subst}
+use mathlib.Core.Bool.{true}
+use mathlib.Core.List.{List, [], _∷_}
+use Prim.Native.Nat.{ℕ, zero, suc, _+_, _-_, _*_, _≤_, _<_}
+use native.Mathlib.Nat.{mul-zero, mul-suc}
+use native.Mathlib.Numerals.{add-one}
+use native.Mathlib.Omega.{arith}
+use lib.ListN.{length, getD, take, drop, length-drop}
+use lib.Seq.{drop-cons, drop-length, getD-drop}
+use Rattle.field.specs.Polynomial.{add}
+use Rattle.field.specs.Field.{order, double, product, power, α}
+use Rattle.field.specs.Question.{isWidth, allBelow}
+use Rattle.field.proofs.Laws.{IsField}
+use Rattle.field.proofs.Widths.{field-of}
+use Rattle.field.proofs.Powers.{double-product}
+use Rattle.code.specs.Word.{checks, places, items, five, at, sum, weighted, parity, syndrome, dataOf}
+use Rattle.code.proofs.Sums.{sum-cong}
+use Rattle.code.proofs.Copying.{part-drop}
+use Rattle.code.proofs.Questions.{allBelow-means, allBelow-holds}
+use Rattle.code.proofs.Members.{below-head, below-tail}
+
+-- the sum k over the symbols, by Horner's rule
+unfoldable pub evaluate : ℕ → List ℕ → ℕ → ℕ
+evaluate m [] k = 0
+evaluate m (c ∷ cs) k = add (product m (power m α k) (evaluate m cs k)) c
+
+-- a number for each syndrome, at one of them
+pub five-at : (f : ℕ → ℕ) (k : ℕ) → k < checks → at (five f) k ≡ f k
+five-at f zero h = refl
+five-at f (suc zero) h = refl
+five-at f (suc (suc zero)) h = refl
+five-at f (suc (suc (suc zero))) h = refl
+five-at f (suc (suc (suc (suc zero)))) h = refl
+five-at f (suc (suc (suc (suc (suc k))))) h = absurd (omega arith)
+
+pub five-of : (f : ℕ → ℕ) (a b c d e : ℕ) → a ≡ f 0 → b ≡ f 1 → c ≡ f 2 → d ≡ f 3 → e ≡ f 4 → _≡_ {A = List ℕ} (a ∷ b ∷ c ∷ d ∷ e ∷ []) (five f)
+five-of f a b c d e ea eb ec ed ee = simp (ea, eb, ec, ed, ee)
+
+pub five-cong : (f g : ℕ → ℕ) → ((k : ℕ) → k < checks → f k ≡ g k) → five f ≡ five g
+five-cong f g e =
+    five-of g (f 0) (f 1) (f 2) (f 3) (f 4) (e 0 (omega arith)) (e 1 (omega arith)) (e 2 (omega arith)) (e 3 (omega arith)) (e 4 (omega arith))
+
+module _ {m : ℕ} (F : IsField m) where
+  sum-first : (n : ℕ) (f : ℕ → ℕ) → sum (suc n) f ≡ add (sum n (λ i. f (suc i))) (f 0)
+  unfolding sum
+  sum-first zero f = refl
+  sum-first (suc n) f =
+      ap (λ (x : ℕ). add x (f (suc n))) (sum-first n f) ∙ simp (F .add-assoc, F .add-left-comm, F .add-comm)
+
+  sum-scale : (a n : ℕ) (f : ℕ → ℕ) → sum n (λ i. product m a (f i)) ≡ product m a (sum n f)
+  unfolding sum
+  sum-scale a zero f = sym (F .product-zero a)
+  sum-scale a (suc n) f = ap (λ (x : ℕ). add x (product m a (f n))) (sum-scale a n f) ∙ sym (F .product-add a (sum n f) (f n))
+
+  weighted-cons : (k c : ℕ) (cs : List ℕ) → c < order m
+      → weighted m (suc (length cs)) (at (c ∷ cs)) k ≡ add (product m (power m α k) (weighted m (length cs) (at cs) k)) c
+  weighted-cons k c cs h =
+      sum-first (length cs) (λ i. product m (power m α (k * i)) (at (c ∷ cs) i))
+      ∙ ap₂ add
+      (sum-cong (length cs) (λ i. product m (power m α (k * suc i)) (at cs i))
+      (λ i. product m (power m α k) (product m (power m α (k * i)) (at cs i))) (λ i l. shift i (at cs i))
+      ∙ sum-scale (power m α k) (length cs) (λ i. product m (power m α (k * i)) (at cs i)))
+      (ap (λ (e : ℕ). product m (power m α e) c) (mul-zero k) ∙ ap (λ (x : ℕ). product m x c) (F .power-zero α) ∙ F .one-product c h)
+    where
+      shift : (i x : ℕ) → product m (power m α (k * suc i)) x ≡ product m (power m α k) (product m (power m α (k * i)) x)
+      shift i x =
+          ap (λ (e : ℕ). product m (power m α e) x) (mul-suc k i ∙ sym-add (k * i) k) ∙ ap (λ (y : ℕ). product m y x) (F .power-add α k (k * i))
+          ∙ F .product-assoc (power m α k) (power m α (k * i)) x
+        where
+          sym-add : (a b : ℕ) → a + b ≡ b + a
+          sym-add a b = omega arith
+
+  pub evaluate-weighted : (cs : List ℕ) (k : ℕ) → allBelow (order m) cs ≡ true → evaluate m cs k ≡ weighted m (length cs) (at cs) k
+  unfolding evaluate sum
+  evaluate-weighted [] k b = refl
+  evaluate-weighted (c ∷ cs) k b =
+      ap (λ (x : ℕ). add (product m (power m α k) x) c) (evaluate-weighted cs k (below-tail c cs (order m) b))
+      ∙ sym (weighted-cons k c cs (below-head c cs (order m) b))
+
+  pub evaluate-lt : (cs : List ℕ) (k : ℕ) → ((i : ℕ) → i < length cs → at cs i < order m) → evaluate m cs k < order m
+  unfolding evaluate
+  evaluate-lt [] k b = omega (arith, F .one-lt)
+  evaluate-lt (c ∷ cs) k b = F .add-lt _ _ (F .product-lt _ _) (b 0 (omega arith))
+
+-- a times the power k of α, doubled once more
+pub shift-start : (m a : ℕ) → isWidth m ≡ true → a < order m → a ≡ product m (power m α 0) a
+shift-start m a w h =
+    let F = field-of m w in
+    sym (ap (λ (x : ℕ). product m x a) (F .power-zero α) ∙ F .one-product a h)
+
+pub shift-on : (m a i r d : ℕ) → isWidth m ≡ true → r ≡ product m (power m α i) a → d ≡ double m r → d ≡ product m (power m α (i + 1)) a
+shift-on m a i r d w e f =
+    let F = field-of m w in
+    f ∙ ap (double m) e ∙ double-product m (F .positive) (product m (power m α i) a) (F .product-lt _ _)
+    ∙ sym (F .product-assoc α (power m α i) a)
+    ∙ sym (ap (λ (j : ℕ). product m (power m α j) a) (add-one i) ∙ ap (λ (x : ℕ). product m x a) (F .power-suc α i))
+
+pub shift-small : (m q a i r : ℕ) → isWidth m ≡ true → q ≡ order m → r ≡ product m (power m α i) a → r < q
+shift-small m q a i r w eq e =
+    subst (λ (x : ℕ). x < q) (sym e) (subst (λ (x : ℕ). product m (power m α i) a < x) (sym eq) (field-of m w .product-lt (power m α i) a))
+
+-- the pass: s holds the sums over the symbols from i on
+module _ (m : ℕ) (w : isWidth m ≡ true) (cs : List ℕ) (b : allBelow (order m) cs ≡ true) where
+  pub pass-start : five (λ k. 0) ≡ five (evaluate m (drop (length cs) cs))
+  unfolding evaluate
+  pass-start = ap (λ (xs : List ℕ). five (evaluate m xs)) (sym (drop-length cs))
+
+  pub pass-small : (s : List ℕ) (i k : ℕ) → s ≡ five (evaluate m (drop i cs)) → i ≤ length cs → k < checks → at s k < order m
+  pass-small s i k e h l =
+      subst (λ (x : ℕ). x < order m) (sym (ap (λ (t : List ℕ). at t k) e ∙ five-at (evaluate m (drop i cs)) k l))
+      (evaluate-lt (field-of m w) (drop i cs) k
+      (λ j n. subst (λ (x : ℕ). x < order m) (sym (getD-drop i cs j 0)) (allBelow-means (order m) cs b (i + j) (omega (arith, length-drop i cs, n)))))
+
+  pub pass-on : (s t : List ℕ) (i : ℕ) → s ≡ five (evaluate m (drop i cs)) → 0 < i → i ≤ length cs
+      → t ≡ five (λ k. add (product m (power m α k) (at s k)) (getD cs (i - 1) 0)) → t ≡ five (evaluate m (drop (i - 1) cs))
+  unfolding evaluate
+  pass-on s t i e p h f =
+      f
+      ∙ five-cong _ _ (λ k l. ap (λ (x : ℕ). add (product m (power m α k) x) (getD cs (i - 1) 0))
+      (ap (λ (u : List ℕ). at u k) e ∙ five-at (evaluate m (drop i cs)) k l))
+      ∙ ap (λ (j : ℕ). five (λ k. add (product m (power m α k) (evaluate m (drop j cs) k)) (getD cs (i - 1) 0))) back
+      ∙ ap (λ (xs : List ℕ). five (evaluate m xs)) (sym (drop-cons cs (i - 1) 0 (omega arith)))
+    where
+      back : i ≡ suc (i - 1)
+      back = omega arith
+
+  pub pass-end : (s : List ℕ) (i : ℕ) → s ≡ five (evaluate m (drop i cs)) → i ≡ 0 → s ≡ five (weighted m (length cs) (at cs))
+  pass-end s i e z =
+      e ∙ ap (λ (j : ℕ). five (evaluate m (drop j cs))) z ∙ five-cong _ _ (λ k l. evaluate-weighted (field-of m w) cs k b)
+
+-- ---- the syndromes of a word from the sums over its data, the part after the check symbols
+
+pub allBelow-drop : (q n : ℕ) (w : List ℕ) → allBelow q w ≡ true → allBelow q (drop n w) ≡ true
+allBelow-drop q n w b =
+    allBelow-holds q (drop n w)
+    (λ k h. subst (λ (x : ℕ). x < q) (sym (getD-drop n w k 0)) (allBelow-means q w b (n + k) (omega (arith, length-drop n w, h))))
+
+-- the sum over the data of a word, and over the data as a list
+pub parity-data : (m : ℕ) (w : List ℕ) (k : ℕ) → parity m (at (dataOf w)) k ≡ parity m (λ i. at w (checks + i)) k
+parity-data m w k = sum-cong (items m) _ _ (λ i h. ap (product m (power m α (k * i))) (getD-drop checks w i 0))
+
+module _ (m : ℕ) (w : List ℕ) (cs : List ℕ) (size : length w ≡ places m) (b : allBelow (order m) w ≡ true) where
+  weighted-data : (k : ℕ) → weighted m (length (drop checks w)) (at (drop checks w)) k ≡ parity m (λ i. at w (checks + i)) k
+  weighted-data k =
+      ap (λ (n : ℕ). weighted m n (at (drop checks w)) k) (length-drop checks w ∙ omega arith) ∙ parity-data m w k
+
+  pub syndromes-of : (allBelow (order m) (take (length w - checks) (drop checks w)) ≡ true
+      → cs ≡ five (weighted m (length (take (length w - checks) (drop checks w))) (at (take (length w - checks) (drop checks w)))))
+      → (k : ℕ) → k < checks → add (at w k) (at cs k) ≡ syndrome m (at w) k
+  syndromes-of e k h =
+      ap (add (at w k))
+      (ap (λ (u : List ℕ). at u k)
+      (e (subst (λ (u : List ℕ). allBelow (order m) u ≡ true) (sym (part-drop checks w)) (allBelow-drop (order m) checks w b)))
+      ∙ five-at (weighted m (length (take (length w - checks) (drop checks w))) (at (take (length w - checks) (drop checks w)))) k h
+      ∙ ap (λ (u : List ℕ). weighted m (length u) (at u) k) (part-drop checks w)
+      ∙ weighted-data k)

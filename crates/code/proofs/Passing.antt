@@ -1,0 +1,85 @@
+-- What the questions before question 8 tell of a word and its erasures, what the question about the syndromes tells, that data passes the
+-- encoder's questions and a codeword the reader's. Assumes nothing.
+use mathlib.Core.Path.{_≡_, sym, _∙_}
+use mathlib.Core.Bool.{true}
+use mathlib.Core.List.{List}
+use Prim.Native.Nat.{ℕ, _≤_, _<_}
+use native.Mathlib.Omega.{arith}
+use borrow.Author.Tests.{leb-true, eqb-true, eq-eqb}
+use lib.Dec.{eqb, leb}
+use lib.ListN.{length}
+use Rattle.field.specs.Field.{order}
+use Rattle.field.specs.Question.{isWidth, allBelow}
+use Rattle.field.specs.declared.Question.the-variants.{Width, Length, ErasureCount, ErasurePlace, ErasureDistinct, Symbol}
+use Rattle.field.specs.declared.Verdict.the-variants.{Passed}
+use Rattle.field.proofs.Ask.{ask-yes, ask-next}
+use Rattle.code.specs.Word.{checks, places, items, five, at, syndrome, Codeword}
+use Rattle.code.specs.Erasure.{distinct, symbolsFrom}
+use Rattle.code.specs.Call.{zeroSyndromes, encodeAsked, maxErasures, readAsked, restoreAsked}
+use Rattle.code.specs.Demands.{Data, Passes}
+use Rattle.code.proofs.Questions.{allBelow-means, allBelow-holds, allZero-below, symbols-means}
+use Rattle.code.proofs.Horner.{five-at}
+use Rattle.code.proofs.Filling.{Lent}
+
+-- ---- question 9
+
+module _ (m : ℕ) (w : List ℕ) where
+  abbrev s : ℕ → ℕ
+  s k = syndrome m (at w) k
+
+  -- all five syndromes are zero just if each is
+  pub syndromes-zero : zeroSyndromes m w ≡ true → (k : ℕ) → k < checks → syndrome m (at w) k ≡ 0
+  unfolding zeroSyndromes
+  syndromes-zero e k h = omega (arith, five-at s k h, allBelow-means 1 (five s) (allZero-below (five s) ∙ e) k h)
+
+  pub zero-syndromes : ((k : ℕ) → k < checks → syndrome m (at w) k ≡ 0) → zeroSyndromes m w ≡ true
+  unfolding zeroSyndromes
+  zero-syndromes z = sym (allZero-below (five s)) ∙ allBelow-holds 1 (five s) (λ k h. omega (arith, five-at s k h, z k h))
+
+-- data passes the encoder's questions
+pub encode-passes : (m : ℕ) → isWidth m ≡ true → (ds out : List ℕ) → Data m ds → length out ≡ places m → encodeAsked m ds out ≡ Passed
+unfolding encodeAsked
+encode-passes m h ds out D e = rw (
+  h,
+  eq-eqb (length out) (places m) e,
+  eq-eqb (length ds) (items m) (D .size),
+  allBelow-holds (order m) ds (λ i l. D .symbols i (omega arith)),
+)
+
+-- a codeword passes the reader's questions
+pub read-passes : (m : ℕ) → isWidth m ≡ true → (w out : List ℕ) → Codeword m w → length out ≡ items m → readAsked m w out ≡ Passed
+unfolding readAsked
+read-passes m h w out C e = rw (
+  h,
+  eq-eqb (length w) (places m) (C .size),
+  eq-eqb (length out) (items m) e,
+  allBelow-holds (order m) w (λ i l. C .symbols i (omega arith)),
+  zero-syndromes m w (C .zero-syndromes),
+)
+
+-- ---- the restorer's questions before question 8
+
+pub record Given (m : ℕ) (w es : List ℕ) : Type 0 where
+  pub width : isWidth m ≡ true
+  pub few : length es ≤ maxErasures m
+  pub lent : Lent m w es
+
+pub given : (m : ℕ) (w es : List ℕ) → Passes m w es → Given m w es
+unfolding restoreAsked
+given m w es p1 =
+    let p2 = ask-next (isWidth m) Width _ p1 in
+    let p3 = ask-next (eqb (length w) (places m)) Length _ p2 in
+    let p4 = ask-next (leb (length es) (maxErasures m)) ErasureCount _ p3 in
+    let p5 = ask-next (allBelow (places m) es) ErasurePlace _ p4 in
+    let p6 = ask-next (distinct es) ErasureDistinct _ p5 in
+    let size : length w ≡ places m = eqb-true _ _ (ask-yes (eqb (length w) (places m)) Length _ p2) in
+    record {
+      width = ask-yes (isWidth m) Width _ p1;
+      few = leb-true _ _ (ask-yes (leb (length es) (maxErasures m)) ErasureCount _ p3);
+      lent = record {
+        size = size;
+        symbols = λ p h o. symbols-means (order m) es w (ask-yes (symbolsFrom (order m) es 0 w) Symbol Passed p6) p (omega arith) o;
+        distinct = ask-yes (distinct es) ErasureDistinct _ p5;
+        below = ask-yes (allBelow (places m) es) ErasurePlace _ p4;
+      };
+    }

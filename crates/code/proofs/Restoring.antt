@@ -1,0 +1,210 @@
+-- The demands on the restorer: there are never two near codewords, what it accepts and refuses, that a refused word stays, and that neither
+-- the symbols at the erasures nor the order of the erasures matter. Assumes nothing.
+use mathlib.Core.Path.{_≡_, refl, sym, ap, ap₂, _∙_, subst}
+use mathlib.Core.Logic.{_↔_, _≢_}
+use mathlib.Core.Bool.{Bool, true, false, cond}
+use mathlib.Core.List.{List}
+use Prim.Native.Nat.{ℕ, _<_}
+use native.Mathlib.Decide.{decLt}
+use native.Mathlib.Omega.{arith}
+use lib.Dec.{eqb, leb}
+use lib.ListN.{length, List·getD-eq-default}
+use Rattle.field.specs.Field.{order}
+use Rattle.field.specs.Question.{Outcome, accepted, refused, refusal, ask, after, isWidth, allBelow}
+use Rattle.field.specs.declared.Question.{Question}
+use Rattle.field.specs.declared.Question.the-variants.{Width, Length, ErasureCount, ErasurePlace, ErasureDistinct, Symbol}
+use Rattle.field.specs.declared.Verdict.{Verdict}
+use Rattle.field.specs.declared.Verdict.the-variants.{Passed, Refused}
+use Rattle.field.proofs.Laws.{IsField}
+use Rattle.field.proofs.Widths.{field-of}
+use Rattle.code.specs.Word.{places, at}
+use Rattle.code.specs.Erasure.{member, distinct, symbolsFrom, differ, changes}
+use Rattle.code.specs.Near.{distance, radius, codewords, near, Restoration, none, one, several, found, restoration}
+use Rattle.code.specs.Call.{maxErasures, written, decided, restored, restoreAsked, restoreWritten}
+use Rattle.code.specs.Demands.{Passes, Near, NeverTwo, Accepts, RefusesSeven, RefusedUnchanged, SameErasures, AgreeOutside, SameRestored}
+use Rattle.code.proofs.Sums.{total-cong}
+use Rattle.code.proofs.Questions.{bool-eq, allBelow-means, allBelow-holds, member-means, member-at, symbols-means, symbols-holds}
+use Rattle.code.proofs.Members.{distinct-once, once-distinct, same-member, same-length}
+use Rattle.code.proofs.DistanceLaw.{distance-of}
+use Rattle.code.proofs.Unique.{near-within, near-unique, radius-few}
+use Rattle.code.proofs.Passing.{given}
+use Rattle.code.proofs.Codewords.{keep-cong, restoration-none, restoration-far, restoration-near, restoration-one, never-several}
+
+-- ---- what an outcome says of the questions and of the restoration
+
+module _ (m : ℕ) (w es : List ℕ) where
+  accepted-means : (v : Verdict) (r : Restoration) (k : ℕ) → after v (decided m w es r) ≡ accepted k
+      → (v ≡ Passed) × (c : List ℕ) × (r ≡ one c) × (k ≡ changes m es w c)
+  accepted-means Passed none k e = let z : _≡_ {A = ℕ} 0 1 = cc in absurd (omega arith)
+  accepted-means Passed (one c) k e = (refl, c, refl, cc)
+  accepted-means Passed several k e = let z : _≡_ {A = ℕ} 0 1 = cc in absurd (omega arith)
+  accepted-means (Refused q) r k e = let z : _≡_ {A = ℕ} 0 1 = cc in absurd (omega arith)
+
+  refused-means : (v : Verdict) (r : Restoration) (n : ℕ) → after v (decided m w es r) ≡ refused n → written v w (restored w r) ≡ w
+  refused-means Passed none n e = refl
+  refused-means Passed (one c) n e = let z : _≡_ {A = ℕ} 0 1 = cc in absurd (omega arith)
+  refused-means Passed several n e = refl
+  refused-means (Refused q) r n e = refl
+
+  written-one : (c : List ℕ) → Passes m w es → restoration m es w ≡ one c → restoreWritten m w es ≡ c
+  written-one c p f = simp (p, f)
+
+-- what is refused stays as it was
+pub refused-unchanged : RefusedUnchanged
+refused-unchanged m w es n e = refused-means m w es (restoreAsked m w es) (restoration m es w) n e
+
+-- question 8 comes after all others, and no other question has its number
+seven-step : (b : Bool) (q : Question) (v : Verdict) (o : Outcome) → refusal q ≢ 7 → (after v o ≡ refused 7 → v ≡ Passed)
+    → after (ask b q v) o ≡ refused 7 → ask b q v ≡ Passed
+seven-step true q v o n h e = h e
+seven-step false q v o n h e = absurd (n (cc))
+
+seven-passed : (m : ℕ) (w es : List ℕ) (o : Outcome) → after (restoreAsked m w es) o ≡ refused 7 → Passes m w es
+unfolding restoreAsked
+seven-passed m w es o =
+    seven-step (isWidth m) Width _ o (λ e. omega arith)
+    (seven-step (eqb (length w) (places m)) Length _ o (λ e. omega arith)
+    (seven-step (leb (length es) (maxErasures m)) ErasureCount _ o (λ e. omega arith)
+    (seven-step (allBelow (places m) es) ErasurePlace _ o (λ e. omega arith)
+    (seven-step (distinct es) ErasureDistinct _ o (λ e. omega arith)
+    (seven-step (symbolsFrom (order m) es 0 w) Symbol Passed o (λ e. omega arith) (λ e. refl))))))
+
+-- ---- what restoring finds, of an input that passes
+
+-- there is never more than one near codeword
+pub never-two : NeverTwo
+never-two m w es p c d N N′ =
+    let G = given m w es p in
+    near-unique (field-of m (G .width)) (distance m) (distance-of m (G .width)) (near-within N) (near-within N′) (radius-few m (length es) (G .few))
+
+module _ (m : ℕ) (w es : List ℕ) (p : Passes m w es) where
+  F : IsField m
+  F = field-of m (given m w es p .width)
+
+  pub finds-near : (c : List ℕ) → restoration m es w ≡ one c → Near m es w c
+  finds-near = restoration-near F es w
+
+  pub finds-one : (c : List ℕ) → Near m es w c → restoration m es w ≡ one c
+  finds-one = restoration-one F es w (never-two m w es p)
+
+  pub finds-none : restoration m es w ≡ none ↔ ((c : List ℕ) → Near m es w c → ⊥)
+  finds-none = (restoration-far F es w, restoration-none F es w)
+
+  pub finds-no-two : restoration m es w ≢ several
+  finds-no-two = never-several F es w (never-two m w es p)
+
+-- accepted exactly when a codeword is near, and then the word ends equal to it
+pub accepts : Accepts
+accepts m w es k c = (
+  λ h.
+      let r = accepted-means m w es (restoreAsked m w es) (restoration m es w) k (h .0) in
+      let d : r .1 ≡ c = sym (written-one m w es (r .1) (r .0) (r .2)) ∙ h .1 in
+      let f : restoration m es w ≡ one c = r .2 ∙ ap one d in
+      (r .0, record { near = finds-near m w es (r .0) c f; count = r .3 ∙ ap (changes m es w) d }),
+  λ h.
+      let f = finds-one m w es (h .0) c (h .1 .near) in
+      (simp (h .0, f, h .1 .count), written-one m w es c (h .0) f),
+)
+
+-- refused with 7 exactly when none is near
+pub refuses-seven : RefusesSeven
+refuses-seven m w es = (
+  λ e.
+      let p = seven-passed m w es (decided m w es (restoration m es w)) e in
+      (p, finds-none m w es p .0 (go (restoration m es w) refl p (simp p at e))),
+  λ h. let f = finds-none m w es (h .0) .1 (h .1) in simp (h .0, f),
+)
+  where
+    go : (r : Restoration) → restoration m es w ≡ r → Passes m w es → decided m w es r ≡ refused 7 → restoration m es w ≡ none
+    go none f p e = f
+    go (one c) f p e = let z : _≡_ {A = ℕ} 0 1 = cc in absurd (omega arith)
+    go several f p e = absurd (finds-no-two m w es p f)
+
+-- ---- words that agree outside the same erasures
+
+-- w with the erasures es, and w′ with the erasures es′
+record Alike (w w′ es es′ : List ℕ) : Type 0 where
+  size : length w ≡ length w′
+  erasures : SameErasures es es′
+  outside : AgreeOutside es w w′
+
+module _ {w w′ es es′ : List ℕ} (a : Alike w w′ es es′) where
+  members : (p : ℕ) → member p es ≡ member p es′
+  members = same-member es es′ (a .erasures)
+
+  flipped : Alike w′ w es′ es
+  flipped =
+      record {
+        size = sym (a .size);
+        erasures = λ p. sym (a .erasures p);
+        outside = λ p h t. sym (a .outside p (omega (arith, a .size)) (members p ∙ t));
+      }
+
+  below-too : (n : ℕ) → allBelow n es ≡ true → allBelow n es′ ≡ true
+  below-too n h = allBelow-holds n es′ (λ k l.
+      let r = member-means (at es′ k) es (members (at es′ k) ∙ member-at (at es′ k) es′ k l refl) in
+      subst (λ (x : ℕ). x < n) (r .2) (allBelow-means n es h (r .0) (r .1)))
+
+  distinct-too : distinct es ≡ true → distinct es′ ≡ true
+  distinct-too h = once-distinct es′ (λ p. rw (← a .erasures p) (distinct-once es h p))
+
+  symbols-too : (q : ℕ) → symbolsFrom q es 0 w ≡ true → symbolsFrom q es′ 0 w′ ≡ true
+  symbols-too q h = symbols-holds q es′ w′ (λ k l t.
+      let o = members k ∙ t in
+      let i : k < length w = omega (arith, a .size) in
+      subst (λ (x : ℕ). x < q) (a .outside k i o) (symbols-means q es w h k i o))
+
+  same-at : (p : ℕ) → member p es ≡ false → at w p ≡ at w′ p
+  same-at p t = go (decLt p (length w))
+    where
+      go : Dec (p < length w) → at w p ≡ at w′ p
+      go (yes h) = a .outside p h t
+      go (no n) = List·getD-eq-default w 0 (omega arith) ∙ sym (List·getD-eq-default w′ 0 (omega (arith, a .size)))
+
+  module _ (m : ℕ) where
+    same-changes : (c : List ℕ) → changes m es w c ≡ changes m es′ w′ c
+    same-changes c = total-cong _ _ (places m) (λ p h. rw (← members p) (go p (member p es) refl))
+      where
+        go : (p : ℕ) (b : Bool) → member p es ≡ b → cond b 0 (differ (at w p) (at c p)) ≡ cond b 0 (differ (at w′ p) (at c p))
+        go p true e = refl
+        go p false e = ap (λ (x : ℕ). differ x (at c p)) (same-at p e)
+
+    same-restoration : restoration m es w ≡ restoration m es′ w′
+    unfolding restoration near
+    same-restoration =
+        rw (← same-length es es′ (a .erasures))
+        (ap found (keep-cong _ _ (λ c. ap (λ (n : ℕ). leb n (radius m (length es))) (same-changes c)) (codewords m)))
+
+    same-decided : (r : Restoration) → decided m w es r ≡ decided m w′ es′ r
+    same-decided none = refl
+    same-decided (one c) = ap accepted (same-changes c)
+    same-decided several = refl
+
+same-asked : {w w′ es es′ : List ℕ} → Alike w w′ es es′ → (m : ℕ) → restoreAsked m w es ≡ restoreAsked m w′ es′
+unfolding restoreAsked
+same-asked {w} {w′} {es} {es′} a m =
+    simp (
+      a .size,
+      same-length es es′ (a .erasures),
+      bool-eq _ _ (below-too a (places m)) (below-too (flipped a) (places m)),
+      bool-eq _ _ (distinct-too a) (distinct-too (flipped a)),
+      bool-eq _ _ (symbols-too a (order m)) (symbols-too (flipped a) (order m)),
+    )
+
+-- words that agree outside the same erasures get the same answers and, if accepted, end equal
+pub same-restored : SameRestored
+same-restored m w w′ es es′ l same agree = (
+  ap₂ after asked (ap (decided m w es) found′ ∙ same-decided a m (restoration m es′ w′)),
+  λ k e.
+      let r = accepted-means m w es (restoreAsked m w es) (restoration m es w) k e in
+      written-one m w es (r .1) (r .0) (r .2) ∙ sym (written-one m w′ es′ (r .1) (sym asked ∙ r .0) (sym found′ ∙ r .2)),
+)
+  where
+    a : Alike w w′ es es′
+    a = record { size = l; erasures = same; outside = agree }
+
+    asked : restoreAsked m w es ≡ restoreAsked m w′ es′
+    asked = same-asked a m
+
+    found′ : restoration m es w ≡ restoration m es′ w′
+    found′ = same-restoration a m

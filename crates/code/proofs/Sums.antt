@@ -1,0 +1,119 @@
+-- Totals and field sums of a function's first values, and the syndromes, which are linear. Assumes nothing.
+use mathlib.Core.Path.{_≡_, refl, sym, ap, ap₂, _∙_, subst}
+use mathlib.Core.Logic.{_≢_}
+use Prim.Native.Nat.{ℕ, zero, suc, _+_, _≤_, _<_, zero-le}
+use native.Mathlib.Nat.{add-zero, add-suc, add-assoc, not-suc-le-zero, le-refl}
+use native.Mathlib.Decide.{ℕ-discrete}
+use native.Mathlib.Omega.{arith}
+use Rattle.field.specs.Polynomial.{add}
+use Rattle.field.specs.Field.{order, product}
+use Rattle.field.proofs.Laws.{IsField}
+use Rattle.code.specs.Word.{checks, places, sum, parity, syndrome}
+use Rattle.code.specs.Erasure.{total}
+use Rattle.code.proofs.Algebra.{add-cancel}
+
+-- ---- totals
+
+module _ (f g : ℕ → ℕ) where
+  pub total-le : (n : ℕ) → ((i : ℕ) → i < n → f i ≤ g i) → total n f ≤ total n g
+  unfolding total
+  total-le zero h = zero-le
+  total-le (suc n) h = omega (arith, total-le n (λ i l. h i (omega arith)), h n (le-refl (suc n)))
+
+  pub total-add : (n : ℕ) → total n (λ i. f i + g i) ≡ total n f + total n g
+  unfolding total
+  total-add zero = refl
+  total-add (suc n) = omega (arith, total-add n)
+
+  pub total-cong : (n : ℕ) → ((i : ℕ) → i < n → f i ≡ g i) → total n f ≡ total n g
+  unfolding total
+  total-cong zero h = refl
+  total-cong (suc n) h = omega (arith, total-cong n (λ i l. h i (omega arith)), h n (le-refl (suc n)))
+
+pub total-zero : (n : ℕ) → total n (λ i. 0) ≡ 0
+unfolding total
+total-zero zero = refl
+total-zero (suc n) = omega (arith, total-zero n)
+
+pub total-split : (a b : ℕ) (f : ℕ → ℕ) → total (a + b) f ≡ total a f + total b (λ i. f (a + i))
+unfolding total
+total-split a zero f = ap (λ (n : ℕ). total n f) (add-zero a) ∙ sym (add-zero (total a f))
+total-split a (suc b) f =
+    ap (λ (n : ℕ). total n f) (add-suc a b) ∙ ap (λ (n : ℕ). n + f (a + b)) (total-split a b f) ∙ add-assoc (total a f) _ (f (a + b))
+
+-- each part is at most the total
+pub part-le : (n : ℕ) (f : ℕ → ℕ) (i : ℕ) → i < n → f i ≤ total n f
+unfolding total
+part-le zero f i h = absurd (not-suc-le-zero h)
+part-le (suc n) f i h = go (ℕ-discrete i n) (λ l. part-le n f i l)
+  where
+    go : Dec (i ≡ n) → (i < n → f i ≤ total n f) → f i ≤ total n f + f n
+    go (yes e) ih = subst (λ (j : ℕ). f j ≤ total n f + f n) (sym e) (omega arith)
+    go (no d) ih = omega (arith, ih (omega arith))
+
+-- ---- field sums
+
+pub sum-cong : (n : ℕ) (f g : ℕ → ℕ) → ((i : ℕ) → i < n → f i ≡ g i) → sum n f ≡ sum n g
+unfolding sum
+sum-cong zero f g h = refl
+sum-cong (suc n) f g h = ap₂ add (sum-cong n f g (λ i l. h i (omega arith))) (h n (le-refl (suc n)))
+
+module _ {m : ℕ} (F : IsField m) where
+  pub sum-add : (n : ℕ) (f g : ℕ → ℕ) → sum n (λ i. add (f i) (g i)) ≡ add (sum n f) (sum n g)
+  unfolding sum
+  sum-add zero f g = sym (F .add-zero 0)
+  sum-add (suc n) f g =
+      ap (λ (x : ℕ). add x (add (f n) (g n))) (sum-add n f g) ∙ simp (F .add-assoc, F .add-left-comm, F .add-comm)
+
+  pub sum-zero : (n : ℕ) → sum n (λ i. 0) ≡ 0
+  unfolding sum
+  sum-zero zero = refl
+  sum-zero (suc n) = F .add-zero _ ∙ sum-zero n
+
+  pub sum-lt : (n : ℕ) (f : ℕ → ℕ) → ((i : ℕ) → i < n → f i < order m) → sum n f < order m
+  unfolding sum
+  sum-lt zero f h = omega arith
+  sum-lt (suc n) f h = F .add-lt _ _ (sum-lt n f (λ i l. h i (omega arith))) (h n (le-refl (suc n)))
+
+  pub sum-split : (a b : ℕ) (f : ℕ → ℕ) → sum (a + b) f ≡ add (sum a f) (sum b (λ i. f (a + i)))
+  unfolding sum
+  sum-split a zero f = ap (λ (n : ℕ). sum n f) (add-zero a) ∙ sym (F .add-zero (sum a f))
+  sum-split a (suc b) f =
+      ap (λ (n : ℕ). sum n f) (add-suc a b) ∙ ap (λ (n : ℕ). add n (f (a + b))) (sum-split a b f) ∙ F .add-assoc (sum a f) _ (f (a + b))
+
+  change : (s a b : ℕ) → add s a ≡ add (add s b) (add a b)
+  change s a b = ap (add s) (sym (add-cancel F b a)) ∙ simp (F .add-assoc, F .add-comm b a)
+
+  -- two sums that differ at the place p only
+  pub sum-change : (n : ℕ) (f g : ℕ → ℕ) (p : ℕ) → p < n → ((i : ℕ) → i < n → i ≢ p → f i ≡ g i) → sum n f ≡ add (sum n g) (add (f p) (g p))
+  unfolding sum
+  sum-change zero f g p h same = absurd (not-suc-le-zero h)
+  sum-change (suc n) f g p h same = go (ℕ-discrete p n) (λ l. sum-change n f g p l (λ i j d. same i (omega arith) d))
+    where
+      go : Dec (p ≡ n) → (p < n → sum n f ≡ add (sum n g) (add (f p) (g p))) → add (sum n f) (f n) ≡ add (add (sum n g) (g n)) (add (f p) (g p))
+      go (yes e) ih =
+          ap (λ (s : ℕ). add s (f n)) (sum-cong n f g (λ i l. same i (omega arith) (λ j. omega arith)))
+          ∙ change (sum n g) (f n) (g n)
+          ∙ ap (λ (j : ℕ). add (add (sum n g) (g n)) (add (f j) (g j))) (sym e)
+      go (no d) ih = ap₂ add (ih (omega arith)) (same n (le-refl (suc n)) (λ e. d (sym e))) ∙ simp (F .add-assoc, F .add-left-comm, F .add-comm)
+
+  -- ---- syndromes
+
+  pub parity-lt : (c : ℕ → ℕ) (k : ℕ) → parity m c k < order m
+  parity-lt c k = sum-lt _ _ (λ i h. F .product-lt _ _)
+
+  parity-add : (u v : ℕ → ℕ) (k : ℕ) → parity m (λ i. add (u i) (v i)) k ≡ add (parity m u k) (parity m v k)
+  parity-add u v k = sum-cong _ _ _ (λ i h. F .product-add _ _ _) ∙ sum-add _ _ _
+
+  -- the syndromes of the placewise sum of two words
+  pub syndrome-add : (u v : ℕ → ℕ) (k : ℕ) → syndrome m (λ p. add (u p) (v p)) k ≡ add (syndrome m u k) (syndrome m v k)
+  syndrome-add u v k =
+      ap (add (add (u k) (v k))) (parity-add (λ i. u (checks + i)) (λ i. v (checks + i)) k) ∙ simp (F .add-assoc, F .add-left-comm)
+
+  pub syndrome-cong : (u v : ℕ → ℕ) → ((p : ℕ) → p < places m → u p ≡ v p) → (k : ℕ) → k < checks → syndrome m u k ≡ syndrome m v k
+  syndrome-cong u v same k h =
+      ap₂ add (same k (omega arith)) (sum-cong _ _ _ (λ i l. ap (product m _) (same (checks + i) (omega arith))))
+
+  pub syndrome-zero : (u : ℕ → ℕ) → ((p : ℕ) → p < places m → u p ≡ 0) → (k : ℕ) → k < checks → syndrome m u k ≡ 0
+  syndrome-zero u z k h =
+      syndrome-cong u (λ p. 0) z k h ∙ F .zero-add _ ∙ sum-cong _ _ (λ i. 0) (λ i l. F .product-zero _) ∙ sum-zero _

@@ -1,0 +1,73 @@
+-- `code::read` meets its contract. Assumes nothing.
+use borrow.Author.Needs.{needs}
+use mathlib.Core.Path.{refl, ap, _∙_}
+use native.Mathlib.Omega.{arith}
+use lib.ListN.{length, length-drop}
+use Rattle.code.proofs.Asking.{reads, reads-lengths}
+use Rattle.code.proofs.Copying.{part-drop}
+use Rattle.code.proofs.read.Statement.{statement}
+use Rattle.code.proofs.read.Tie as tie
+
+ask-read-requires : tie.Need-ask-read-requires
+ask-read-requires c κs = search needs
+
+enum-told : tie.Need-enum-told
+enum-told c = search needs
+
+sub-copy : tie.Need-sub-copy
+sub-copy c =
+    let v = c .before .before .before .ask-read in
+    let a = c .before .before .before .before .before .before .args in
+    let l = reads-lengths (a .width) (a .word .now) (a .message .now) (v .result) (v .ensures (a .message .now) refl) (search needs) in
+    omega (arith, l)
+
+part-copy-start : tie.Need-part-copy-start
+part-copy-start c =
+    let v = c .before .before .before .ask-read in
+    let a = c .before .before .before .before .before .before .args in
+    let l = reads-lengths (a .width) (a .word .now) (a .message .now) (v .result) (v .ensures (a .message .now) refl) (search needs) in
+    omega (arith, l)
+
+part-copy-end : tie.Need-part-copy-end
+part-copy-end c = search needs
+
+copy-requires : tie.Need-copy-requires
+copy-requires c κs =
+    let v = c .before .before .before .before .ask-read in
+    let a = c .before .before .before .before .before .before .before .args in
+    let l = reads-lengths (a .width) (a .word .now) (a .message .now) (v .result) (v .ensures (a .message .now) refl) (search needs) in
+    omega (arith, l, length-drop 5 (a .word .now), ap length (part-drop 5 (a .word .now)))
+
+enum-known-q : tie.Need-enum-known-q
+enum-known-q c = search needs
+
+same-length : tie.Need-same-length
+same-length c = search needs
+
+returns : tie.Need-returns
+returns c =
+    let v = c .before .before .before .before .before .before .before .ask-read in
+    let a = c .before .before .before .before .before .before .before .before .before .before .args in
+    reads (a .width) (a .word .now) (a .message .now) (v .result) (v .ensures (a .message .now) refl) _ _ (search needs)
+    (c .before .before .copy .ensures ∙ part-drop 5 (a .word .now))
+
+returns-2 : tie.Need-returns-2
+returns-2 c =
+    let v = c .before .before .before .ask-read in
+    let a = c .before .before .before .before .before .before .args in
+    reads (a .width) (a .word .now) (a .message .now) (v .result) (v .ensures (a .message .now) refl) _ _ (search needs) refl
+
+pub read-spec : {M : Type 1} → statement M
+read-spec =
+    tie.close
+    (tie.spec
+    ask-read-requires
+    enum-told
+    sub-copy
+    part-copy-start
+    part-copy-end
+    copy-requires
+    enum-known-q
+    same-length
+    returns
+    returns-2)

@@ -1,0 +1,119 @@
+-- What the calls of this crate answer, and what the lent memory holds afterwards, on every input. Assumes nothing.
+use mathlib.Core.Path.{_≡_}
+use mathlib.Core.Bool.{Bool, true, cond, _&&_}
+use mathlib.Core.List.{List, [], _∷_}
+use Prim.Native.Nat.{ℕ, _-_}
+use lib.Dec.{eqb, leb}
+use lib.ListN.{length}
+use Rattle.field.specs.Field.{order}
+use Rattle.field.specs.Question.{Outcome, accepted, refused, refusal, ask, after, isWidth, allBelow}
+use Rattle.field.specs.declared.Question.the-variants.{Width, Length, ErasureCount, ErasurePlace, ErasureDistinct, Symbol, Correctable, Syndrome}
+use Rattle.field.specs.declared.Verdict.{Verdict}
+use Rattle.field.specs.declared.Verdict.the-variants.{Passed, Refused as RefusedBy}
+use Rattle.code.specs.declared.Membership.{Membership}
+use Rattle.code.specs.declared.Membership.the-variants.{Codeword, Other, Refused}
+use Rattle.code.specs.Word.{five, places, items, at, syndrome, encode, dataOf}
+use Rattle.code.specs.Erasure.{distinct, symbolsFrom, changes}
+use Rattle.code.specs.Near.{distance, Restoration, none, one, several, restoration}
+
+-- a lent slice after the call: written where all questions passed, else as it was
+abbrev pub written : Verdict → List ℕ → List ℕ → List ℕ
+written Passed old new = new
+written (RefusedBy q) old new = old
+
+-- the list holds zeros alone
+abbrev pub allZero : List ℕ → Bool
+allZero [] = true
+allZero (x ∷ xs) = eqb x 0 && allZero xs
+
+-- question 9: are the five syndromes zero?
+unfoldable pub zeroSyndromes : ℕ → List ℕ → Bool
+zeroSyndromes m w = allZero (five (syndrome m (at w)))
+
+-- the number and the value of a verdict, of a call that has no value of its own
+abbrev pub done : Verdict → Outcome
+done v = after v (accepted 0)
+
+-- questions 1 and 2, put to a width and a word of n bytes, then the next
+abbrev pub wordAsked : ℕ → ℕ → Verdict → Verdict
+wordAsked m n next = ask (isWidth m) Width (ask (eqb n (places m)) Length next)
+
+-- question 2, put to data of n bytes, then question 7, put to the symbols, then the next
+abbrev pub dataAsked : ℕ → ℕ → List ℕ → Verdict → Verdict
+dataAsked m n symbols next = ask (eqb n (items m)) Length (ask (allBelow (order m) symbols) Symbol next)
+
+-- ---- encode: questions 1, 2 and 7, the last put to the data
+
+unfoldable pub encodeAsked : ℕ → List ℕ → List ℕ → Verdict
+encodeAsked m ds word = wordAsked m (length word) (dataAsked m (length ds) ds Passed)
+
+abbrev pub encodeOf : ℕ → List ℕ → List ℕ → Outcome
+encodeOf m ds word = done (encodeAsked m ds word)
+
+abbrev pub encodeWritten : ℕ → List ℕ → List ℕ → List ℕ
+encodeWritten m ds word = written (encodeAsked m ds word) word (encode m ds)
+
+-- what encode answers and leaves in the word
+pub record Encodes (m : ℕ) (ds old : List ℕ) (v : Verdict) (new : List ℕ) : Type 0 where
+  pub answer : done v ≡ encodeOf m ds old
+  pub word : new ≡ encodeWritten m ds old
+
+-- ---- the codeword test: questions 1, 2 and 7, then 1 for yes and 0 for no
+
+unfoldable pub testAsked : ℕ → List ℕ → Verdict
+testAsked m word = wordAsked m (length word) (ask (allBelow (order m) word) Symbol Passed)
+
+abbrev pub testOf : ℕ → List ℕ → Outcome
+testOf m word = after (testAsked m word) (accepted (cond (zeroSyndromes m word) 1 0))
+
+abbrev pub membership : Membership → Outcome
+membership Codeword = accepted 1
+membership Other = accepted 0
+membership (Refused q) = refused (refusal q)
+
+-- ---- the reader of data: questions 1, 2, 7 and 9
+
+unfoldable pub readAsked : ℕ → List ℕ → List ℕ → Verdict
+readAsked m word ds = wordAsked m (length word) (dataAsked m (length ds) word (ask (zeroSyndromes m word) Syndrome Passed))
+
+abbrev pub readOf : ℕ → List ℕ → List ℕ → Outcome
+readOf m word ds = done (readAsked m word ds)
+
+abbrev pub readWritten : ℕ → List ℕ → List ℕ → List ℕ
+readWritten m word ds = written (readAsked m word ds) ds (dataOf word)
+
+-- what the reader answers and leaves in the data
+pub record Reads (m : ℕ) (word old : List ℕ) (v : Verdict) (new : List ℕ) : Type 0 where
+  pub answer : done v ≡ readOf m word old
+  pub symbols : new ≡ readWritten m word old
+
+-- ---- the restorer: questions 1, 2, 3, 5, 6 and 7, then 8
+
+-- as many erasures as are always restored
+abbrev pub maxErasures : ℕ → ℕ
+maxErasures m = distance m - 1
+
+unfoldable pub restoreAsked : ℕ → List ℕ → List ℕ → Verdict
+restoreAsked m word es =
+    wordAsked m (length word)
+    (ask (leb (length es) (maxErasures m)) ErasureCount
+    (ask (allBelow (places m) es) ErasurePlace
+    (ask (distinct es) ErasureDistinct
+    (ask (symbolsFrom (order m) es 0 word) Symbol Passed))))
+
+-- question 8, and the number of changed places. That there are never several near codewords is proved: `NeverTwo` of Demands.antt
+abbrev pub decided : ℕ → List ℕ → List ℕ → Restoration → Outcome
+decided m word es none = refused (refusal Correctable)
+decided m word es (one c) = accepted (changes m es word c)
+decided m word es several = refused (refusal Correctable)
+
+abbrev pub restored : List ℕ → Restoration → List ℕ
+restored word none = word
+restored word (one c) = c
+restored word several = word
+
+abbrev pub restoreOf : ℕ → List ℕ → List ℕ → Outcome
+restoreOf m word es = after (restoreAsked m word es) (decided m word es (restoration m es word))
+
+abbrev pub restoreWritten : ℕ → List ℕ → List ℕ → List ℕ
+restoreWritten m word es = written (restoreAsked m word es) word (restored word (restoration m es word))

@@ -1,0 +1,71 @@
+-- The starred cases of document 01, all at width 3: the table `cases` and what it says. proofs/Cases.antt proves it, in one theorem
+-- `cases-hold : Table cases`. Assumes nothing.
+use mathlib.Core.Path.{_≡_}
+use mathlib.Core.List.{List, [], _∷_}
+use Prim.Native.Nat.{ℕ}
+use lib.ListN.{length, set}
+use Rattle.field.specs.Question.{Outcome, accepted, refused}
+use Rattle.code.specs.Word.{places, encode}
+use Rattle.code.specs.Call.{encodeOf, encodeWritten, restoreOf, restoreWritten}
+
+pub data Case : Type 0 where
+  -- data, and the encoder's word
+  encoding : List ℕ → List ℕ → Case
+  -- a word and its erasures; the restorer's answer, and the word afterwards
+  restoring : List ℕ → List ℕ → Outcome → List ℕ → Case
+
+-- a word that is refused, with the number, stays as it was
+abbrev pub refusing : List ℕ → List ℕ → ℕ → Case
+refusing w es n = restoring w es (refused n) w
+
+-- seven data symbols
+abbrev pub symbols : ℕ → ℕ → ℕ → ℕ → ℕ → ℕ → ℕ → List ℕ
+symbols a b c d e f g = a ∷ b ∷ c ∷ d ∷ e ∷ f ∷ g ∷ []
+
+-- five check symbols, document 01's bar, and the data
+abbrev pub word : ℕ → ℕ → ℕ → ℕ → ℕ → List ℕ → List ℕ
+word a b c d e ds = a ∷ b ∷ c ∷ d ∷ e ∷ ds
+
+-- the word w with the symbol x at place p
+infixl 10 _but_is_
+abbrev pub _but_is_ : List ℕ → ℕ → ℕ → List ℕ
+w but p is x = set w p x
+
+abbrev pub zeros : List ℕ
+zeros = word 0 0 0 0 0 (symbols 0 0 0 0 0 0 0)
+
+abbrev pub wordC : List ℕ
+wordC = word 1 2 4 3 6 (symbols 0 1 0 0 0 0 0)
+
+abbrev pub wordD : List ℕ
+wordD = word 1 0 0 0 0 (symbols 1 1 1 1 1 1 1)
+
+-- the rows A to N
+abbrev pub cases : List Case
+cases =
+    encoding (symbols 0 0 0 0 0 0 0) zeros  -- A
+    ∷ encoding (symbols 1 0 0 0 0 0 0) (word 1 1 1 1 1 (symbols 1 0 0 0 0 0 0))  -- B
+    ∷ encoding (symbols 0 1 0 0 0 0 0) wordC  -- C
+    ∷ encoding (symbols 1 1 1 1 1 1 1) wordD  -- D
+    ∷ encoding (symbols 3 0 1 0 0 0 0) (word 2 7 5 6 1 (symbols 3 0 1 0 0 0 0))  -- E
+    ∷ restoring (zeros but 5 is 1) [] (accepted 1) zeros  -- F
+    ∷ restoring (zeros but 0 is 7 but 5 is 7) [] (accepted 2) zeros  -- G
+    ∷ refusing (zeros but 0 is 1 but 1 is 1 but 2 is 1) [] 7  -- H
+    ∷ refusing (zeros but 1 is 1 but 2 is 1) (0 ∷ []) 7  -- I
+    ∷ restoring (zeros but 7 is 5) (0 ∷ 1 ∷ []) (accepted 1) zeros  -- J
+    ∷ refusing (zeros but 7 is 5) (0 ∷ 1 ∷ 2 ∷ []) 7  -- K
+    ∷ restoring wordD (5 ∷ []) (accepted 0) wordD  -- L
+    ∷ restoring (word 1 2 0 3 6 (symbols 0 0 0 0 0 0 0)) (2 ∷ 5 ∷ 6 ∷ 8 ∷ []) (accepted 0) wordC  -- M
+    ∷ refusing (zeros but 4 is 1) (0 ∷ 1 ∷ 2 ∷ 3 ∷ []) 7  -- N
+    ∷ []
+
+-- what a row says: the encoder accepts the data, whatever the output held before, and writes the word; the restorer answers the outcome
+-- and leaves the word
+abbrev pub Holds : Case → Type 0
+Holds (encoding ds w) =
+    (encode 3 ds ≡ w) × ((out : List ℕ) → length out ≡ places 3 → (encodeOf 3 ds out ≡ accepted 0) × (encodeWritten 3 ds out ≡ w))
+Holds (restoring w es o c) = (restoreOf 3 w es ≡ o) × (restoreWritten 3 w es ≡ c)
+
+abbrev pub Table : List Case → Type 0
+Table [] = Unit {0}
+Table (x ∷ xs) = Holds x × Table xs

@@ -1,0 +1,93 @@
+-- The demands on encoder, reader and restorer, as statements about the definitions. The calls' contracts say that they answer by these
+-- definitions; proofs/Demands.antt proves each statement under the same name in small letters. Assumes nothing.
+use mathlib.Core.Path.{_≡_}
+use mathlib.Core.Logic.{_↔_}
+use mathlib.Core.Bool.{true, false, cond}
+use mathlib.Core.List.{List, [], _∷_}
+use Prim.Native.Nat.{ℕ, _+_, _≤_, _<_}
+use lib.Dec.{eqb}
+use lib.ListN.{length}
+use Rattle.field.specs.Field.{order}
+use Rattle.field.specs.Question.{accepted, refused, isWidth}
+use Rattle.field.specs.declared.Verdict.the-variants.{Passed}
+use Rattle.code.specs.Word.{items, at, Codeword, encode, dataOf}
+use Rattle.code.specs.Erasure.{member, changes}
+use Rattle.code.specs.Near.{radius}
+use Rattle.code.specs.Call.{readOf, readWritten, restoreAsked, restoreOf, restoreWritten}
+
+-- ---- demand 2
+
+-- data of the width: q-1 symbols, each below q
+pub record Data (m : ℕ) (ds : List ℕ) : Type 0 where
+  pub size : length ds ≡ items m
+  pub symbols : (i : ℕ) → i < items m → at ds i < order m
+
+-- the encoder makes, from any data symbols, the word that holds them and has all five syndromes zero
+abbrev pub EncoderMakes : Type 0
+EncoderMakes = (m : ℕ) → isWidth m ≡ true → (ds : List ℕ) → Data m ds → Codeword m (encode m ds) × (dataOf (encode m ds) ≡ ds)
+
+-- every word with five zero syndromes is the one that the encoder makes from its own data symbols
+abbrev pub EncoderMade : Type 0
+EncoderMade = (m : ℕ) → isWidth m ≡ true → (w : List ℕ) → Codeword m w → Data m (dataOf w) × (encode m (dataOf w) ≡ w)
+
+-- and that data is read back from it
+abbrev pub ReadBack : Type 0
+ReadBack =
+    (m : ℕ) → isWidth m ≡ true → (w out : List ℕ) → Codeword m w → length out ≡ items m
+    → (readOf m w out ≡ accepted 0) × (readWritten m w out ≡ dataOf w)
+
+-- ---- demand 3
+
+-- the input passes the questions before question 8
+abbrev pub Passes : ℕ → List ℕ → List ℕ → Type 0
+Passes m w es = restoreAsked m w es ≡ Passed
+
+-- c is a near codeword: it differs from w, outside the erasures, at no more than r places
+pub record Near (m : ℕ) (es w c : List ℕ) : Type 0 where
+  pub codeword : Codeword m c
+  pub few : changes m es w c ≤ radius m (length es)
+
+-- there is never more than one near codeword
+abbrev pub NeverTwo : Type 0
+NeverTwo = (m : ℕ) (w es : List ℕ) → Passes m w es → (c d : List ℕ) → Near m es w c → Near m es w d → c ≡ d
+
+-- c is near, and the answer k is the number of places, outside the erasures, where c differs from w
+pub record Nearest (m : ℕ) (w es c : List ℕ) (k : ℕ) : Type 0 where
+  pub near : Near m es w c
+  pub count : k ≡ changes m es w c
+
+-- the restorer accepts exactly when the input passes and a codeword is near (just one, by NeverTwo); the word then ends equal to it, and
+-- the answer counts the changed places
+abbrev pub Accepts : Type 0
+Accepts =
+    (m : ℕ) (w es : List ℕ) (k : ℕ) (c : List ℕ)
+    → ((restoreOf m w es ≡ accepted k) × (restoreWritten m w es ≡ c)) ↔ (Passes m w es × Nearest m w es c k)
+
+-- it refuses with 7 exactly when the input passes and no codeword is near
+abbrev pub RefusesSeven : Type 0
+RefusesSeven =
+    (m : ℕ) (w es : List ℕ) → (restoreOf m w es ≡ refused 7) ↔ (Passes m w es × ((c : List ℕ) → Near m es w c → ⊥))
+
+-- what is refused stays as it was
+abbrev pub RefusedUnchanged : Type 0
+RefusedUnchanged = (m : ℕ) (w es : List ℕ) (n : ℕ) → restoreOf m w es ≡ refused n → restoreWritten m w es ≡ w
+
+-- how often the number stands in the list
+unfoldable pub occurs : ℕ → List ℕ → ℕ
+occurs p [] = 0
+occurs p (x ∷ xs) = cond (eqb p x) 1 0 + occurs p xs
+
+-- erasures are the same when both lists hold the same entries, each equally often, in any order
+abbrev pub SameErasures : List ℕ → List ℕ → Type 0
+SameErasures es es′ = (p : ℕ) → occurs p es ≡ occurs p es′
+
+-- the words agree outside the erasures
+abbrev pub AgreeOutside : List ℕ → List ℕ → List ℕ → Type 0
+AgreeOutside es w w′ = (p : ℕ) → p < length w → member p es ≡ false → at w p ≡ at w′ p
+
+-- words of one width and length that agree outside the same erasures get the same answers and, if accepted, end equal
+abbrev pub SameRestored : Type 0
+SameRestored =
+    (m : ℕ) (w w′ es es′ : List ℕ) → length w ≡ length w′ → SameErasures es es′ → AgreeOutside es w w′
+    → (restoreOf m w es ≡ restoreOf m w′ es′)
+    × ((k : ℕ) → restoreOf m w es ≡ accepted k → restoreWritten m w es ≡ restoreWritten m w′ es′)

@@ -1,0 +1,55 @@
+-- The codewords near a word, and its restoration. The lists here are far too long to be computed; they say what is meant, and the proofs
+-- reason about them. Assumes nothing.
+use mathlib.Core.Bool.{Bool, cond}
+use mathlib.Core.List.{List, [], _∷_, _++_, map}
+use Prim.Native.Nat.{ℕ, zero, suc, _-_, _/_}
+use lib.Dec.{leb}
+use lib.ListN.{length}
+use Rattle.field.specs.Field.{order}
+use Rattle.code.specs.Word.{items, encode}
+use Rattle.code.specs.Erasure.{changes}
+
+-- the code's distance: any two codewords differ at five places or more
+abbrev pub distance : ℕ → ℕ
+distance m = 5
+
+-- r, the number of silent wrong symbols that are restored beside s erasures: 2, 1, 1, 0, 0
+abbrev pub radius : ℕ → ℕ → ℕ
+radius m s = (distance m - 1 - s) / 2
+
+-- each list of xss, with each number below q in front
+unfoldable pub prefixed : ℕ → List (List ℕ) → List (List ℕ)
+prefixed zero xss = []
+prefixed (suc q) xss = map (λ xs. q ∷ xs) xss ++ prefixed q xss
+
+-- every list of n numbers below q, each once
+unfoldable pub tuples : ℕ → ℕ → List (List ℕ)
+tuples q zero = [] ∷ []
+tuples q (suc n) = prefixed q (tuples q n)
+
+-- every codeword of the width, each once: the encoder's words for all data
+unfoldable pub codewords : ℕ → List (List ℕ)
+codewords m = map (encode m) (tuples (order m) (items m))
+
+-- the lists that pass the test, in their order
+unfoldable pub keep : (List ℕ → Bool) → List (List ℕ) → List (List ℕ)
+keep f [] = []
+keep f (x ∷ xs) = cond (f x) (x ∷ keep f xs) (keep f xs)
+
+-- the near codewords: those that differ from w, outside the erasures, at no more than r places
+unfoldable pub near : ℕ → List ℕ → List ℕ → ℕ → List (List ℕ)
+near m es w r = keep (λ c. leb (changes m es w c) r) (codewords m)
+
+-- what restoring finds: no near codeword, just one, or more
+pub data Restoration : Type 0 where
+  none : Restoration
+  one : List ℕ → Restoration
+  several : Restoration
+
+abbrev pub found : List (List ℕ) → Restoration
+found [] = none
+found (c ∷ []) = one c
+found (c ∷ d ∷ cs) = several
+
+unfoldable pub restoration : ℕ → List ℕ → List ℕ → Restoration
+restoration m es w = found (near m es w (radius m (length es)))

@@ -1,0 +1,16 @@
+-- Places and exponents, and the columns of the code's matrix. Assumes nothing.
+use mathlib.Core.Bool.{cond}
+use Prim.Native.Nat.{ℕ, _-_, _*_}
+use lib.Dec.{eqb, ltb}
+use Rattle.field.specs.Field.{power, α}
+use Rattle.field.specs.declared.Exponent.{Exponent}
+use Rattle.code.specs.declared.place.Place.{Place}
+use Rattle.code.specs.Word.{checks}
+
+-- the exponent i of place 5 + i: the one conversion between the two
+abbrev pub exponentOf : Place → Exponent
+exponentOf p = record { 0 = p .0 - checks }
+
+-- row k of the column at place p: a unit column at a check place, α^(k·i) at the place 5 + i
+unfoldable pub column : ℕ → ℕ → ℕ → ℕ
+column m p k = cond (ltb p checks) (cond (eqb p k) 1 0) (power m α (k * (p - checks)))

@@ -1,0 +1,175 @@
+// The five times extended Reed-Solomon code of document 003: encoder, codeword test and reader of data. A message is the data of a word.
+ghost use mathlib.Core.Path.{_≡_};
+ghost use mathlib.Core.Bool.{true};
+ghost use mathlib.Core.List.{List};
+ghost use Prim.Native.Nat.{ℕ, _+_, _≤_};
+ghost use lib.ListN.{length};
+ghost use Rattle.field.specs.Field.{order};
+ghost use Rattle.field.specs.Question.{ask, isWidth, allBelow};
+ghost use Rattle.field.specs.Answer.{orderOf};
+ghost use Rattle.field.specs.declared.Question.the-variants.{Symbol};
+ghost use Rattle.field.specs.declared.Verdict.the-variants.{Passed};
+ghost use Rattle.code.specs.Word.{checks, places, items, encode as encodeM};
+ghost use Rattle.code.specs.Call.{wordAsked, dataAsked, zeroSyndromes, Encodes, testAsked, testOf, membership, readAsked, Reads};
+
+pub mod place;
+pub mod question;
+pub mod slice;
+pub mod syndrome;
+
+use field::Question;
+use field::Verdict;
+use field::arithmetic::order_of;
+use question::all_zero;
+use question::below;
+use slice::copy;
+use syndrome::parities;
+use syndrome::syndromes;
+
+// What the codeword test answers.
+pub enum Membership {
+    Codeword,
+    Other,
+    Refused(Question),
+}
+
+// Questions 1 and 2, put to a word of n bytes.
+fn ask_word(width: u8, n: usize) -> Verdict
+    ensures { λ r. ⌜ r ≡ wordAsked width n Passed ⌝ }
+{
+    let q = order_of(width);
+    if q == 0 {
+        return Verdict::Refused(Question::Width);
+    }
+    if n == q as usize + 4 {
+        Verdict::Passed
+    } else {
+        Verdict::Refused(Question::Length)
+    }
+}
+
+// Question 7, put to a list of symbols.
+fn ask_symbols(width: u8, symbols: &[u8]) -> Verdict
+    ensures { λ r. ⌜ r ≡ ask (allBelow (orderOf width) (now (symbols .entry))) Symbol Passed ⌝ }
+{
+    if below(symbols, order_of(width)) {
+        Verdict::Passed
+    } else {
+        Verdict::Refused(Question::Symbol)
+    }
+}
+
+// Questions 1, 2 and 7: a word and data of these lengths, and symbols of the word or the data.
+fn ask_slices(width: u8, word: usize, message: usize, symbols: &[u8]) -> Verdict
+    ensures { λ r. ⌜ r ≡ wordAsked width word (dataAsked width message (now (symbols .entry)) Passed) ⌝ }
+{
+    match ask_word(width, word) {
+        Verdict::Passed => {
+            if message == word - 5 {
+                ask_symbols(width, symbols)
+            } else {
+                Verdict::Refused(Question::Length)
+            }
+        }
+        Verdict::Refused(q) => Verdict::Refused(q),
+    }
+}
+
+// Writes the codeword of the data: the check symbols, then the data.
+fn write_codeword(width: u8, message: &[u8], word: &mut [u8])
+    requires { ⌜ length (now word) ≡ checks + length (now message) ⌝ }
+    ensures { λ r.
+        ⌜
+        (
+        isWidth width ≡ true → length (now (message .entry)) ≡ items width → allBelow (order width) (now (message .entry)) ≡ true
+        → now (word .exit) ≡ encodeM width (now (message .entry))
+        )
+        ⌝ }
+{
+    let c = parities(width, message);
+    copy(&mut word[..5], &c);
+    copy(&mut word[5..], message);
+}
+
+// The word that holds the data and has five zero syndromes.
+pub fn encode(width: u8, message: &[u8], word: &mut [u8]) -> Verdict
+    ensures { λ r. ⌜ Encodes width (now (message .entry)) (now (word .entry)) r (now (word .exit)) ⌝ }
+{
+    match ask_slices(width, word.len(), message.len(), message) {
+        Verdict::Passed => {
+            write_codeword(width, message, word);
+            Verdict::Passed
+        }
+        Verdict::Refused(q) => Verdict::Refused(q),
+    }
+}
+
+// Questions 1, 2 and 7, put to a word.
+fn ask_test(width: u8, word: &[u8]) -> Verdict
+    ensures { λ r. ⌜ r ≡ testAsked width (now (word .entry)) ⌝ }
+{
+    match ask_word(width, word.len()) {
+        Verdict::Passed => ask_symbols(width, word),
+        Verdict::Refused(q) => Verdict::Refused(q),
+    }
+}
+
+// Are the five syndromes of a word zero? No entry point: it is right for symbols of a width of the field.
+pub fn zero_syndromes(width: u8, word: &[u8]) -> bool
+    requires { ⌜ checks ≤ length (now word) ⌝ }
+    ensures { λ r.
+        ⌜
+        (
+        isWidth width ≡ true → length (now (word .entry)) ≡ places width → allBelow (order width) (now (word .entry)) ≡ true
+        → r ≡ zeroSyndromes width (now (word .entry))
+        )
+        ⌝ }
+{
+    let s = syndromes(width, word);
+    all_zero(&s)
+}
+
+// Is the word a codeword?
+pub fn test(width: u8, word: &[u8]) -> Membership
+    ensures { λ r. ⌜ membership r ≡ testOf width (now (word .entry)) ⌝ }
+{
+    match ask_test(width, word) {
+        Verdict::Passed => {
+            if zero_syndromes(width, word) {
+                Membership::Codeword
+            } else {
+                Membership::Other
+            }
+        }
+        Verdict::Refused(q) => Membership::Refused(q),
+    }
+}
+
+// Questions 1, 2, 7 and 9.
+fn ask_read(width: u8, word: &[u8], message: usize) -> Verdict
+    ensures { λ r. ⌜ ((ds : List ℕ) → message ≡ length ds → r ≡ readAsked width (now (word .entry)) ds) ⌝ }
+{
+    match ask_slices(width, word.len(), message, word) {
+        Verdict::Passed => {
+            if zero_syndromes(width, word) {
+                Verdict::Passed
+            } else {
+                Verdict::Refused(Question::Syndrome)
+            }
+        }
+        Verdict::Refused(q) => Verdict::Refused(q),
+    }
+}
+
+// Reads the data of a codeword.
+pub fn read(width: u8, word: &[u8], message: &mut [u8]) -> Verdict
+    ensures { λ r. ⌜ Reads width (now (word .entry)) (now (message .entry)) r (now (message .exit)) ⌝ }
+{
+    match ask_read(width, word, message.len()) {
+        Verdict::Passed => {
+            copy(message, &word[5..]);
+            Verdict::Passed
+        }
+        Verdict::Refused(q) => Verdict::Refused(q),
+    }
+}

@@ -1,0 +1,78 @@
+/*
+ * The proved library for the five times extended Reed-Solomon code over 8, 32 or 128 symbols.
+ *
+ * Widths: the width is 3, 5 or 7, and q is 2^width. A symbol is a number below q, one to a byte. A word has n = q + 4 symbols (12, 36 or
+ * 132): five check symbols, then the q - 1 data symbols (7, 31 or 127).
+ *
+ * Answers: every call returns refusal + 256 * value. The refusal is 0 where the call was accepted; otherwise it is that of the first
+ * question answered no, and the value is 0. The questions are put in the order 1, 2, 3, 8, 4, 5, 6, 7, 9, 10 of their refusals, each for
+ * all its items before the next. XRS_REFUSAL and XRS_VALUE take the number apart.
+ *
+ * Memory: a slice is passed as a pointer and its length in bytes. The pointer must not be NULL, also where the length is 0, and must be
+ * valid for that many bytes: to read where it is const, else to read and write. Slices passed to one call must not overlap. Any length and
+ * any content are allowed: a wrong one is refused. A call touches no byte outside its slices, and a refused call changes none inside. What
+ * an output slice holds beforehand does not matter.
+ *
+ * The calls keep no state, so any number of threads may call them at once on memory of their own.
+ *
+ * The archive target/staticlib/libexports.a, made by `rt staticlib exports`, is for x86-64 Linux.
+ */
+#ifndef XRS_H
+#define XRS_H
+
+#include <stddef.h>
+#include <stdint.h>
+
+#ifdef __cplusplus
+extern "C" {
+#endif
+
+/* Why a call was refused. */
+enum xrs_refusal {
+    XRS_ACCEPTED = 0,                 /* it was not */
+    XRS_REFUSED_WIDTH = 1,            /* the width is not 3, 5 or 7 */
+    XRS_REFUSED_LENGTH = 2,           /* a slice has not its exact length */
+    XRS_REFUSED_ERASURE_COUNT = 3,    /* there are more than four erasures */
+    XRS_REFUSED_ERASURE_PLACE = 4,    /* an erasure is no place of the word */
+    XRS_REFUSED_ERASURE_DISTINCT = 5, /* an erasure is given twice */
+    XRS_REFUSED_SYMBOL = 6,           /* a symbol outside the erasures is not below q */
+    XRS_REFUSED_CORRECTABLE = 7,      /* no codeword is near */
+    XRS_REFUSED_PADDING = 8,          /* a record's unused erasure bytes are not 255, or its tail is not 0 */
+    XRS_REFUSED_SYNDROME = 9,         /* a syndrome is not zero */
+    XRS_REFUSED_NONZERO = 10          /* the symbol 0 has no inverse */
+};
+
+/* The two parts of an answer. */
+#define XRS_REFUSAL(answer) ((uint32_t)(answer) % 256u)
+#define XRS_VALUE(answer) ((uint32_t)(answer) / 256u)
+
+/* ---- The field. The value is a symbol. Refused with 1 and 6. */
+
+/* The sum of two symbols. */
+uint32_t xrs_sum(uint8_t width, uint8_t a, uint8_t b);
+
+/* The product of two symbols. */
+uint32_t xrs_product(uint8_t width, uint8_t a, uint8_t b);
+
+/* a to the power e; the power 0 is 1, also of 0. */
+uint32_t xrs_power(uint8_t width, uint8_t a, uint16_t e);
+
+/* The inverse of a; for 0 refused with 10. */
+uint32_t xrs_inverse(uint8_t width, uint8_t a);
+
+/* ---- The code. */
+
+/* Writes the codeword of the data (q - 1 symbols) into the word (n bytes). The value is 0. Refused with 1, 2 and 6. */
+uint32_t xrs_encode(uint8_t width, const uint8_t *data, size_t data_length, uint8_t *word, size_t word_length);
+
+/* Are the five syndromes of the word (n symbols) zero? The value is 1 for yes and 0 for no. Refused with 1, 2 and 6. */
+uint32_t xrs_is_codeword(uint8_t width, const uint8_t *word, size_t word_length);
+
+/* Writes the data of a codeword (n symbols) into data (q - 1 bytes). The value is 0. Refused with 1, 2, 6 and 9. */
+uint32_t xrs_read_data(uint8_t width, const uint8_t *word, size_t word_length, uint8_t *data, size_t data_length);
+
+#ifdef __cplusplus
+}
+#endif
+
+#endif

@@ -1,0 +1,67 @@
+//! What the tests share: slices lent out of larger buffers, and numbers by chance.
+
+use xrs::Refusal;
+
+/// As many bytes stand before and after each lent slice.
+const RIM: usize = 24;
+
+/// Lends copies of the slices, each inside a larger buffer, and hands back what the call answers and what the slices then hold. The rims
+/// must stay as they were, and what they hold must not matter.
+fn lend<T: PartialEq + std::fmt::Debug>(
+    read: &[u8],
+    write: &[u8],
+    call: impl Fn(&[u8], &mut [u8]) -> Result<T, Refusal>,
+) -> (Result<T, Refusal>, Vec<u8>) {
+    let [first, second] = [0x00, 0xA7].map(|rim| {
+        let around = |content: &[u8]| [&[rim; RIM], content, &[rim; RIM]].concat();
+        let (source, mut target) = (around(read), around(write));
+        let middle = RIM..RIM + write.len();
+        let answer = call(&source[RIM..RIM + read.len()], &mut target[middle.clone()]);
+        let content = target[middle].to_vec();
+        assert_eq!(source, around(read), "a slice lent for reading was changed");
+        assert_eq!(target, around(&content), "a byte beside a lent slice was changed");
+        if answer.is_err() {
+            assert_eq!(content, write, "a refused call wrote: {answer:?}");
+        }
+        (answer, content)
+    });
+    assert_eq!(first, second, "bytes beside a lent slice were read");
+    first
+}
+
+/// `xrs::encode` on copies of the slices: its answer, and the word afterwards.
+pub fn encode(width: u8, data: &[u8], word: &[u8]) -> (Result<(), Refusal>, Vec<u8>) {
+    lend(data, word, |data, word| xrs::encode(width, data, word))
+}
+
+/// `xrs::is_codeword` on a copy of the word.
+pub fn is_codeword(width: u8, word: &[u8]) -> Result<bool, Refusal> {
+    lend(word, &[], |word, _| xrs::is_codeword(width, word)).0
+}
+
+/// `xrs::read_data` on copies of the slices: its answer, and the data afterwards.
+pub fn read_data(width: u8, word: &[u8], data: &[u8]) -> (Result<(), Refusal>, Vec<u8>) {
+    lend(word, data, |word, data| xrs::read_data(width, word, data))
+}
+
+/// The generator xorshift64 from a fixed seed, so that each run tries the same.
+pub struct Chance(u64);
+
+impl Chance {
+    pub fn new() -> Chance {
+        Chance(0x9E37_79B9_7F4A_7C15)
+    }
+
+    /// A number below `bound`, which is not 0.
+    pub fn below(&mut self, bound: usize) -> usize {
+        self.0 ^= self.0 << 13;
+        self.0 ^= self.0 >> 7;
+        self.0 ^= self.0 << 17;
+        ((self.0 >> 32) as usize) % bound
+    }
+
+    /// A list of symbols below `order`.
+    pub fn symbols(&mut self, length: usize, order: usize) -> Vec<u8> {
+        (0..length).map(|_| self.below(order) as u8).collect()
+    }
+}
