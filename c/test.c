@@ -116,14 +116,20 @@ static void words_of_01(void) {
     }
 }
 
-/* A message of a width is encoded, tested and read; then one symbol of the word is changed. */
-static void round_trip(uint8_t width) {
-    size_t q = (size_t)1 << width, n = q + 4, i;
-    uint8_t message[127], zeros[132] = {0}, wrong[132];
-    lent word, data;
+/* A message of q - 1 symbols. */
+static void fill(uint8_t *message, size_t q) {
+    size_t i;
     for (i = 0; i < q - 1; i++) {
         message[i] = (uint8_t)((i * i + 3) % q);
     }
+}
+
+/* A message of a width is encoded, tested and read; then one symbol of the word is changed. */
+static void round_trip(uint8_t width) {
+    size_t q = (size_t)1 << width, n = q + 4;
+    uint8_t message[127], zeros[132] = {0}, wrong[132];
+    lent word, data;
+    fill(message, q);
     answers(at("encode at width", width), xrs_encode(width, message, q - 1, lend(&word, zeros, n), n), XRS_ACCEPTED, 0);
     answers(at("test at width", width), xrs_is_codeword(width, word.bytes + RIM, n), XRS_ACCEPTED, 1);
     answers(at("read at width", width), xrs_read_data(width, word.bytes + RIM, n, lend(&data, zeros, q - 1), q - 1), XRS_ACCEPTED, 0);
@@ -171,13 +177,113 @@ static void refusals(void) {
     check("refused calls write nothing", holds(&word, old) && holds(&data, old));
 }
 
+/* The cases F to N of document 01, and what it says of marks and symbols, all at width 3. A word without `after` stays as it was. */
+static const struct {
+    const char *name;
+    uint8_t word[12], marks[5];
+    size_t count;
+    uint32_t refusal, changed;
+    const uint8_t *after;
+} cases[] = {
+    {"case F", {0, 0, 0, 0, 0, 1}, {0}, 0, XRS_ACCEPTED, 1, words[0]},
+    {"case G", {7, 0, 0, 0, 0, 7}, {0}, 0, XRS_ACCEPTED, 2, words[0]},
+    {"case H", {1, 1, 1}, {0}, 0, XRS_REFUSED_CORRECTABLE, 0, NULL},
+    {"case I", {0, 1, 1}, {0}, 1, XRS_REFUSED_CORRECTABLE, 0, NULL},
+    {"case J", {0, 0, 0, 0, 0, 0, 0, 5}, {0, 1}, 2, XRS_ACCEPTED, 1, words[0]},
+    {"case K", {0, 0, 0, 0, 0, 0, 0, 5}, {0, 1, 2}, 3, XRS_REFUSED_CORRECTABLE, 0, NULL},
+    {"case L", {1, 0, 0, 0, 0, 1, 1, 1, 1, 1, 1, 1}, {5}, 1, XRS_ACCEPTED, 0, words[3]},
+    {"case M", {1, 2, 0, 3, 6}, {2, 5, 6, 8}, 4, XRS_ACCEPTED, 0, words[2]},
+    {"case N", {0, 0, 0, 0, 1}, {0, 1, 2, 3}, 4, XRS_REFUSED_CORRECTABLE, 0, NULL},
+    {"case M with the marks in another order", {1, 2, 0, 3, 6}, {8, 6, 2, 5}, 4, XRS_ACCEPTED, 0, words[2]},
+    {"restore with the mark 11", {0}, {11}, 1, XRS_ACCEPTED, 0, words[0]},
+    {"restore with the mark 12", {0}, {12}, 1, XRS_REFUSED_ERASURE_PLACE, 0, NULL},
+    {"restore with four marks", {0}, {0, 1, 2, 3}, 4, XRS_ACCEPTED, 0, words[0]},
+    {"restore with five marks", {0}, {0, 1, 2, 3, 4}, 5, XRS_REFUSED_ERASURE_COUNT, 0, NULL},
+    {"restore with five marks, none of them good", {8}, {12, 12, 12, 12, 12}, 5, XRS_REFUSED_ERASURE_COUNT, 0, NULL},
+    {"restore with the mark 12 twice", {0}, {12, 12}, 2, XRS_REFUSED_ERASURE_PLACE, 0, NULL},
+    {"restore with the mark 3 twice", {0}, {3, 3}, 2, XRS_REFUSED_ERASURE_DISTINCT, 0, NULL},
+    {"restore with the mark 3 twice and the symbol 8", {8}, {3, 3}, 2, XRS_REFUSED_ERASURE_DISTINCT, 0, NULL},
+    {"restore with the symbol 7", {7}, {0}, 0, XRS_ACCEPTED, 1, words[0]},
+    {"restore with the symbol 8", {8}, {0}, 0, XRS_REFUSED_SYMBOL, 0, NULL},
+    {"restore with the marked symbol 200", {200}, {0}, 1, XRS_ACCEPTED, 0, words[0]},
+};
+
+static const char *after_call(const char *what) {
+    static char name[96];
+    snprintf(name, sizeof name, "the bytes after: %s", what);
+    return name;
+}
+
+static void restore_cases(void) {
+    size_t i;
+    lent word, marks;
+    for (i = 0; i < sizeof cases / sizeof *cases; i++) {
+        const uint8_t *after = cases[i].after ? cases[i].after : cases[i].word;
+        lend(&word, cases[i].word, 12);
+        lend(&marks, cases[i].marks, cases[i].count);
+        answers(cases[i].name, xrs_restore_word(3, word.bytes + RIM, 12, marks.bytes + RIM, cases[i].count), cases[i].refusal,
+            cases[i].changed);
+        check(after_call(cases[i].name), holds(&word, after) && holds(&marks, cases[i].marks));
+    }
+}
+
+/* Two wrong symbols of a codeword, then four marks. */
+static void restore_at(uint8_t width) {
+    size_t q = (size_t)1 << width, n = q + 4, i;
+    uint8_t message[127], clean[132], marks[4] = {6, 0, 0, 2};
+    lent word;
+    fill(message, q);
+    marks[1] = (uint8_t)(n - 1);
+    answers(at("encode for the restorer at width", width), xrs_encode(width, message, q - 1, clean, n), XRS_ACCEPTED, 0);
+    lend(&word, clean, n)[1] ^= 1;
+    word.bytes[RIM + n - 1] ^= (uint8_t)(q - 1);
+    answers(at("restore two wrong symbols at width", width), xrs_restore_word(width, word.bytes + RIM, n, marks, 0), XRS_ACCEPTED, 2);
+    check(at("the codeword is written at width", width), holds(&word, clean));
+    for (i = 0; i < 4; i++) {
+        word.bytes[RIM + marks[i]] = 255;
+    }
+    answers(at("restore four marks at width", width), xrs_restore_word(width, word.bytes + RIM, n, marks, 4), XRS_ACCEPTED, 0);
+    check(at("the marked symbols are written at width", width), holds(&word, clean));
+}
+
+/* Bad inputs of the restorer, in the order of the questions: each has all the faults that come later. */
+static void restore_refused_at(uint8_t width) {
+    size_t q = (size_t)1 << width, n = q + 4;
+    uint8_t old[133] = {1, 1, 1}, marks[5] = {5, 5, 0, 6, 7};
+    uint8_t *word;
+    lent slice;
+    marks[2] = (uint8_t)n;
+    old[8] = (uint8_t)q;
+    word = lend(&slice, old, n);
+    answers(at("restore at the width above", width), xrs_restore_word((uint8_t)(width + 1), word, n - 1, marks, 5), XRS_REFUSED_WIDTH, 0);
+    answers(at("restore a short word at width", width), xrs_restore_word(width, word, n - 1, marks, 5), XRS_REFUSED_LENGTH, 0);
+    answers(at("restore five marks at width", width), xrs_restore_word(width, word, n, marks, 5), XRS_REFUSED_ERASURE_COUNT, 0);
+    answers(at("restore with the mark n at width", width), xrs_restore_word(width, word, n, marks, 4), XRS_REFUSED_ERASURE_PLACE, 0);
+    answers(at("restore a double mark at width", width), xrs_restore_word(width, word, n, marks, 2), XRS_REFUSED_ERASURE_DISTINCT, 0);
+    answers(at("restore with the symbol q at width", width), xrs_restore_word(width, word, n, marks, 1), XRS_REFUSED_SYMBOL, 0);
+    check(at("refused restores write nothing at width", width), holds(&slice, old));
+    old[8] = 0;
+    word = lend(&slice, old, n);
+    answers(at("restore three wrong symbols at width", width), xrs_restore_word(width, word, n, marks, 0), XRS_REFUSED_CORRECTABLE, 0);
+    check(at("a word that is not near stays at width", width), holds(&slice, old));
+    word = lend(&slice, old, n + 1);
+    answers(at("restore a long word at width", width), xrs_restore_word(width, word, n + 1, marks, 5), XRS_REFUSED_LENGTH, 0);
+    check(at("a long word stays at width", width), holds(&slice, old));
+}
+
 int main(void) {
+    uint8_t width;
     field();
     words_of_01();
     round_trip(3);
     round_trip(5);
     round_trip(7);
     refusals();
+    restore_cases();
+    for (width = 3; width <= 7; width += 2) {
+        restore_at(width);
+        restore_refused_at(width);
+    }
     printf("%u passed, %u failed\n", passed, failed);
     return failed != 0;
 }

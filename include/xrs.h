@@ -11,7 +11,7 @@
  * Memory: a slice is passed as a pointer and its length in bytes. The pointer must not be NULL, also where the length is 0, and must be
  * valid for that many bytes: to read where it is const, else to read and write. Slices passed to one call must not overlap. Any length and
  * any content are allowed: a wrong one is refused. A call touches no byte outside its slices, and a refused call changes none inside. What
- * an output slice holds beforehand does not matter.
+ * the output of xrs_encode or xrs_read_data holds beforehand does not matter.
  *
  * The calls keep no state, so any number of threads may call them at once on memory of their own.
  *
@@ -70,6 +70,14 @@ uint32_t xrs_is_codeword(uint8_t width, const uint8_t *word, size_t word_length)
 
 /* Writes the data of a codeword (n symbols) into data (q - 1 bytes). The value is 0. Refused with 1, 2, 6 and 9. */
 uint32_t xrs_read_data(uint8_t width, const uint8_t *word, size_t word_length, uint8_t *data, size_t data_length);
+
+/*
+ * Writes the near codeword in place of the word (n bytes). The marks are the erasures: at most four different places of the word, counted
+ * from 0, in any order. A marked place may hold any byte. The near codeword differs from the word at no more than (4 - marks_length) / 2
+ * unmarked places, rounded down; there is never a second one. The value is the number of unmarked places changed, 0 to 2. Refused with
+ * 1 to 7.
+ */
+uint32_t xrs_restore_word(uint8_t width, uint8_t *word, size_t word_length, const uint8_t *marks, size_t marks_length);
 
 #ifdef __cplusplus
 }

@@ -48,6 +48,7 @@ mod raw {
         pub fn xrs_encode(width: u8, data: *const u8, data_length: usize, word: *mut u8, word_length: usize) -> u32;
         pub fn xrs_is_codeword(width: u8, word: *const u8, word_length: usize) -> u32;
         pub fn xrs_read_data(width: u8, word: *const u8, word_length: usize, data: *mut u8, data_length: usize) -> u32;
+        pub fn xrs_restore_word(width: u8, word: *mut u8, word_length: usize, marks: *const u8, marks_length: usize) -> u32;
     }
 }
 
@@ -138,4 +139,32 @@ pub fn is_codeword(width: u8, word: &[u8]) -> Result<bool, Refusal> {
 /// ```
 pub fn read_data(width: u8, word: &[u8], data: &mut [u8]) -> Result<(), Refusal> {
     unpack(unsafe { raw::xrs_read_data(width, word.as_ptr(), word.len(), data.as_mut_ptr(), data.len()) }).map(|_| ())
+}
+
+/// Writes the near codeword in place of `word`, and answers the number of unmarked places that changed, 0 to 2. The near codeword differs
+/// from `word` at no more than (4 - `marks.len()`) / 2 unmarked places, rounded down; there is never a second one.
+///
+/// `marks` are the erasures: at most four different places, in any order. A marked place may hold any byte, and its change is not counted.
+///
+/// ```
+/// // Two wrong symbols, no marks.
+/// let mut word = [7, 0, 0, 0, 0, 7, 0, 0, 0, 0, 0, 0];
+/// assert_eq!(xrs::restore_word(3, &mut word, &[]), Ok(2));
+/// assert_eq!(word, [0; 12]);
+///
+/// // Four marks; two of them are wrong, one holds no symbol.
+/// let mut word = [1, 2, 200, 3, 6, 0, 0, 0, 0, 0, 0, 0];
+/// assert_eq!(xrs::restore_word(3, &mut word, &[8, 2, 6, 5]), Ok(0));
+/// assert_eq!(word, [1, 2, 4, 3, 6, 0, 1, 0, 0, 0, 0, 0]);
+///
+/// // Three wrong symbols.
+/// let mut word = [1, 1, 1, 0, 0, 0, 0, 0, 0, 0, 0, 0];
+/// assert_eq!(xrs::restore_word(3, &mut word, &[]), Err(xrs::Refusal::Correctable));
+/// assert_eq!(word, [1, 1, 1, 0, 0, 0, 0, 0, 0, 0, 0, 0]);
+/// assert_eq!(xrs::restore_word(3, &mut word, &[12]), Err(xrs::Refusal::ErasurePlace));
+/// assert_eq!(xrs::restore_word(3, &mut word, &[3, 3]), Err(xrs::Refusal::ErasureDistinct));
+/// assert_eq!(xrs::restore_word(3, &mut word, &[0, 1, 2, 3, 4]), Err(xrs::Refusal::ErasureCount));
+/// ```
+pub fn restore_word(width: u8, word: &mut [u8], marks: &[u8]) -> Result<u8, Refusal> {
+    unpack(unsafe { raw::xrs_restore_word(width, word.as_mut_ptr(), word.len(), marks.as_ptr(), marks.len()) }).map(|count| count as u8)
 }

@@ -1,31 +1,33 @@
 -- What the answers of the functions that put the questions say, for the calls above them. Assumes nothing.
 use mathlib.Core.Path.{_≡_, refl, sym, ap, _∙_}
 use mathlib.Core.Logic.{_≢_}
-use mathlib.Core.Bool.{Bool, true, false, cond, false≢true}
+use mathlib.Core.Bool.{Bool, true, false, cond, false≢true, not}
 use mathlib.Core.List.{List}
-use Prim.Native.Nat.{ℕ, _+_, _-_, _≤_}
+use Prim.Native.Nat.{ℕ, _+_, _-_, _≤_, _<_}
 use native.Mathlib.Omega.{arith}
-use borrow.Author.Tests.{eq-eqb, ne-eqb, eqb-true}
+use borrow.Author.Tests.{eq-eqb, ne-eqb, eqb-true, le-leb, lt-leb, not-true, not-false}
 use lib.Dec.{eqb}
 use lib.ListN.{length}
 use Rattle.field.specs.Field.{order}
 use Rattle.field.specs.Question.{accepted, refused, refusal, ask, after, isWidth, allBelow}
 use Rattle.field.specs.Answer.{orderOf}
 use Rattle.field.specs.declared.Question.{Question}
-use Rattle.field.specs.declared.Question.the-variants.{Width, Length, Symbol, Syndrome}
+use Rattle.field.specs.declared.Question.the-variants.{Width, Length, ErasureCount, ErasurePlace, ErasureDistinct, Symbol, Syndrome}
 use Rattle.field.specs.declared.Verdict.{Verdict}
 use Rattle.field.specs.declared.Verdict.the-variants.{Passed, Refused}
 use Rattle.field.proofs.Ask.{ask-yes, ask-next, width-yes, width-no, order-is}
 use Rattle.field.proofs.Widths.{field-of}
 use Rattle.code.specs.Word.{checks, places, items, encode, dataOf}
-use Rattle.code.specs.Call.{written, done, zeroSyndromes, wordAsked, dataAsked, encodeAsked, Encodes, testAsked, testOf, readAsked, Reads}
+use Rattle.code.specs.Erasure.{distinct, symbolsFrom}
+use Rattle.code.specs.Call.{written, done, zeroSyndromes, wordAsked, dataAsked, encodeAsked, Encodes, testAsked, testOf}
+use Rattle.code.specs.Call.{readAsked, Reads, maxErasures, erasuresAsked}
 
 -- one question of a chain that stops there, or goes on
-pub ask-stop : (b : Bool) (p q : Question) (v next : Verdict) → ask b p v ≡ Refused q → (v ≡ Refused q → Refused q ≡ next) → Refused q ≡ ask b p next
+ask-stop : (b : Bool) (p q : Question) (v next : Verdict) → ask b p v ≡ Refused q → (v ≡ Refused q → Refused q ≡ next) → Refused q ≡ ask b p next
 ask-stop true p q v next e f = f e
 ask-stop false p q v next e f = sym e
 
-pub passed-not : (q : Question) → Passed ≡ Refused q → ⊥
+passed-not : (q : Question) → Passed ≡ Refused q → ⊥
 passed-not q e = let z : true ≡ false = cc in absurd (false≢true (sym z))
 
 -- ---- questions 1 and 2
@@ -125,11 +127,11 @@ module _ (m n d : ℕ) (xs : List ℕ) (v : Verdict) (e : v ≡ wordAsked m n (d
     pub slices-symbols : allBelow (order m) xs ≡ true
     slices-symbols = ask-yes (allBelow (order m) xs) Symbol Passed (ask-next (eqb d (items m)) Length _ rest)
 
-    pub slices-next : (u next : Verdict) → u ≡ next → u ≡ wordAsked m n (dataAsked m d xs next)
+    slices-next : (u next : Verdict) → u ≡ next → u ≡ wordAsked m n (dataAsked m d xs next)
     slices-next u next f =
         word-on m n (wordAsked m n Passed) refl first u _ (f ∙ simp (eq-eqb d (items m) slices-data, slices-symbols))
 
-  pub slices-stop : (q : Question) → v ≡ Refused q → (next : Verdict) → Refused q ≡ wordAsked m n (dataAsked m d xs next)
+  slices-stop : (q : Question) → v ≡ Refused q → (next : Verdict) → Refused q ≡ wordAsked m n (dataAsked m d xs next)
   slices-stop q p next =
       ask-stop (isWidth m) Width q _ _ (sym e ∙ p)
       (λ f. ask-stop (eqb n (places m)) Length q _ _ f
@@ -169,15 +171,10 @@ module _ (m : ℕ) (w : List ℕ) (v : Verdict) (e : v ≡ testAsked m w) where
     test-symbols =
         ask-yes (allBelow (order m) w) Symbol Passed (ask-next (eqb (length w) (places m)) Length _ (ask-next (isWidth m) Width _ asked))
 
-    test-answer : (b c : Bool) → b ≡ zeroSyndromes m w → b ≡ c → accepted (cond c 1 0) ≡ testOf m w
+    -- the answer b to the question about the syndromes is c
+    pub test-answer : (b c : Bool) → b ≡ zeroSyndromes m w → b ≡ c → accepted (cond c 1 0) ≡ testOf m w
     test-answer b c f t =
         ap (λ (d : Bool). accepted (cond d 1 0)) (sym t ∙ f) ∙ ap (λ (u : Verdict). after u (accepted (cond (zeroSyndromes m w) 1 0))) (sym asked)
-
-    pub test-yes : (b : Bool) → b ≡ zeroSyndromes m w → b ≡ true → accepted 1 ≡ testOf m w
-    test-yes b = test-answer b true
-
-    pub test-not : (b : Bool) → b ≡ zeroSyndromes m w → b ≡ false → accepted 0 ≡ testOf m w
-    test-not b = test-answer b false
 
   pub test-refused : (q : Question) → v ≡ Refused q → refused (refusal q) ≡ testOf m w
   test-refused q p = ap (λ (u : Verdict). after u (accepted (cond (zeroSyndromes m w) 1 0))) (sym p ∙ e)
@@ -188,16 +185,11 @@ module _ (m d : ℕ) (w ds : List ℕ) (v : Verdict) (e : v ≡ wordAsked m (len
   read-chain : (next : Verdict) → wordAsked m (length w) (dataAsked m d w next) ≡ wordAsked m (length w) (dataAsked m (length ds) w next)
   read-chain next = ap (λ (n : ℕ). wordAsked m (length w) (dataAsked m n w next)) s
 
-  read-next : v ≡ Passed → (b c : Bool) → b ≡ zeroSyndromes m w → b ≡ c → ask c Syndrome Passed ≡ readAsked m w ds
+  -- the answer b to the question about the syndromes is c
+  pub read-answer : v ≡ Passed → (b c : Bool) → b ≡ zeroSyndromes m w → b ≡ c → ask c Syndrome Passed ≡ readAsked m w ds
   unfolding readAsked
-  read-next p b c f t =
+  read-answer p b c f t =
       slices-next m (length w) d w v e p (ask c Syndrome Passed) _ (ap (λ (x : Bool). ask x Syndrome Passed) (sym t ∙ f)) ∙ read-chain _
-
-  pub read-zero : v ≡ Passed → (b : Bool) → b ≡ zeroSyndromes m w → b ≡ true → Passed ≡ readAsked m w ds
-  read-zero p b = read-next p b true
-
-  pub read-not : v ≡ Passed → (b : Bool) → b ≡ zeroSyndromes m w → b ≡ false → Refused Syndrome ≡ readAsked m w ds
-  read-not p b = read-next p b false
 
   pub read-stop : (q : Question) → v ≡ Refused q → Refused q ≡ readAsked m w ds
   unfolding readAsked
@@ -221,3 +213,33 @@ module _ (m : ℕ) (w old : List ℕ) (v : Verdict) (e : v ≡ readAsked m w old
         eqb-true (length old) (items m) (ask-yes (eqb (length old) (items m)) Length _ r2),
         field-of m w1 .one-lt,
       )
+
+-- ---- the restorer's questions before question 8
+
+module _ (m : ℕ) (w es : List ℕ) where
+  pub count-no : maxErasures m < length es → Refused ErasureCount ≡ erasuresAsked m w es
+  count-no h = simp (lt-leb (length es) (maxErasures m) h)
+
+  -- each question on the way was answered yes; b is the answer of the function that puts the next
+  module _ (size : length w ≡ places m) (few : length es ≤ maxErasures m) (b : Bool) (eb : b ≡ allBelow (length w) es) where
+    below-is : b ≡ allBelow (places m) es
+    below-is = eb ∙ ap (λ (n : ℕ). allBelow n es) size
+
+    pub place-no : not b ≡ true → Refused ErasurePlace ≡ erasuresAsked m w es
+    place-no t = simp (le-leb (length es) (maxErasures m) few, sym below-is ∙ not-true b t)
+
+    module _ (tb : not b ≡ false) (d : Bool) (ed : d ≡ distinct es) where
+      pub distinct-no : not d ≡ true → Refused ErasureDistinct ≡ erasuresAsked m w es
+      distinct-no t = simp (le-leb (length es) (maxErasures m) few, sym below-is ∙ not-false b tb, sym ed ∙ not-true d t)
+
+      module _ (td : not d ≡ false) (v : isWidth m ≡ true) (q : ℕ) (eq : q ≡ orderOf m) (s : Bool) (es′ : s ≡ symbolsFrom q es 0 w) where
+        symbols-is : s ≡ symbolsFrom (order m) es 0 w
+        symbols-is = es′ ∙ ap (λ (x : ℕ). symbolsFrom x es 0 w) (order-is m q eq v)
+
+        pub symbol-no : not s ≡ true → Refused Symbol ≡ erasuresAsked m w es
+        symbol-no t =
+            simp (le-leb (length es) (maxErasures m) few, sym below-is ∙ not-false b tb, sym ed ∙ not-false d td, sym symbols-is ∙ not-true s t)
+
+        pub erasures-pass : not s ≡ false → Passed ≡ erasuresAsked m w es
+        erasures-pass t =
+            simp (le-leb (length es) (maxErasures m) few, sym below-is ∙ not-false b tb, sym ed ∙ not-false d td, sym symbols-is ∙ not-false s t)

@@ -27,7 +27,8 @@ use Rattle.code.proofs.Questions.{allBelow-means}
 use Rattle.code.proofs.Horner.{five-cong}
 use Rattle.code.proofs.Columns.{combine}
 use Rattle.code.proofs.Unique.{Within, near-within}
-use Rattle.code.proofs.Filling.{Each, Lent, Solution, codeword-solution}
+use Rattle.code.specs.Correction.{Lent}
+use Rattle.code.proofs.Filling.{Each, Solution, codeword-solution}
 use Rattle.code.proofs.Extra.{Falling, Beside, within-beside, wrong}
 use Rattle.code.proofs.Passing.{syndromes-zero, encode-passes, given}
 use Rattle.code.proofs.Demands.{accepts, refuses-seven, refused-unchanged}

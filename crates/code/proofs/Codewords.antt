@@ -137,10 +137,7 @@ tuples-out q (suc n) xs i =
     below x ys l b zero h = l
     below x ys l b (suc k) h = b k (le-of-suc-le-suc h)
 
-pub in-tuples : (q n : ℕ) (xs : List ℕ) → In xs (tuples q n) ↔ ((length xs ≡ n) × ((i : ℕ) → i < n → at xs i < q))
-in-tuples q n xs = (tuples-out q n xs, λ h. tuples-in q n xs (h .0) (h .1))
-
-pub tuples-nodup : (q n : ℕ) → NoDup (tuples q n)
+tuples-nodup : (q n : ℕ) → NoDup (tuples q n)
 unfolding tuples
 tuples-nodup q zero = (List·Memᴰ·not-nil, tt)
 tuples-nodup q (suc n) = prefixed-nodup q (tuples q n) (tuples-nodup q n)
@@ -222,7 +219,7 @@ module _ {m : ℕ} (F : IsField m) where
     is-found = refl
 
     -- a codeword is near, or none is
-    pub any-near : ((c : List ℕ) × Near m es w c) ⊎ ((c : List ℕ) → Near m es w c → ⊥)
+    any-near : ((c : List ℕ) × Near m es w c) ⊎ ((c : List ℕ) → Near m es w c → ⊥)
     any-near = ⊎-elim (λ r. inl (r .0, to-near (r .0) (r .1))) (λ n. inr (λ c N. n c (of-near c N))) (any-in nearby)
 
     pub restoration-none : ((c : List ℕ) → Near m es w c → ⊥) → restoration m es w ≡ none

@@ -18,7 +18,7 @@ use Rattle.code.proofs.Sums.{total-le}
 use Rattle.code.proofs.Questions.{or-false-left}
 use Rattle.code.proofs.Members.{append-left, append-right, member-append, members-le, distinct-cons, below-cons}
 use Rattle.code.proofs.Unique.{Within, differ-eq, differ-le}
-use Rattle.code.proofs.Filling.{Agrees, Lent}
+use Rattle.code.specs.Correction.{Agrees, Lent}
 
 -- the places below n, the highest first
 abbrev pub Falling : ℕ → List ℕ → Type 0

@@ -4,7 +4,6 @@ use mathlib.Core.Path.{_≡_, refl, sym, ap, ap₂, _∙_, subst}
 use mathlib.Core.Bool.{Bool, true, false, cond}
 use mathlib.Core.List.{List, [], _∷_, map}
 use Prim.Native.Nat.{ℕ, _≤_, _<_, zero-le}
-use native.Mathlib.Nat.{le-trans}
 use native.Mathlib.Decide.{ℕ-discrete}
 use native.Mathlib.Omega.{arith}
 use borrow.Author.Tests.{ne-eqb}
@@ -16,20 +15,15 @@ use Rattle.field.specs.Question.{allBelow}
 use Rattle.field.proofs.Laws.{IsField}
 use Rattle.code.specs.Word.{checks, places, at, syndrome, Codeword}
 use Rattle.code.specs.Erasure.{member, distinct, differ, changes, masked, maskedSyndrome}
-use Rattle.code.proofs.Sums.{total-le, total-zero, part-le, syndrome-cong, syndrome-zero}
+use Rattle.code.specs.Correction.{fill, Agrees, Lent}
+use Rattle.code.proofs.Sums.{total-le, total-zero, syndrome-cong, syndrome-zero}
 use Rattle.code.proofs.Questions.{not-member-head, not-member-tail}
 use Rattle.code.proofs.Members.{distinct-head, distinct-tail, below-head, below-tail}
 use Rattle.code.proofs.DistanceLaw.{Distance}
-use Rattle.code.proofs.Unique.{differ-eq, differ-zero, same-near}
-use Rattle.code.proofs.Columns.{combine, syndrome-masked}
+use Rattle.code.proofs.Unique.{differ-eq, same-near}
+use Rattle.code.proofs.Columns.{combine, masked-small, syndrome-masked}
 
 -- ---- a word filled
-
--- the word with the values zs at the places ls
-unfoldable pub fill : List ℕ → List ℕ → List ℕ → List ℕ
-fill w [] zs = w
-fill w (l ∷ ls) [] = w
-fill w (l ∷ ls) (z ∷ zs) = set (fill w ls zs) l z
 
 -- R holds of each place and its value, and there are as many values as places
 abbrev pub Each : (ℕ → ℕ → Type 0) → List ℕ → List ℕ → Type 0
@@ -71,7 +65,7 @@ map-set u (n ∷ ls) l z e =
     ap₂ _∷_ (getD-set-other u l n z 0 (λ s. not-member-head l n ls e (sym s))) (map-set u ls l z (not-member-tail l n ls e))
 
 -- the filled word holds the values at the places
-pub fill-values : (R : ℕ → ℕ → Type 0) (w ls zs : List ℕ) → Each R ls zs → distinct ls ≡ true → allBelow (length w) ls ≡ true
+fill-values : (R : ℕ → ℕ → Type 0) (w ls zs : List ℕ) → Each R ls zs → distinct ls ≡ true → allBelow (length w) ls ≡ true
     → map (at (fill w ls zs)) ls ≡ zs
 unfolding fill
 fill-values R w [] [] rs ds bs = refl
@@ -87,10 +81,6 @@ each-map R f n (l ∷ ls) bs r = (r l (below-head l ls n bs), each-map R f n ls 
 
 -- ---- agreement and the number of changes
 
--- c agrees with w outside the places ls
-abbrev pub Agrees : ℕ → List ℕ → List ℕ → List ℕ → Type 0
-Agrees m ls w c = (p : ℕ) → p < places m → member p ls ≡ false → at c p ≡ at w p
-
 pub agrees-changes : (m : ℕ) (ls w c : List ℕ) → Agrees m ls w c → changes m ls w c ≤ 0
 agrees-changes m ls w c a = subst (λ (n : ℕ). changes m ls w c ≤ n) (total-zero (places m))
     (total-le _ (λ p. 0) (places m) (λ p h. go p (member p ls) (a p h)))
@@ -99,23 +89,12 @@ agrees-changes m ls w c a = subst (λ (n : ℕ). changes m ls w c ≤ n) (total-
     go p true e = zero-le
     go p false e = omega (arith, differ-eq (at w p) (at c p) (sym (e refl)))
 
-pub changes-agrees : (m : ℕ) (ls w c : List ℕ) → changes m ls w c ≤ 0 → Agrees m ls w c
-changes-agrees m ls w c h p l e = sym (differ-zero (at w p) (at c p)
-    (rw e at (le-trans (part-le (places m) (λ i. cond (member i ls) 0 (differ (at w i) (at c i))) p l) h)))
-
 -- ---- the linear system
 
 -- the values zs solve the system of the columns at the places ls
 pub record Solution (m : ℕ) (w ls zs : List ℕ) : Type 0 where
   pub values : Each (λ p z. z < order m) ls zs
   pub rows : (k : ℕ) → k < checks → combine m ls zs k ≡ maskedSyndrome m ls w k
-
--- a word of the right length with symbols outside the places ls, which are distinct places
-pub record Lent (m : ℕ) (w ls : List ℕ) : Type 0 where
-  pub size : length w ≡ places m
-  pub symbols : (p : ℕ) → p < places m → member p ls ≡ false → at w p < order m
-  pub distinct : distinct ls ≡ true
-  pub below : allBelow (places m) ls ≡ true
 
 fill-agrees : (m : ℕ) (w ls zs : List ℕ) → Agrees m ls w (fill w ls zs)
 fill-agrees m w ls zs p h e = fill-other w ls zs p e
@@ -125,6 +104,9 @@ solution-values {m} {w} {ls} {zs} W S =
     fill-values (λ p z. z < order m) w ls zs (S .values) (W .distinct) (subst (λ (n : ℕ). allBelow n ls ≡ true) (sym (W .size)) (W .below))
 
 module _ {m : ℕ} (F : IsField m) where
+  pub masked-lt : {w ls : List ℕ} → Lent m w ls → (p : ℕ) → p < places m → masked ls (at w) p < order m
+  masked-lt {w} {ls} W p h = masked-small F ls (at w) p (W .symbols p h)
+
   masked-agrees : (ls w c : List ℕ) → Agrees m ls w c → (p : ℕ) → p < places m → masked ls (at c) p ≡ masked ls (at w) p
   masked-agrees ls w c a p h = go (member p ls) (a p h)
     where

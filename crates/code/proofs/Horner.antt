@@ -16,7 +16,7 @@ use Rattle.field.proofs.Widths.{field-of}
 use Rattle.field.proofs.Powers.{double-product}
 use Rattle.code.specs.Word.{checks, places, items, five, at, sum, weighted, parity, syndrome, dataOf}
 use Rattle.code.proofs.Sums.{sum-cong}
-use Rattle.code.proofs.Copying.{part-drop}
+use Rattle.code.proofs.Loops.{part-drop}
 use Rattle.code.proofs.Questions.{allBelow-means, allBelow-holds}
 use Rattle.code.proofs.Members.{below-head, below-tail}
 
@@ -71,14 +71,14 @@ module _ {m : ℕ} (F : IsField m) where
           sym-add : (a b : ℕ) → a + b ≡ b + a
           sym-add a b = omega arith
 
-  pub evaluate-weighted : (cs : List ℕ) (k : ℕ) → allBelow (order m) cs ≡ true → evaluate m cs k ≡ weighted m (length cs) (at cs) k
+  evaluate-weighted : (cs : List ℕ) (k : ℕ) → allBelow (order m) cs ≡ true → evaluate m cs k ≡ weighted m (length cs) (at cs) k
   unfolding evaluate sum
   evaluate-weighted [] k b = refl
   evaluate-weighted (c ∷ cs) k b =
       ap (λ (x : ℕ). add (product m (power m α k) x) c) (evaluate-weighted cs k (below-tail c cs (order m) b))
       ∙ sym (weighted-cons k c cs (below-head c cs (order m) b))
 
-  pub evaluate-lt : (cs : List ℕ) (k : ℕ) → ((i : ℕ) → i < length cs → at cs i < order m) → evaluate m cs k < order m
+  evaluate-lt : (cs : List ℕ) (k : ℕ) → ((i : ℕ) → i < length cs → at cs i < order m) → evaluate m cs k < order m
   unfolding evaluate
   evaluate-lt [] k b = omega (arith, F .one-lt)
   evaluate-lt (c ∷ cs) k b = F .add-lt _ _ (F .product-lt _ _) (b 0 (omega arith))
@@ -131,7 +131,7 @@ module _ (m : ℕ) (w : isWidth m ≡ true) (cs : List ℕ) (b : allBelow (order
 
 -- ---- the syndromes of a word from the sums over its data, the part after the check symbols
 
-pub allBelow-drop : (q n : ℕ) (w : List ℕ) → allBelow q w ≡ true → allBelow q (drop n w) ≡ true
+allBelow-drop : (q n : ℕ) (w : List ℕ) → allBelow q w ≡ true → allBelow q (drop n w) ≡ true
 allBelow-drop q n w b =
     allBelow-holds q (drop n w)
     (λ k h. subst (λ (x : ℕ). x < q) (sym (getD-drop n w k 0)) (allBelow-means q w b (n + k) (omega (arith, length-drop n w, h))))

@@ -1,15 +1,19 @@
+-- The theorems, and the lemmas of the functions' proofs.
+
+-- field sums, loops, lists
 pub mod Algebra
 pub mod Sums
-pub mod Copying
+pub mod Loops
 pub mod Questions
 pub mod Members
-pub mod Horner
-pub mod Asking
+-- the code: distance, encoder, columns
 pub mod Points
 pub mod DistanceLaw
-pub mod Unique
+pub mod Horner
 pub mod Encoding
 pub mod Columns
+-- erasures, near codewords, the demands and the starred cases
+pub mod Unique
 pub mod Filling
 pub mod Extra
 pub mod Passing
@@ -18,3 +22,14 @@ pub mod Restoring
 pub mod Demands
 pub mod CaseTable
 pub mod Cases
+-- the questions of the calls
+pub mod Asking
+-- the solver
+pub mod RowLaws
+pub mod Elimination
+pub mod SolverSteps
+pub mod LinearSystem
+-- the restorer
+pub mod Correcting
+pub mod Trying
+pub mod Repairing

@@ -86,7 +86,7 @@ members-le n (x ∷ es) = omega (
 
 -- ---- how often a number stands in a list
 
-pub member-occurs : (p : ℕ) (xs : List ℕ) → member p xs ≡ ltb 0 (occurs p xs)
+member-occurs : (p : ℕ) (xs : List ℕ) → member p xs ≡ ltb 0 (occurs p xs)
 unfolding occurs
 member-occurs p [] = refl
 member-occurs p (x ∷ xs) = go (eqb p x) (member-occurs p xs)

@@ -15,26 +15,30 @@ use Rattle.field.specs.declared.Verdict.the-variants.{Passed}
 use Rattle.field.proofs.Ask.{ask-yes, ask-next}
 use Rattle.code.specs.Word.{checks, places, items, five, at, syndrome, Codeword}
 use Rattle.code.specs.Erasure.{distinct, symbolsFrom}
-use Rattle.code.specs.Call.{zeroSyndromes, encodeAsked, maxErasures, readAsked, restoreAsked}
+use Rattle.code.specs.Call.{allZero, zeroSyndromes, encodeAsked, maxErasures, readAsked, restoreAsked}
 use Rattle.code.specs.Demands.{Data, Passes}
 use Rattle.code.proofs.Questions.{allBelow-means, allBelow-holds, allZero-below, symbols-means}
 use Rattle.code.proofs.Horner.{five-at}
-use Rattle.code.proofs.Filling.{Lent}
+use Rattle.code.specs.Correction.{Lent}
 
 -- ---- question 9
 
-module _ (m : ℕ) (w : List ℕ) where
-  abbrev s : ℕ → ℕ
-  s k = syndrome m (at w) k
+-- five numbers are zero just if each is
+module _ (s : ℕ → ℕ) where
+  pub five-zero : allZero (five s) ≡ true → (k : ℕ) → k < checks → s k ≡ 0
+  five-zero e k h = omega (arith, five-at s k h, allBelow-means 1 (five s) (allZero-below (five s) ∙ e) k h)
 
-  -- all five syndromes are zero just if each is
+  zero-five : ((k : ℕ) → k < checks → s k ≡ 0) → allZero (five s) ≡ true
+  zero-five z = sym (allZero-below (five s)) ∙ allBelow-holds 1 (five s) (λ k h. omega (arith, five-at s k h, z k h))
+
+module _ (m : ℕ) (w : List ℕ) where
   pub syndromes-zero : zeroSyndromes m w ≡ true → (k : ℕ) → k < checks → syndrome m (at w) k ≡ 0
   unfolding zeroSyndromes
-  syndromes-zero e k h = omega (arith, five-at s k h, allBelow-means 1 (five s) (allZero-below (five s) ∙ e) k h)
+  syndromes-zero = five-zero (syndrome m (at w))
 
-  pub zero-syndromes : ((k : ℕ) → k < checks → syndrome m (at w) k ≡ 0) → zeroSyndromes m w ≡ true
+  zero-syndromes : ((k : ℕ) → k < checks → syndrome m (at w) k ≡ 0) → zeroSyndromes m w ≡ true
   unfolding zeroSyndromes
-  zero-syndromes z = sym (allZero-below (five s)) ∙ allBelow-holds 1 (five s) (λ k h. omega (arith, five-at s k h, z k h))
+  zero-syndromes = zero-five (syndrome m (at w))
 
 -- data passes the encoder's questions
 pub encode-passes : (m : ℕ) → isWidth m ≡ true → (ds out : List ℕ) → Data m ds → length out ≡ places m → encodeAsked m ds out ≡ Passed

@@ -16,14 +16,14 @@ use Rattle.field.proofs.Ask.{and-true-left, and-true-right}
 use Rattle.code.specs.Word.{at}
 use Rattle.code.specs.Erasure.{member, distinct, symbolsFrom}
 use Rattle.code.specs.Call.{allZero}
-use Rattle.code.proofs.Copying.{part-drop}
+use Rattle.code.proofs.Loops.{part-drop}
 
 -- ---- Booleans
 
-pub and-holds : (a b : Bool) → a ≡ true → b ≡ true → (a && b) ≡ true
+and-holds : (a b : Bool) → a ≡ true → b ≡ true → (a && b) ≡ true
 and-holds a b h k = simp (h, k)
 
-pub or-means : (a b : Bool) → (a || b) ≡ true → (a ≡ true) ⊎ (b ≡ true)
+or-means : (a b : Bool) → (a || b) ≡ true → (a ≡ true) ⊎ (b ≡ true)
 or-means true b h = inl refl
 or-means false b h = inr h
 
@@ -40,11 +40,6 @@ pub bool-eq : (a b : Bool) → (a ≡ true → b ≡ true) → (b ≡ true → a
 bool-eq true b f g = sym (f refl)
 bool-eq false true f g = g refl
 bool-eq false false f g = refl
-
--- a test fails where it cannot hold
-pub is-false : (b : Bool) → b ≢ true → b ≡ false
-is-false true n = absurd (n refl)
-is-false false n = refl
 
 pub both-ways : {b : Bool} → b ≡ true → b ≡ false → ⊥
 both-ways h k = false≢true (sym k ∙ h)
@@ -68,20 +63,13 @@ member-means a (x ∷ xs) h =
     (λ e. let r = member-means a xs e in (suc (r .0), omega (arith, r .1), r .2))
     (or-means (eqb a x) (member a xs) h)
 
-pub member-tail : (a x : ℕ) (xs : List ℕ) → member a xs ≡ true → member a (x ∷ xs) ≡ true
+member-tail : (a x : ℕ) (xs : List ℕ) → member a xs ≡ true → member a (x ∷ xs) ≡ true
 member-tail a x xs h = rw h (or-true (eqb a x))
 
 pub member-at : (a : ℕ) (xs : List ℕ) (k : ℕ) → k < length xs → getD xs k 0 ≡ a → member a xs ≡ true
 member-at a [] k l e = absurd (not-suc-le-zero l)
 member-at a (x ∷ xs) zero l e = simp (eq-eqb a x (sym e))
 member-at a (x ∷ xs) (suc k) l e = member-tail a x xs (member-at a xs k (le-of-suc-le-suc l) e)
-
--- a number that is not in the list differs from every entry, and conversely
-pub not-member-means : (a : ℕ) (xs : List ℕ) → member a xs ≡ false → (k : ℕ) → k < length xs → getD xs k 0 ≢ a
-not-member-means a xs h k l e = both-ways (member-at a xs k l e) h
-
-pub not-member : (a : ℕ) (xs : List ℕ) → ((k : ℕ) → k < length xs → getD xs k 0 ≢ a) → member a xs ≡ false
-not-member a xs n = is-false (member a xs) (λ h. let r = member-means a xs h in n (r .0) (r .1) (r .2))
 
 -- a number that is not in a list is neither its first entry nor in the rest
 pub not-member-head : (a x : ℕ) (xs : List ℕ) → member a (x ∷ xs) ≡ false → a ≢ x
@@ -119,7 +107,7 @@ module _ (q : ℕ) (es : List ℕ) where
 
 -- ---- how a loop over a list carries a test out: it goes on, it stops, it ends
 
-pub drop-one : (xs : List ℕ) (i : ℕ) → i < length xs → drop i xs ≡ getD xs i 0 ∷ drop (i + 1) xs
+drop-one : (xs : List ℕ) (i : ℕ) → i < length xs → drop i xs ≡ getD xs i 0 ∷ drop (i + 1) xs
 drop-one xs i h = rw (add-one, drop-cons xs i 0)
 
 module _ (n : ℕ) (xs : List ℕ) (i : ℕ) (e : allBelow n xs ≡ allBelow n (drop i xs)) where

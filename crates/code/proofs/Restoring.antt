@@ -81,7 +81,7 @@ module _ (m : ℕ) (w es : List ℕ) (p : Passes m w es) where
   F : IsField m
   F = field-of m (given m w es p .width)
 
-  pub finds-near : (c : List ℕ) → restoration m es w ≡ one c → Near m es w c
+  finds-near : (c : List ℕ) → restoration m es w ≡ one c → Near m es w c
   finds-near = restoration-near F es w
 
   pub finds-one : (c : List ℕ) → Near m es w c → restoration m es w ≡ one c
@@ -90,7 +90,7 @@ module _ (m : ℕ) (w es : List ℕ) (p : Passes m w es) where
   pub finds-none : restoration m es w ≡ none ↔ ((c : List ℕ) → Near m es w c → ⊥)
   finds-none = (restoration-far F es w, restoration-none F es w)
 
-  pub finds-no-two : restoration m es w ≢ several
+  finds-no-two : restoration m es w ≢ several
   finds-no-two = never-several F es w (never-two m w es p)
 
 -- accepted exactly when a codeword is near, and then the word ends equal to it

@@ -59,7 +59,7 @@ sum-cong zero f g h = refl
 sum-cong (suc n) f g h = ap₂ add (sum-cong n f g (λ i l. h i (omega arith))) (h n (le-refl (suc n)))
 
 module _ {m : ℕ} (F : IsField m) where
-  pub sum-add : (n : ℕ) (f g : ℕ → ℕ) → sum n (λ i. add (f i) (g i)) ≡ add (sum n f) (sum n g)
+  sum-add : (n : ℕ) (f g : ℕ → ℕ) → sum n (λ i. add (f i) (g i)) ≡ add (sum n f) (sum n g)
   unfolding sum
   sum-add zero f g = sym (F .add-zero 0)
   sum-add (suc n) f g =
@@ -70,7 +70,7 @@ module _ {m : ℕ} (F : IsField m) where
   sum-zero zero = refl
   sum-zero (suc n) = F .add-zero _ ∙ sum-zero n
 
-  pub sum-lt : (n : ℕ) (f : ℕ → ℕ) → ((i : ℕ) → i < n → f i < order m) → sum n f < order m
+  sum-lt : (n : ℕ) (f : ℕ → ℕ) → ((i : ℕ) → i < n → f i < order m) → sum n f < order m
   unfolding sum
   sum-lt zero f h = omega arith
   sum-lt (suc n) f h = F .add-lt _ _ (sum-lt n f (λ i l. h i (omega arith))) (h n (le-refl (suc n)))

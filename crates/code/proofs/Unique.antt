@@ -43,13 +43,6 @@ differ-eq a b e = ap (λ (t : Bool). cond t 0 1) (eq-eqb a b e)
 pub differ-ne : (a b : ℕ) → a ≢ b → differ a b ≡ 1
 differ-ne a b n = ap (λ (t : Bool). cond t 0 1) (ne-eqb a b n)
 
-pub differ-zero : (a b : ℕ) → differ a b ≤ 0 → a ≡ b
-differ-zero a b h = go (ℕ-discrete a b)
-  where
-    go : Dec (a ≡ b) → a ≡ b
-    go (yes e) = e
-    go (no n) = absurd (omega (arith, differ-ne a b n))
-
 pub differ-le : (a b : ℕ) → differ a b ≤ 1
 differ-le a b = go (eqb a b)
   where

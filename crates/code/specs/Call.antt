@@ -10,6 +10,8 @@ use Rattle.field.specs.Question.{Outcome, accepted, refused, refusal, ask, afte
 use Rattle.field.specs.declared.Question.the-variants.{Width, Length, ErasureCount, ErasurePlace, ErasureDistinct, Symbol, Correctable, Syndrome}
 use Rattle.field.specs.declared.Verdict.{Verdict}
 use Rattle.field.specs.declared.Verdict.the-variants.{Passed, Refused as RefusedBy}
+use Rattle.code.specs.declared.Repair.{Repair}
+use Rattle.code.specs.declared.Repair.the-variants.{Restored, Refused as RefusedRepair}
 use Rattle.code.specs.declared.Membership.{Membership}
 use Rattle.code.specs.declared.Membership.the-variants.{Codeword, Other, Refused}
 use Rattle.code.specs.Word.{five, places, items, at, syndrome, encode, dataOf}
@@ -44,28 +46,34 @@ dataAsked m n symbols next = ask (eqb n (items m)) Length (ask (allBelow (order 
 
 -- ---- encode: questions 1, 2 and 7, the last put to the data
 
+-- the questions, put to data and the word that is to hold its codeword
 unfoldable pub encodeAsked : ℕ → List ℕ → List ℕ → Verdict
 encodeAsked m ds word = wordAsked m (length word) (dataAsked m (length ds) ds Passed)
 
+-- what the encoder answers
 abbrev pub encodeOf : ℕ → List ℕ → List ℕ → Outcome
 encodeOf m ds word = done (encodeAsked m ds word)
 
+-- the word after the call
 abbrev pub encodeWritten : ℕ → List ℕ → List ℕ → List ℕ
 encodeWritten m ds word = written (encodeAsked m ds word) word (encode m ds)
 
--- what encode answers and leaves in the word
+-- the call's promise: what encode answers and leaves in the word
 pub record Encodes (m : ℕ) (ds old : List ℕ) (v : Verdict) (new : List ℕ) : Type 0 where
   pub answer : done v ≡ encodeOf m ds old
   pub word : new ≡ encodeWritten m ds old
 
 -- ---- the codeword test: questions 1, 2 and 7, then 1 for yes and 0 for no
 
+-- the questions, put to a word
 unfoldable pub testAsked : ℕ → List ℕ → Verdict
 testAsked m word = wordAsked m (length word) (ask (allBelow (order m) word) Symbol Passed)
 
+-- what the test answers
 abbrev pub testOf : ℕ → List ℕ → Outcome
 testOf m word = after (testAsked m word) (accepted (cond (zeroSyndromes m word) 1 0))
 
+-- the outcome that the test's answer stands for
 abbrev pub membership : Membership → Outcome
 membership Codeword = accepted 1
 membership Other = accepted 0
@@ -73,33 +81,40 @@ membership (Refused q) = refused (refusal q)
 
 -- ---- the reader of data: questions 1, 2, 7 and 9
 
+-- the questions, put to a word and to the slice that is to hold its data
 unfoldable pub readAsked : ℕ → List ℕ → List ℕ → Verdict
 readAsked m word ds = wordAsked m (length word) (dataAsked m (length ds) word (ask (zeroSyndromes m word) Syndrome Passed))
 
+-- what the reader answers
 abbrev pub readOf : ℕ → List ℕ → List ℕ → Outcome
 readOf m word ds = done (readAsked m word ds)
 
+-- the data after the call
 abbrev pub readWritten : ℕ → List ℕ → List ℕ → List ℕ
 readWritten m word ds = written (readAsked m word ds) ds (dataOf word)
 
--- what the reader answers and leaves in the data
+-- the call's promise: what the reader answers and leaves in the data
 pub record Reads (m : ℕ) (word old : List ℕ) (v : Verdict) (new : List ℕ) : Type 0 where
   pub answer : done v ≡ readOf m word old
   pub symbols : new ≡ readWritten m word old
 
 -- ---- the restorer: questions 1, 2, 3, 5, 6 and 7, then 8
 
--- as many erasures as are always restored
+-- question 3's bound, four: as many erasures as are always restored
 abbrev pub maxErasures : ℕ → ℕ
 maxErasures m = distance m - 1
 
-unfoldable pub restoreAsked : ℕ → List ℕ → List ℕ → Verdict
-restoreAsked m word es =
-    wordAsked m (length word)
-    (ask (leb (length es) (maxErasures m)) ErasureCount
+-- questions 3, 5, 6 and 7, put to the erasures and the word
+abbrev pub erasuresAsked : ℕ → List ℕ → List ℕ → Verdict
+erasuresAsked m word es =
+    ask (leb (length es) (maxErasures m)) ErasureCount
     (ask (allBelow (places m) es) ErasurePlace
     (ask (distinct es) ErasureDistinct
-    (ask (symbolsFrom (order m) es 0 word) Symbol Passed))))
+    (ask (symbolsFrom (order m) es 0 word) Symbol Passed)))
+
+-- all questions before question 8
+unfoldable pub restoreAsked : ℕ → List ℕ → List ℕ → Verdict
+restoreAsked m word es = wordAsked m (length word) (erasuresAsked m word es)
 
 -- question 8, and the number of changed places. That there are never several near codewords is proved: `NeverTwo` of Demands.antt
 abbrev pub decided : ℕ → List ℕ → List ℕ → Restoration → Outcome
@@ -107,13 +122,26 @@ decided m word es none = refused (refusal Correctable)
 decided m word es (one c) = accepted (changes m es word c)
 decided m word es several = refused (refusal Correctable)
 
+-- the word after question 8: the near codeword, or as it was
 abbrev pub restored : List ℕ → Restoration → List ℕ
 restored word none = word
 restored word (one c) = c
 restored word several = word
 
+-- what the restorer answers
 abbrev pub restoreOf : ℕ → List ℕ → List ℕ → Outcome
 restoreOf m word es = after (restoreAsked m word es) (decided m word es (restoration m es word))
 
+-- the word after the call
 abbrev pub restoreWritten : ℕ → List ℕ → List ℕ → List ℕ
 restoreWritten m word es = written (restoreAsked m word es) word (restored word (restoration m es word))
+
+-- the outcome that the restorer's answer stands for
+abbrev pub repair : Repair → Outcome
+repair (Restored k) = accepted k
+repair (RefusedRepair q) = refused (refusal q)
+
+-- the call's promise: what restore answers and leaves in the word
+pub record Restores (m : ℕ) (old es : List ℕ) (r : Repair) (new : List ℕ) : Type 0 where
+  pub answer : repair r ≡ restoreOf m old es
+  pub word : new ≡ restoreWritten m old es

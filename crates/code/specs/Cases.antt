@@ -8,6 +8,7 @@ use Rattle.field.specs.Question.{Outcome, accepted, refused}
 use Rattle.code.specs.Word.{places, encode}
 use Rattle.code.specs.Call.{encodeOf, encodeWritten, restoreOf, restoreWritten}
 
+-- a row of the table
 pub data Case : Type 0 where
   -- data, and the encoder's word
   encoding : List ℕ → List ℕ → Case
@@ -31,6 +32,7 @@ infixl 10 _but_is_
 abbrev pub _but_is_ : List ℕ → ℕ → ℕ → List ℕ
 w but p is x = set w p x
 
+-- the words of rows A, C and D
 abbrev pub zeros : List ℕ
 zeros = word 0 0 0 0 0 (symbols 0 0 0 0 0 0 0)
 
@@ -66,6 +68,7 @@ Holds (encoding ds w) =
     (encode 3 ds ≡ w) × ((out : List ℕ) → length out ≡ places 3 → (encodeOf 3 ds out ≡ accepted 0) × (encodeWritten 3 ds out ≡ w))
 Holds (restoring w es o c) = (restoreOf 3 w es ≡ o) × (restoreWritten 3 w es ≡ c)
 
+-- every row holds
 abbrev pub Table : List Case → Type 0
 Table [] = Unit {0}
 Table (x ∷ xs) = Holds x × Table xs

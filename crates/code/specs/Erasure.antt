@@ -5,12 +5,12 @@ use Prim.Native.Nat.{ℕ, zero, suc, _+_}
 use lib.Dec.{eqb, ltb}
 use Rattle.code.specs.Word.{places, at, syndrome}
 
--- the number a is in the list
+-- the number a is in the list: of a place and the erasures, document 01's marked place
 abbrev pub member : ℕ → List ℕ → Bool
 member a [] = false
 member a (x ∷ xs) = eqb a x || member a xs
 
--- the entries are all different
+-- question 6: the entries are all different
 abbrev pub distinct : List ℕ → Bool
 distinct [] = true
 distinct (x ∷ xs) = not (member x xs) && distinct xs
@@ -29,9 +29,13 @@ total (suc n) f = total n f + f n
 abbrev pub differ : ℕ → ℕ → ℕ
 differ a b = cond (eqb a b) 0 1
 
--- the number of places outside the erasures at which the words w and c differ, document 01's unmarked places changed
+-- the number of places below n, outside the erasures, at which the words w and c differ
+abbrev pub changesBelow : ℕ → List ℕ → List ℕ → List ℕ → ℕ
+changesBelow n es w c = total n (λ p. cond (member p es) 0 (differ (at w p) (at c p)))
+
+-- the number of all such places, document 01's unmarked places changed
 abbrev pub changes : ℕ → List ℕ → List ℕ → List ℕ → ℕ
-changes m es w c = total (places m) (λ p. cond (member p es) 0 (differ (at w p) (at c p)))
+changes m es w c = changesBelow (places m) es w c
 
 -- the word with 0 at the erasures
 abbrev pub masked : List ℕ → (ℕ → ℕ) → ℕ → ℕ

@@ -1,7 +1,11 @@
+-- The definitions. What must be believed for the contracts of the public calls stands in the first five files.
 pub mod Word
-pub mod Place
 pub mod Erasure
 pub mod Near
 pub mod Call
 pub mod Demands
 pub mod Cases
+-- the vocabulary of internal contracts
+pub mod Place
+pub mod Matrix
+pub mod Correction

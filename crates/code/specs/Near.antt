@@ -13,7 +13,7 @@ use Rattle.code.specs.Erasure.{changes}
 abbrev pub distance : ℕ → ℕ
 distance m = 5
 
--- r, the number of silent wrong symbols that are restored beside s erasures: 2, 1, 1, 0, 0
+-- the radius r, the number of silent wrong symbols that are restored beside s erasures: 2, 1, 1, 0, 0 for s from 0 to 4
 abbrev pub radius : ℕ → ℕ → ℕ
 radius m s = (distance m - 1 - s) / 2
 
@@ -46,10 +46,12 @@ pub data Restoration : Type 0 where
   one : List ℕ → Restoration
   several : Restoration
 
+-- in a list of codewords
 abbrev pub found : List (List ℕ) → Restoration
 found [] = none
 found (c ∷ []) = one c
 found (c ∷ d ∷ cs) = several
 
+-- of the word w with the erasures es
 unfoldable pub restoration : ℕ → List ℕ → List ℕ → Restoration
 restoration m es w = found (near m es w (radius m (length es)))

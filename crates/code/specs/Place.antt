@@ -1,4 +1,5 @@
--- Places and exponents, and the columns of the code's matrix. Assumes nothing.
+-- Places and exponents, and the columns of the code's matrix, whose row k gives syndrome k. This is vocabulary of internal contracts: the
+-- contracts of the public calls rest on Word, Erasure, Near, Call and Demands alone. Assumes nothing.
 use mathlib.Core.Bool.{cond}
 use Prim.Native.Nat.{ℕ, _-_, _*_}
 use lib.Dec.{eqb, ltb}

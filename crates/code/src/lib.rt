@@ -1,4 +1,5 @@
-// The five times extended Reed-Solomon code of document 003: encoder, codeword test and reader of data. A message is the data of a word.
+// The five times extended Reed-Solomon code of document 003: encoder, codeword test, reader of data and restorer. A message is the data of a
+// word.
 ghost use mathlib.Core.Path.{_≡_};
 ghost use mathlib.Core.Bool.{true};
 ghost use mathlib.Core.List.{List};
@@ -10,18 +11,29 @@ ghost use Rattle.field.specs.Answer.{orderOf};
 ghost use Rattle.field.specs.declared.Question.the-variants.{Symbol};
 ghost use Rattle.field.specs.declared.Verdict.the-variants.{Passed};
 ghost use Rattle.code.specs.Word.{checks, places, items, encode as encodeM};
-ghost use Rattle.code.specs.Call.{wordAsked, dataAsked, zeroSyndromes, Encodes, testAsked, testOf, membership, readAsked, Reads};
+ghost use Rattle.code.specs.Call.{zeroSyndromes, wordAsked, dataAsked, Encodes, testAsked, testOf, membership, readAsked, Reads};
+ghost use Rattle.code.specs.Call.{erasuresAsked, restoreAsked, Restores};
+ghost use Rattle.code.specs.Correction.{longest};
+ghost use Rattle.code.specs.Demands.{Passes};
 
 pub mod place;
 pub mod question;
+pub mod restorer;
 pub mod slice;
+pub mod solver;
 pub mod syndrome;
 
 use field::Question;
 use field::Verdict;
 use field::arithmetic::order_of;
+use question::all_different;
 use question::all_zero;
 use question::below;
+use question::symbols_below;
+use restorer::find;
+use restorer::is_clean;
+use restorer::started;
+use restorer::write;
 use slice::copy;
 use syndrome::parities;
 use syndrome::syndromes;
@@ -171,5 +183,76 @@ pub fn read(width: u8, word: &[u8], message: &mut [u8]) -> Verdict
             Verdict::Passed
         }
         Verdict::Refused(q) => Verdict::Refused(q),
+    }
+}
+
+// What the restorer answers: the number of changed places outside the erasures, or the question that was answered no.
+pub enum Repair {
+    Restored(u8),
+    Refused(Question),
+}
+
+// Questions 3, 5, 6 and 7, put to the erasures and a word of the right length.
+fn ask_erasures(width: u8, word: &[u8], erasures: &[u8]) -> Verdict
+    requires { ⌜ length (now word) ≤ longest ⌝ }
+    ensures { λ r.
+        ⌜
+        (
+        isWidth width ≡ true → length (now (word .entry)) ≡ places width
+        → r ≡ erasuresAsked width (now (word .entry)) (now (erasures .entry))
+        )
+        ⌝ }
+{
+    if 4 < erasures.len() {
+        return Verdict::Refused(Question::ErasureCount);
+    }
+    if !below(erasures, word.len() as u8) {
+        return Verdict::Refused(Question::ErasurePlace);
+    }
+    if !all_different(erasures) {
+        return Verdict::Refused(Question::ErasureDistinct);
+    }
+    if !symbols_below(word, erasures, order_of(width)) {
+        return Verdict::Refused(Question::Symbol);
+    }
+    Verdict::Passed
+}
+
+// All questions before question 8.
+fn ask_restore(width: u8, word: &[u8], erasures: &[u8]) -> Verdict
+    ensures { λ r. ⌜ r ≡ restoreAsked width (now (word .entry)) (now (erasures .entry)) ⌝ }
+{
+    match ask_word(width, word.len()) {
+        Verdict::Passed => ask_erasures(width, word, erasures),
+        Verdict::Refused(q) => Verdict::Refused(q),
+    }
+}
+
+// Question 8: the near codeword is written, if there is one.
+fn correct(width: u8, word: &mut [u8], erasures: &[u8]) -> Repair
+    requires { ⌜ Passes width (now word) (now erasures) ⌝ }
+    ensures { λ r. ⌜ Restores width (now (word .entry)) (now (erasures .entry)) r (now (word .exit)) ⌝ }
+{
+    let t = started(width, word, erasures);
+    if is_clean(t) {
+        return Repair::Restored(0);
+    }
+    let reach = (4 - erasures.len()) / 2;
+    let c = find(width, word, t, reach);
+    let found = c.found;
+    if found {
+        Repair::Restored(write(word, erasures, c))
+    } else {
+        Repair::Refused(Question::Correctable)
+    }
+}
+
+// Restores a word: the near codeword is written in its place.
+pub fn restore(width: u8, word: &mut [u8], erasures: &[u8]) -> Repair
+    ensures { λ r. ⌜ Restores width (now (word .entry)) (now (erasures .entry)) r (now (word .exit)) ⌝ }
+{
+    match ask_restore(width, word, erasures) {
+        Verdict::Passed => correct(width, word, erasures),
+        Verdict::Refused(q) => Repair::Refused(q),
     }
 }

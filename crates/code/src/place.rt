@@ -1,17 +1,35 @@
 // A place of a word, and the one conversion from places to exponents of α.
 ghost use mathlib.Core.Path.{_≡_};
 ghost use Prim.Native.Nat.{_≤_};
-ghost use Rattle.code.specs.Place.{exponentOf};
+ghost use mathlib.Core.Bool.{true};
+ghost use Rattle.field.specs.Question.{isWidth};
+ghost use Rattle.code.specs.Place.{exponentOf, column as columnM};
 use field::Exponent;
+use field::arithmetic::raise;
 
 // Place 0 to 4 holds a check symbol, place 5 + i the data symbol i.
 pub struct Place(pub u8);
 
-// The exponent i of place 5 + i.
+// The exponent i of place 5 + i. No entry point.
 pub fn exponent_of(p: Place) -> Exponent
     requires { ⌜ 5 ≤ p .0 ⌝ }
     ensures { λ r. ⌜ r ≡ exponentOf p ⌝ }
 {
     let i = p.0;
     Exponent((i - 5) as u16)
+}
+
+// Row k of the column at place p.
+pub fn column(width: u8, p: Place, k: u8) -> u8
+    ensures { λ r. ⌜ (isWidth width ≡ true → r ≡ columnM width (p .0) k) ⌝ }
+{
+    let place = p.0;
+    if place < 5 {
+        if place == k {
+            return 1;
+        }
+        return 0;
+    }
+    let i = exponent_of(p).0;
+    raise(width, 2, k as u16 * i)
 }

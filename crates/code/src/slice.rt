@@ -1,4 +1,4 @@
-// Copying between lent slices.
+// Copying between lent slices of the same length. No entry point: the calls above come here with lengths that agree.
 ghost use mathlib.Core.Path.{_≡_};
 ghost use lib.ListN.{length};
 

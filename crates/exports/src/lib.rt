@@ -2,9 +2,10 @@
 // A slice is passed as its pointer, then its length.
 ghost use mathlib.Core.Path.{_≡_};
 ghost use Rattle.field.specs.Answer.{outcome, sumOf, productOf, powerOf, inverseOf};
-ghost use Rattle.code.specs.Call.{done, membership, encodeOf, encodeWritten, testOf, readOf, readWritten};
+ghost use Rattle.code.specs.Call.{done, membership, repair, encodeOf, encodeWritten, testOf, readOf, readWritten, restoreOf, restoreWritten};
 ghost use Rattle.exports.specs.Packed.{packed};
 use code::Membership;
+use code::Repair;
 use field::Answer;
 use field::Verdict;
 
@@ -42,6 +43,16 @@ fn pack_membership(m: Membership) -> u32
         Membership::Codeword => 256,
         Membership::Other => 0,
         Membership::Refused(q) => wide(field::refusal_number(q)),
+    }
+}
+
+// The answer of the restorer: the number of changed places.
+fn pack_repair(a: Repair) -> u32
+    ensures { λ r. ⌜ r ≡ packed (repair a) ⌝ }
+{
+    match a {
+        Repair::Restored(k) => 256 * wide(k),
+        Repair::Refused(q) => wide(field::refusal_number(q)),
     }
 }
 
@@ -97,4 +108,13 @@ pub extern "C" fn xrs_read_data(width: u8, word: &[u8], message: &mut [u8]) -> u
     ensures written { λ r. ⌜ now (message .exit) ≡ readWritten width (now (word .entry)) (now (message .entry)) ⌝ }
 {
     pack_verdict(code::read(width, word, message))
+}
+
+// Writes the near codeword in place of the word.
+#[no_mangle]
+pub extern "C" fn xrs_restore_word(width: u8, word: &mut [u8], erasures: &[u8]) -> u32
+    ensures answer { λ r. ⌜ r ≡ packed (restoreOf width (now (word .entry)) (now (erasures .entry))) ⌝ }
+    ensures written { λ r. ⌜ now (word .exit) ≡ restoreWritten width (now (word .entry)) (now (erasures .entry)) ⌝ }
+{
+    pack_repair(code::restore(width, word, erasures))
 }

@@ -1,30 +1,39 @@
 //! What the tests share: slices lent out of larger buffers, and numbers by chance.
+#![allow(dead_code)] // each test file uses its part
 
 use xrs::Refusal;
 
 /// As many bytes stand before and after each lent slice.
 const RIM: usize = 24;
 
-/// Lends copies of the slices, each inside a larger buffer, and hands back what the call answers and what the slices then hold. The rims
-/// must stay as they were, and what they hold must not matter.
+/// Lends copies of the slices, each inside a larger buffer that is filled with `rim`, and hands back what the call answers and what the
+/// written slice then holds. Nothing else may change, and nothing at all where the call is refused.
+fn lend_within<T: std::fmt::Debug>(
+    rim: u8,
+    read: &[u8],
+    write: &[u8],
+    call: impl Fn(&[u8], &mut [u8]) -> Result<T, Refusal>,
+) -> (Result<T, Refusal>, Vec<u8>) {
+    let around = |content: &[u8]| [&[rim; RIM], content, &[rim; RIM]].concat();
+    let (source, mut target) = (around(read), around(write));
+    let middle = RIM..RIM + write.len();
+    let answer = call(&source[RIM..RIM + read.len()], &mut target[middle.clone()]);
+    let content = target[middle].to_vec();
+    assert_eq!(source, around(read), "a slice lent for reading was changed");
+    assert_eq!(target, around(&content), "a byte beside a lent slice was changed");
+    if answer.is_err() {
+        assert_eq!(content, write, "a refused call wrote: {answer:?}");
+    }
+    (answer, content)
+}
+
+/// The same twice: what the rims hold must not matter.
 fn lend<T: PartialEq + std::fmt::Debug>(
     read: &[u8],
     write: &[u8],
     call: impl Fn(&[u8], &mut [u8]) -> Result<T, Refusal>,
 ) -> (Result<T, Refusal>, Vec<u8>) {
-    let [first, second] = [0x00, 0xA7].map(|rim| {
-        let around = |content: &[u8]| [&[rim; RIM], content, &[rim; RIM]].concat();
-        let (source, mut target) = (around(read), around(write));
-        let middle = RIM..RIM + write.len();
-        let answer = call(&source[RIM..RIM + read.len()], &mut target[middle.clone()]);
-        let content = target[middle].to_vec();
-        assert_eq!(source, around(read), "a slice lent for reading was changed");
-        assert_eq!(target, around(&content), "a byte beside a lent slice was changed");
-        if answer.is_err() {
-            assert_eq!(content, write, "a refused call wrote: {answer:?}");
-        }
-        (answer, content)
-    });
+    let [first, second] = [0x00, 0xA7].map(|rim| lend_within(rim, read, write, &call));
     assert_eq!(first, second, "bytes beside a lent slice were read");
     first
 }
@@ -42,6 +51,16 @@ pub fn is_codeword(width: u8, word: &[u8]) -> Result<bool, Refusal> {
 /// `xrs::read_data` on copies of the slices: its answer, and the data afterwards.
 pub fn read_data(width: u8, word: &[u8], data: &[u8]) -> (Result<(), Refusal>, Vec<u8>) {
     lend(word, data, |word, data| xrs::read_data(width, word, data))
+}
+
+/// `xrs::restore_word` on copies of the slices: its answer, and the word afterwards.
+pub fn restore_word(width: u8, word: &[u8], marks: &[u8]) -> (Result<u8, Refusal>, Vec<u8>) {
+    lend(marks, word, |marks, word| xrs::restore_word(width, word, marks))
+}
+
+/// The same with one call, inside bytes `rim`.
+pub fn restore_word_within(rim: u8, width: u8, word: &[u8], marks: &[u8]) -> (Result<u8, Refusal>, Vec<u8>) {
+    lend_within(rim, marks, word, |marks, word| xrs::restore_word(width, word, marks))
 }
 
 /// The generator xorshift64 from a fixed seed, so that each run tries the same.
@@ -63,5 +82,17 @@ impl Chance {
     /// A list of symbols below `order`.
     pub fn symbols(&mut self, length: usize, order: usize) -> Vec<u8> {
         (0..length).map(|_| self.below(order) as u8).collect()
+    }
+
+    /// Different places below `n`, in any order.
+    pub fn places(&mut self, count: usize, n: usize) -> Vec<u8> {
+        let mut found = Vec::new();
+        while found.len() < count {
+            let place = self.below(n) as u8;
+            if !found.contains(&place) {
+                found.push(place);
+            }
+        }
+        found
     }
 }

@@ -1,10 +1,16 @@
 -- `code::test` meets its contract. Assumes nothing.
 use borrow.Author.Needs.{needs}
 use mathlib.Core.Path.{_≡_}
+use mathlib.Core.Bool.{Bool, true, false, cond}
+use Rattle.field.specs.Question.{accepted}
 use Rattle.field.specs.declared.Verdict.the-variants.{Passed}
-use Rattle.code.proofs.Asking.{test-width, test-size, test-long, test-symbols, test-yes, test-not, test-refused}
+use Rattle.code.specs.Call.{testOf}
+use Rattle.code.proofs.Asking.{test-width, test-size, test-long, test-symbols, test-answer, test-refused}
 use Rattle.code.proofs.test.Statement.{statement}
 use Rattle.code.proofs.test.Tie as tie
+
+abbrev start : tie.After-zero-syndromes → tie.Start
+start s = s .before .before .before .before .before
 
 ask-test-requires : tie.Need-ask-test-requires
 ask-test-requires c κs = search needs
@@ -21,29 +27,23 @@ zero-syndromes-requires c κs =
 enum-known-q : tie.Need-enum-known-q
 enum-known-q c = search needs
 
-returns : tie.Need-returns
-returns c =
-    let v = c .before .before .before .before .ask-test in
-    let a = c .before .before .before .before .before .before .args in
-    let m = a .width in
-    let w = a .word .now in
+-- the question about the syndromes is answered c
+answer : (s : tie.After-zero-syndromes) (c : Bool) → s .zero-syndromes .result ≡ c
+    → accepted (cond c 1 0) ≡ testOf (start s .args .width) (start s .args .word .now)
+answer s c t =
+    let v = s .before .before .before .ask-test in
+    let m = start s .args .width in
+    let w = start s .args .word .now in
     let p : v .result ≡ Passed = search needs in
-    let z = c .before .zero-syndromes in
-    test-yes m w (v .result) (v .ensures) p (z .result)
-    (z .ensures (test-width m w (v .result) (v .ensures) p) (test-size m w (v .result) (v .ensures) p) (test-symbols m w (v .result) (v .ensures) p))
-    (c .if1 .taken)
+    test-answer m w (v .result) (v .ensures) p (s .zero-syndromes .result) c
+    (s .zero-syndromes .ensures (test-width m w (v .result) (v .ensures) p) (test-size m w (v .result) (v .ensures) p)
+    (test-symbols m w (v .result) (v .ensures) p)) t
+
+returns : tie.Need-returns
+returns c = answer (c .before) true (c .if1 .taken)
 
 returns-2 : tie.Need-returns-2
-returns-2 c =
-    let v = c .before .before .before .before .ask-test in
-    let a = c .before .before .before .before .before .before .args in
-    let m = a .width in
-    let w = a .word .now in
-    let p : v .result ≡ Passed = search needs in
-    let z = c .before .zero-syndromes in
-    test-not m w (v .result) (v .ensures) p (z .result)
-    (z .ensures (test-width m w (v .result) (v .ensures) p) (test-size m w (v .result) (v .ensures) p) (test-symbols m w (v .result) (v .ensures) p))
-    (c .if1 .left)
+returns-2 c = answer (c .before) false (c .if1 .left)
 
 returns-3 : tie.Need-returns-3
 returns-3 c = search (needs, test-refused)

@@ -7,7 +7,7 @@ use native.Mathlib.Omega.{arith}
 use lib.ListN.{length}
 use lib.Seq.{length-take-le}
 use Rattle.code.specs.Word.{five, weighted, at}
-use Rattle.code.proofs.Copying.{two-parts}
+use Rattle.code.proofs.Loops.{two-parts}
 use Rattle.code.proofs.write_codeword.Statement.{statement}
 use Rattle.code.proofs.write_codeword.Tie as tie
 

@@ -4,7 +4,7 @@ use mathlib.Core.Path.{_≡_, refl}
 use mathlib.Core.List.{_++_}
 use Prim.Native.Nat.{_-_}
 use lib.ListN.{length, take, drop, length-set}
-use Rattle.code.proofs.Copying.{copy-on, copy-end}
+use Rattle.code.proofs.Loops.{copy-on, copy-end}
 use Rattle.code.proofs.slice.copy.Statement.{statement}
 use Rattle.code.proofs.slice.copy.Tie as tie
 

@@ -1,0 +1,228 @@
+-- A trial is a linear system: its entries, and the solver's answers in terms of the codewords that agree with the word outside the places
+-- of the trial. Assumes nothing.
+use mathlib.Core.Path.{_≡_, refl, sym, ap, _∙_, subst}
+use mathlib.Core.Logic.{_≢_}
+use mathlib.Core.Bool.{Bool, true, false, cond, false≢true, true≢false}
+use mathlib.Core.List.{List, [], _∷_, map}
+use Prim.Native.Nat.{ℕ, zero, suc, _+_, _-_, _≤_, _<_}
+use native.Mathlib.Nat.{not-suc-le-zero, le-of-suc-le-suc, le-refl}
+use native.Mathlib.Omega.{arith}
+use borrow.Author.Tests.{eq-eqb, ne-eqb, le-leb, lt-leb}
+use lib.Dec.{eqb, leb}
+use lib.ListN.{length, getD, take}
+use lib.Seq.{getD-take, length-take-le}
+use Rattle.field.specs.Polynomial.{add}
+use Rattle.field.specs.Field.{order, product}
+use Rattle.field.specs.Question.{isWidth}
+use Rattle.field.proofs.Laws.{IsField}
+use Rattle.field.proofs.Widths.{field-of}
+use Rattle.code.specs.declared.restorer.Trial.{Trial}
+use Rattle.code.specs.declared.solver.Solutions.{Solutions}
+use Rattle.code.specs.declared.solver.Solutions.the-variants.{None, One, Dependent}
+use Rattle.code.specs.Word.{at}
+use Rattle.code.specs.Place.{column}
+use Rattle.code.specs.Erasure.{maskedSyndrome}
+use Rattle.code.specs.Near.{distance}
+use Rattle.code.specs.Matrix.{rows, unknowns, columns, entry, Matrix, dot, Values, Means}
+use Rattle.code.specs.Correction.{tried, Ready, systemEntry, SystemMatrix, NoneAt, Searched}
+use Rattle.code.proofs.DistanceLaw.{distance-of}
+use Rattle.code.proofs.Sums.{parity-lt}
+use Rattle.code.proofs.Horner.{five-at}
+use Rattle.code.proofs.Columns.{combine, column-lt}
+use Rattle.code.proofs.Filling.{Each, Solution, fill-other, masked-lt, solution-codeword, codeword-solution, independent}
+use Rattle.code.proofs.LinearSystem.{System, Meets, system-none, system-solved, system-kernel}
+
+-- ---- the entries of the system
+
+module _ (m : ℕ) (ls : List ℕ) (b k j : ℕ) where
+  -- past the right-hand side
+  entry-left : j ≢ 0 → systemEntry m ls b k j ≡ cond (leb j (length ls)) (column m (getD ls (j - 1) 0) k) 0
+  entry-left d = ap (λ (t : Bool). cond t b (cond (leb j (length ls)) (column m (getD ls (j - 1) 0) k) 0)) (ne-eqb j 0 d)
+
+  entry-at : j ≢ 0 → j ≤ length ls → systemEntry m ls b k j ≡ column m (getD ls (j - 1) 0) k
+  entry-at d h = entry-left d ∙ ap (λ (t : Bool). cond t (column m (getD ls (j - 1) 0) k) 0) (le-leb j (length ls) h)
+
+  entry-past : j ≢ 0 → length ls < j → systemEntry m ls b k j ≡ 0
+  entry-past d h = entry-left d ∙ ap (λ (t : Bool). cond t (column m (getD ls (j - 1) 0) k) 0) (lt-leb j (length ls) h)
+
+-- the system of the first n places xs
+module _ (m : ℕ) (xs : List ℕ) (n b k j : ℕ) where
+  pub entry-right : j ≡ 0 → b ≡ systemEntry m (take n xs) b k j
+  entry-right e =
+      sym (ap (λ (t : Bool). cond t b (cond (leb j (length (take n xs))) (column m (getD (take n xs) (j - 1) 0) k) 0)) (eq-eqb j 0 e))
+
+  module _ (l : n ≤ length xs) (d : j ≢ 0) where
+    pub entry-column : j ≤ n → (x : ℕ) → x ≡ column m (getD xs (j - 1) 0) k → x ≡ systemEntry m (take n xs) b k j
+    entry-column h x e =
+        e ∙ ap (λ (p : ℕ). column m p k) (sym (getD-take n xs (j - 1) 0 (omega arith)))
+        ∙ sym (entry-at m (take n xs) b k j d (omega (arith, length-take-le n xs l)))
+
+    pub entry-none : n < j → 0 ≡ systemEntry m (take n xs) b k j
+    entry-none h = sym (entry-past m (take n xs) b k j d (omega (arith, length-take-le n xs l)))
+
+-- what holds of five rows holds of each
+pub each-row : (P : ℕ → List ℕ → Type 0) (r0 r1 r2 r3 r4 : List ℕ) → P 0 r0 → P 1 r1 → P 2 r2 → P 3 r3 → P 4 r4
+    → (k : ℕ) → k < rows → P k (getD (r0 ∷ r1 ∷ r2 ∷ r3 ∷ r4 ∷ []) k [])
+each-row P r0 r1 r2 r3 r4 p0 p1 p2 p3 p4 zero h = p0
+each-row P r0 r1 r2 r3 r4 p0 p1 p2 p3 p4 (suc zero) h = p1
+each-row P r0 r1 r2 r3 r4 p0 p1 p2 p3 p4 (suc (suc zero)) h = p2
+each-row P r0 r1 r2 r3 r4 p0 p1 p2 p3 p4 (suc (suc (suc zero))) h = p3
+each-row P r0 r1 r2 r3 r4 p0 p1 p2 p3 p4 (suc (suc (suc (suc zero)))) h = p4
+each-row P r0 r1 r2 r3 r4 p0 p1 p2 p3 p4 (suc (suc (suc (suc (suc k))))) h = absurd (omega arith)
+
+-- ---- values at places, as lists
+
+combine-dot : (m : ℕ) (ls zs : List ℕ) (k : ℕ) → combine m ls zs k ≡ dot m (map (λ l. column m l k) ls) zs
+unfolding combine
+combine-dot m [] zs k = refl
+combine-dot m (l ∷ ls) [] k = refl
+combine-dot m (l ∷ ls) (z ∷ zs) k = ap (add (product m (column m l k) z)) (combine-dot m ls zs k)
+
+values-each : (q : ℕ) (ls zs : List ℕ) → length zs ≡ length ls → ((j : ℕ) → j < length ls → getD zs j 0 < q) → Each (λ p z. z < q) ls zs
+values-each q [] [] e b = tt
+values-each q [] (z ∷ zs) e b = absurd (omega arith)
+values-each q (l ∷ ls) [] e b = absurd (omega arith)
+values-each q (l ∷ ls) (z ∷ zs) e b = (b 0 (omega arith), values-each q ls zs (omega arith) (λ j h. b (suc j) (omega arith)))
+
+each-size : (q : ℕ) (ls zs : List ℕ) → Each (λ p z. z < q) ls zs → length zs ≡ length ls
+each-size q [] [] rs = refl
+each-size q [] (z ∷ zs) rs = absurd rs
+each-size q (l ∷ ls) [] rs = absurd rs
+each-size q (l ∷ ls) (z ∷ zs) rs = ap suc (each-size q ls zs (rs .1))
+
+each-at : (R : ℕ → Type 0) (ls zs : List ℕ) → Each (λ p z. R z) ls zs → (j : ℕ) → j < length ls → R (getD zs j 0)
+each-at R [] zs rs j h = absurd (not-suc-le-zero h)
+each-at R (l ∷ ls) [] rs j h = absurd rs
+each-at R (l ∷ ls) (z ∷ zs) rs zero h = rs .0
+each-at R (l ∷ ls) (z ∷ zs) rs (suc j) h = each-at R ls zs (rs .1) j (le-of-suc-le-suc h)
+
+getD-columns : (m k : ℕ) (ls : List ℕ) (j : ℕ) → j < length ls → getD (map (λ l. column m l k) ls) j 0 ≡ column m (getD ls j 0) k
+getD-columns m k [] j h = absurd (not-suc-le-zero h)
+getD-columns m k (l ∷ ls) zero h = refl
+getD-columns m k (l ∷ ls) (suc j) h = getD-columns m k ls j (le-of-suc-le-suc h)
+
+-- ---- the system of a trial and the solver's answers
+
+-- the matrix a is that of the trial t of the word w; vs are the values that the solver gave
+module _ (m : ℕ) (t : Trial) (few : t .count ≤ unknowns) (a : List (List ℕ)) (A : SystemMatrix m (t .places) (t .count) (t .sums) a)
+    (vs w : List ℕ) (R : Ready m w t) where
+  F : IsField m
+  F = field-of m (R .width)
+
+  size : length (tried t) ≡ t .count
+  size = length-take-le (t .count) (t .places) (omega (arith, A .four))
+
+  entries : (k j : ℕ) → k < rows → j < columns → entry a k j ≡ systemEntry m (tried t) (at (t .sums) k) k j
+  entries k j h l = A .each k h .entries (R .width) j l
+
+  sum-lt : (k : ℕ) → k < rows → maskedSyndrome m (tried t) w k < order m
+  sum-lt k h = F .add-lt _ _ (masked-lt F (R .lent) k (omega (arith, F .one-lt))) (parity-lt F _ k)
+
+  sum-at : (k : ℕ) → k < rows → at (t .sums) k ≡ maskedSyndrome m (tried t) w k
+  sum-at k h = ap (λ (u : List ℕ). at u k) (R .sums) ∙ five-at (maskedSyndrome m (tried t) w) k h
+
+  entry-lt : (b k j : ℕ) → b < order m → systemEntry m (tried t) b k j < order m
+  entry-lt b k j h = go (eqb j 0) (leb j (length (tried t)))
+    where
+      go : (s t′ : Bool) → cond s b (cond t′ (column m (getD (tried t) (j - 1) 0) k) 0) < order m
+      go true t′ = h
+      go false true = column-lt F (getD (tried t) (j - 1) 0) k
+      go false false = omega (arith, F .one-lt)
+
+  matrix : Matrix m a
+  matrix = record {
+    tall = A .tall;
+    wide = λ k h. A .each k h .wide;
+    symbols = λ k j h l. subst (λ (x : ℕ). x < order m) (sym (entries k j h l))
+        (entry-lt (at (t .sums) k) k j (subst (λ (x : ℕ). x < order m) (sym (sum-at k h)) (sum-lt k h)));
+  }
+
+  columnsOf : ℕ → List ℕ
+  columnsOf k = map (λ l. column m l k) (tried t)
+
+  system : System a (t .count) (maskedSyndrome m (tried t) w) columnsOf
+  unfolding columnsOf
+  system = record {
+    right = λ k h. entries k 0 h (omega arith) ∙ sum-at k h;
+    left = λ k j h l.
+        entries k (j + 1) h (omega arith)
+        ∙ entry-at m (tried t) (at (t .sums) k) k (j + 1) (λ e. omega arith) (omega (arith, size))
+        ∙ ap (λ (i : ℕ). column m (getD (tried t) i 0) k) (back j)
+        ∙ sym (getD-columns m k (tried t) j (omega (arith, size)));
+  }
+    where
+      back : (j : ℕ) → j + 1 - 1 ≡ j
+      back j = omega arith
+
+  solution-meets : (zs : List ℕ) → Solution m w (tried t) zs → Values m (t .count) zs × Meets m (maskedSyndrome m (tried t) w) columnsOf zs
+  unfolding columnsOf
+  solution-meets zs S = (
+    record {
+      size = each-size (order m) (tried t) zs (S .values) ∙ size;
+      symbols = λ j h. each-at (λ z. z < order m) (tried t) zs (S .values) j (omega (arith, size));
+    },
+    λ k h. sym (combine-dot m (tried t) zs k) ∙ S .rows k h,
+  )
+
+  values-small : (zs : List ℕ) → Values m (t .count) zs → Each (λ p z. z < order m) (tried t) zs
+  values-small zs D = values-each (order m) (tried t) zs (D .size ∙ sym size) (λ j h. D .symbols j (omega (arith, size)))
+
+  meets-solution : (zs : List ℕ) → Values m (t .count) zs → Meets m (maskedSyndrome m (tried t) w) columnsOf zs → Solution m w (tried t) zs
+  unfolding columnsOf
+  meets-solution zs D S = record { values = values-small zs D; rows = λ k h. combine-dot m (tried t) zs k ∙ S k h }
+
+  -- no solution: no codeword agrees outside the places
+  tried-none : Means m None a (t .count) vs → NoneAt m w (tried t)
+  tried-none N c C G =
+      let S = solution-meets (map (at c) (tried t)) (codeword-solution F (R .lent) C G) in
+      system-none m F a (t .count) (maskedSyndrome m (tried t) w) columnsOf system vs N (map (at c) (tried t)) (S .0) (S .1)
+
+  -- one solution: the word filled with it is a codeword
+  tried-one : Means m One a (t .count) vs → Solution m w (tried t) (take (t .count) vs)
+  tried-one O =
+      meets-solution (take (t .count) vs) (O .values) (system-solved m F a (t .count) (maskedSyndrome m (tried t) w) columnsOf system vs O)
+
+  -- as many columns as are tried are never dependent
+  tried-dependent : Means m Dependent a (t .count) vs → ⊥
+  unfolding columnsOf
+  tried-dependent K =
+      K .nonzero
+      (each-at (λ z. z ≡ 0) (tried t) (K .kernel)
+      (independent F (distance m) (distance-of m (R .width)) (tried t) (K .kernel) (R .lent .distinct) (R .lent .below) (omega (arith, size))
+      (values-small (K .kernel) (K .values))
+      (λ k h. combine-dot m (tried t) (K .kernel) k ∙ system-kernel m F a (t .count) (maskedSyndrome m (tried t) w) columnsOf system vs K k h))
+      (K .place) (subst (λ (i : ℕ). K .place < i) (sym size) (K .below)))
+
+-- is it the answer that there is one solution?
+abbrev pub isOne : Solutions → Bool
+isOne None = false
+isOne One = true
+isOne Dependent = false
+
+module _ (m : ℕ) (t : Trial) (few : t .count ≤ unknowns) (a : List (List ℕ)) (A : SystemMatrix m (t .places) (t .count) (t .sums) a)
+    (vs : List ℕ) where
+  answered : (f : Solutions) → (isWidth m ≡ true → Matrix m a → Means m f a (t .count) vs) → (w : List ℕ) → Ready m w t
+      → Searched m w (tried t) 0 (NoneAt m w (tried t)) (record { found = isOne f; count = t .count; places = t .places; values = vs })
+  answered None S w R = record {
+    yes = λ g. absurd (false≢true g);
+    no = λ g. tried-none m t few a A vs w R (S (R .width) (matrix m t few a A vs w R));
+  }
+  answered One S w R = record {
+    yes = λ g. record {
+      below = R .lent .below;
+      codeword = solution-codeword (field-of m (R .width)) (R .lent) (tried-one m t few a A vs w R (S (R .width) (matrix m t few a A vs w R)));
+      extra = [];
+      few = le-refl 0;
+      agrees = λ p h o. fill-other w (tried t) (take (t .count) vs) p o;
+    };
+    no = λ g. absurd (true≢false g);
+  }
+  answered Dependent S w R = record {
+    yes = λ g. absurd (false≢true g);
+    no = λ g. absurd (tried-dependent m t few a A vs w R (S (R .width) (matrix m t few a A vs w R)));
+  }
+
+  -- the solver's answer g, known to be f, decides whether a codeword is found
+  pub attempted : (g : Solutions) → (isWidth m ≡ true → Matrix m a → Means m g a (t .count) vs) → (f : Solutions) → g ≡ f → (w : List ℕ) → Ready m w t
+      → Searched m w (tried t) 0 (NoneAt m w (tried t)) (record { found = isOne f; count = t .count; places = t .places; values = vs })
+  attempted g S f e = answered f (subst (λ (h : Solutions). isWidth m ≡ true → Matrix m a → Means m h a (t .count) vs) e S)

@@ -1,0 +1,237 @@
+-- From a search to the restored word: the word filled, its syndromes without the erasures, the count of changes, and the restorer's answer.
+-- Assumes nothing.
+use mathlib.Core.Path.{_≡_, refl, sym, ap, ap₂, _∙_, subst}
+use mathlib.Core.Logic.{_≢_}
+use mathlib.Core.Bool.{Bool, true, false, cond, _||_, or-true}
+use mathlib.Core.List.{List, [], _∷_}
+use Prim.Native.Nat.{ℕ, zero, suc, _+_, _-_, _≤_, _<_, zero-le}
+use native.Mathlib.Nat.{le-refl, le-trans}
+use native.Mathlib.Numerals.{add-one}
+use native.Mathlib.Omega.{arith}
+use borrow.Author.Tests.{eq-eqb}
+use lib.Dec.{eqb}
+use lib.ListN.{length, getD, set, take, drop, replicate, drop-of-length-le}
+use lib.Seq.{drop-cons, getD-take, take-set-lt, length-take-le}
+use Rattle.field.specs.Field.{order}
+use Rattle.field.specs.Question.{accepted, after, isWidth, allBelow}
+use Rattle.field.specs.declared.Question.the-variants.{Correctable}
+use Rattle.field.specs.declared.Question.{Question}
+use Rattle.field.specs.declared.Verdict.{Verdict}
+use Rattle.field.specs.declared.Verdict.the-variants.{Refused as RefusedBy}
+use Rattle.field.proofs.Widths.{field-of, order-small}
+use Rattle.code.specs.declared.Repair.{Repair}
+use Rattle.code.specs.declared.Repair.the-variants.{Restored, Refused}
+use Rattle.code.specs.declared.restorer.Trial.{Trial}
+use Rattle.code.specs.declared.restorer.Correction.{Correction}
+use Rattle.code.specs.Word.{five, places, at, syndrome, Codeword}
+use Rattle.code.specs.Erasure.{member, differ, total, changesBelow, changes, masked, maskedSyndrome}
+use Rattle.code.specs.Near.{radius, Restoration, none, one, restoration}
+use Rattle.code.specs.Call.{allZero, written, decided, restored, restoreAsked, repair, Restores}
+use Rattle.code.specs.Demands.{Passes, Near}
+use Rattle.code.specs.Correction.{fill, Lent, tried, Ready, corrected, Corrects, NoneWithin, Workable}
+use Rattle.code.proofs.Sums.{syndrome-cong}
+use Rattle.code.proofs.Horner.{five-cong}
+use Rattle.code.proofs.Questions.{allBelow-means, allBelow-holds}
+use Rattle.code.proofs.Unique.{differ-eq, differ-ne, differ-le}
+use Rattle.code.proofs.Filling.{Each, length-fill, fill-each, masked-lt, agrees-changes}
+use Rattle.code.proofs.Extra.{agrees-within}
+use Rattle.code.proofs.Passing.{five-zero, given}
+use Rattle.code.proofs.Restoring.{finds-one, finds-none}
+
+-- ---- a word copied and filled
+
+-- the word filled in a copy of it: a is the copy, b is filled
+module _ (w ls zs a b : List ℕ) (e : take (length w) a ≡ w) (f : take (length w) b ≡ fill (take (length w) a) ls zs) where
+  pub filled-word : take (length w) b ≡ fill w ls zs
+  filled-word = f ∙ ap (λ (x : List ℕ). fill x ls zs) e
+
+  pub filled-size : length w ≡ length (take (length w) b)
+  filled-size = sym (ap length filled-word ∙ length-fill w ls zs)
+
+-- filling from the last of the first c places xs to the first: the values from i on are in the row, whose first n bytes were the word w
+abbrev pub Put : ℕ → ℕ → List ℕ → List ℕ → List ℕ → List ℕ → ℕ → Type 0
+Put n c xs zs w row i = (i ≤ c) × (take n row ≡ fill w (drop i (take c xs)) (drop i (take c zs)))
+
+pub put-start : (n c : ℕ) (xs zs row : List ℕ) → c ≤ length xs → Put n c xs zs (take n row) row c
+unfolding fill
+put-start n c xs zs row l = (
+  le-refl c,
+  sym (ap (λ (u : List ℕ). fill (take n row) u (drop c (take c zs))) (drop-of-length-le (take c xs) {i = c} (omega (arith, length-take-le c xs l)))),
+)
+
+pub put-end : (n c : ℕ) (xs zs w row : List ℕ) (i : ℕ) → Put n c xs zs w row i → i ≡ 0 → take n row ≡ fill w (take c xs) (take c zs)
+put-end n c xs zs w row i P e = P .1 ∙ ap₂ (λ (j k : ℕ). fill w (drop j (take c xs)) (drop k (take c zs))) e e
+
+module _ (n c : ℕ) (xs zs : List ℕ) (lx : c ≤ length xs) (lz : c ≤ length zs) (b : allBelow n (take c xs) ≡ true)
+    (i : ℕ) (p : 0 < i) (h : i ≤ c) where
+  pub place-below : getD xs (i - 1) 0 < n
+  place-below =
+      subst (λ (x : ℕ). x < n) (getD-take c xs (i - 1) 0 (omega arith))
+      (allBelow-means n (take c xs) b (i - 1) (omega (arith, length-take-le c xs lx)))
+
+  -- the part from i - 1 on of the first c entries
+  part : (ys : List ℕ) → c ≤ length ys → drop (i - 1) (take c ys) ≡ getD ys (i - 1) 0 ∷ drop i (take c ys)
+  part ys l =
+      let back : suc (i - 1) ≡ i = omega arith in
+      drop-cons (take c ys) (i - 1) 0 (omega (arith, length-take-le c ys l))
+      ∙ ap₂ (λ (y k : ℕ). y ∷ drop k (take c ys)) (getD-take c ys (i - 1) 0 (omega arith)) back
+
+  pub put-on : (w row : List ℕ) → Put n c xs zs w row i → Put n c xs zs w (set row (getD xs (i - 1) 0) (getD zs (i - 1) 0)) (i - 1)
+  unfolding fill
+  put-on w row P = (
+    omega arith,
+    take-set-lt n row (getD xs (i - 1) 0) (getD zs (i - 1) 0) place-below
+        ∙ ap (λ (u : List ℕ). set u (getD xs (i - 1) 0) (getD zs (i - 1) 0)) (P .1)
+        ∙ sym (ap₂ (fill w) (part xs lx) (part zs lz)),
+  )
+
+-- ---- the syndromes without the erasures: those of the word with zeros there
+
+pub zero-values : (n j : ℕ) → at (take n (0 ∷ 0 ∷ 0 ∷ 0 ∷ [])) j ≡ 0
+zero-values n j = zeros-at n 4 j
+  where
+    zeros-at : (n k j : ℕ) → at (take n (replicate k 0)) j ≡ 0
+    zeros-at zero k j = refl
+    zeros-at (suc n) zero j = refl
+    zeros-at (suc n) (suc k) zero = refl
+    zeros-at (suc n) (suc k) (suc j) = zeros-at n k j
+
+zeros-each : (R : ℕ → ℕ → Type 0) (ls zs : List ℕ) → length zs ≡ length ls → ((j : ℕ) → getD zs j 0 ≡ 0) → ((p : ℕ) → member p ls ≡ true → R p 0)
+    → Each R ls zs
+zeros-each R [] [] e z r = tt
+zeros-each R [] (x ∷ zs) e z r = absurd (omega arith)
+zeros-each R (l ∷ ls) [] e z r = absurd (omega arith)
+zeros-each R (l ∷ ls) (x ∷ zs) e z r = (
+  subst (R l) (sym (z 0)) (r l (ap (λ (t : Bool). t || member l ls) (eq-eqb l l refl))),
+  zeros-each R ls zs (omega arith) (λ j. z (suc j)) (λ p h. r p (ap (λ (t : Bool). eqb p l || t) h ∙ or-true (eqb p l))),
+)
+
+-- u is the word w with the zeros zs at the places ls
+module _ (m : ℕ) (v : isWidth m ≡ true) (w ls zs u : List ℕ) (W : Lent m w ls) (size : length zs ≡ length ls) (z : (j : ℕ) → getD zs j 0 ≡ 0)
+    (e : u ≡ fill w ls zs) where
+  masked-at : (p : ℕ) → p < places m → at u p ≡ masked ls (at w) p
+  masked-at p h =
+      ap (λ (x : List ℕ). at x p) e
+      ∙ fill-each (λ q y. y ≡ masked ls (at w) q) w ls zs
+      (zeros-each (λ q y. y ≡ masked ls (at w) q) ls zs size z (λ q o. sym (ap (λ (t : Bool). cond t 0 (at w q)) o)))
+      p (omega (arith, W .size)) (λ o. sym (ap (λ (t : Bool). cond t 0 (at w p)) o))
+
+  masked-size : length u ≡ places m
+  masked-size = ap length e ∙ length-fill w ls zs ∙ W .size
+
+  masked-symbols : allBelow (order m) u ≡ true
+  masked-symbols = allBelow-holds (order m) u (λ p h.
+      subst (λ (x : ℕ). x < order m) (sym (masked-at p (omega (arith, masked-size)))) (masked-lt (field-of m v) W p (omega (arith, masked-size))))
+
+  -- s are its syndromes, if it is a word of the width
+  pub masked-sums : (s : List ℕ) → (length u ≡ places m → allBelow (order m) u ≡ true → s ≡ five (syndrome m (at u)))
+      → s ≡ five (maskedSyndrome m ls w)
+  masked-sums s f =
+      f masked-size masked-symbols
+      ∙ five-cong _ _ (λ k h. syndrome-cong (field-of m v) (at u) (masked ls (at w)) masked-at k h)
+
+-- with no erasures the word itself will do
+pub plain-sums : (m : ℕ) → isWidth m ≡ true → (w ls : List ℕ) → Lent m w ls → length ls ≡ 0
+    → (s : List ℕ) → (length w ≡ places m → allBelow (order m) w ≡ true → s ≡ five (syndrome m (at w))) → s ≡ five (maskedSyndrome m ls w)
+unfolding fill
+plain-sums m v w [] W e = masked-sums m v w [] [] w W refl (λ j. refl) refl
+plain-sums m v w (l ∷ ls) W e = absurd (omega arith)
+
+-- ---- the count of changes
+
+pub change-same : (t : Bool) (x y : ℕ) → x ≡ y → 0 ≡ cond t 0 (differ x y)
+change-same true x y e = refl
+change-same false x y e = sym (differ-eq x y e)
+
+pub change-erased : (t b : Bool) (x y : ℕ) → b ≡ t → b ≡ true → 0 ≡ cond t 0 (differ x y)
+change-erased t b x y e h = sym (ap (λ (s : Bool). cond s 0 (differ x y)) (sym e ∙ h))
+
+pub change-here : (t b : Bool) (x y : ℕ) → b ≡ t → b ≡ false → x ≢ y → 1 ≡ cond t 0 (differ x y)
+change-here t b x y e h n = sym (ap (λ (s : Bool). cond s 0 (differ x y)) (sym e ∙ h) ∙ differ-ne x y n)
+
+module _ (es w c : List ℕ) where
+  pub changes-none : 0 ≡ changesBelow 0 es w c
+  unfolding total
+  changes-none = refl
+
+  pub changes-on : (p k d : ℕ) → k ≡ changesBelow p es w c → d ≡ cond (member p es) 0 (differ (at w p) (at c p)) → k + d ≡ changesBelow (p + 1) es w c
+  unfolding total
+  changes-on p k d e f = ap₂ _+_ e f ∙ ap (λ (n : ℕ). changesBelow n es w c) (sym (add-one p))
+
+  -- no more changes than places
+  pub changes-le : (n : ℕ) → changesBelow n es w c ≤ n
+  unfolding total
+  changes-le zero = zero-le
+  changes-le (suc n) = omega (arith, changes-le n, go (member n es))
+    where
+      go : (t : Bool) → cond t 0 (differ (at w n) (at c n)) ≤ 1
+      go true = zero-le
+      go false = differ-le (at w n) (at c n)
+
+-- ---- the answer
+
+-- an earlier question was answered no
+pub restores-refused : (m : ℕ) (w es : List ℕ) (v : Verdict) (q : Question) → v ≡ restoreAsked m w es → v ≡ RefusedBy q → (new : List ℕ) → new ≡ w
+    → Restores m w es (Refused q) new
+restores-refused m w es v q e p new h =
+    let f : RefusedBy q ≡ restoreAsked m w es = sym p ∙ e in
+    record {
+      answer = ap (λ (u : Verdict). after u (decided m w es (restoration m es w))) f;
+      word = h ∙ ap (λ (u : Verdict). written u w (restored w (restoration m es w))) f;
+    }
+
+-- the questions before question 8 were answered yes
+module _ (m : ℕ) (w es : List ℕ) (P : Passes m w es) where
+  answers : (x : Restoration) → restoration m es w ≡ x → (r : Repair) (new : List ℕ) → repair r ≡ decided m w es x → new ≡ restored w x
+      → Restores m w es r new
+  answers x e r new a b = record {
+    answer = a ∙ ap (decided m w es) (sym e) ∙ sym (ap (λ (v : Verdict). after v (decided m w es (restoration m es w))) P);
+    word = b ∙ ap (restored w) (sym e) ∙ sym (ap (λ (v : Verdict). written v w (restored w (restoration m es w))) P);
+  }
+
+  near-answers : (c : List ℕ) → Near m es w c → (k : ℕ) (new : List ℕ) → k ≡ changes m es w c → new ≡ c → Restores m w es (Restored k) new
+  near-answers c N k new ek en = answers (one c) (finds-one m w es P c N) (Restored k) new (ap accepted ek) en
+
+  -- a correction was found and written
+  pub restores-found : (c : Correction) (k : ℕ) (new : List ℕ) → Corrects m w es (radius m (length es)) c → new ≡ corrected w c
+      → k ≡ changesBelow (length w) es w (corrected w c) → Restores m w es (Restored k) new
+  restores-found c k new C e f =
+      let few = agrees-within {w = w} (C .extra) (C .few) (C .codeword) (C .agrees) .few in
+      near-answers (corrected w c) (record { codeword = C .codeword; few = few }) k new
+      (f ∙ ap (λ (n : ℕ). changesBelow n es w (corrected w c)) (given m w es P .lent .size)) e
+
+  -- nothing is near
+  pub restores-none : NoneWithin m w es (radius m (length es)) → (new : List ℕ) → new ≡ w → Restores m w es (Refused Correctable) new
+  restores-none N new e = answers none (finds-none m w es P .1 (λ c D. N c (D .codeword) (D .few))) (Refused Correctable) new refl e
+
+  -- a codeword without erasures
+  pub restores-clean : (t : Trial) → tried t ≡ es → Ready m w t → length es ≡ 0 → allZero (t .sums) ≡ true → (new : List ℕ) → new ≡ w
+      → Restores m w es (Restored 0) new
+  restores-clean t et R l z new e =
+      near-answers w (record { codeword = word; few = le-trans still zero-le }) 0 new (omega (arith, still)) e
+    where
+      empty : (xs : List ℕ) → length xs ≡ 0 → xs ≡ []
+      empty [] l = refl
+      empty (x ∷ xs) l = absurd (omega arith)
+
+      still : changes m es w w ≤ 0
+      still = agrees-changes m es w w (λ p h o. refl)
+
+      word : Codeword m w
+      word = record {
+        size = R .lent .size;
+        symbols = λ p h. R .lent .symbols p h (ap (member p) (et ∙ empty es l));
+        zero-syndromes = λ k h.
+            sym (ap (λ (xs : List ℕ). maskedSyndrome m xs w k) (et ∙ empty es l))
+            ∙ five-zero (maskedSyndrome m (tried t) w) (sym (ap allZero (R .sums)) ∙ z) k h;
+      }
+
+  pub workable : Workable w es
+  workable =
+      let g = given m w es P in
+      record {
+        few = g .few;
+        long = omega (arith, g .lent .size, field-of m (g .width) .one-lt);
+        short = omega (arith, g .lent .size, order-small m (g .width));
+        below = subst (λ (n : ℕ). allBelow n es ≡ true) (sym (g .lent .size)) (g .lent .below);
+      }

@@ -1,0 +1,48 @@
+-- `code::place::column` meets its contract. Assumes nothing.
+use borrow.Author.Needs.{needs}
+use mathlib.Core.Path.{sym, ap, _∙_}
+use Prim.Native.Nat.{ℕ, _*_, _≤_}
+use native.Mathlib.Omega.{arith}
+use native.Mathlib.Nat.{mul-le-mul, lt-of-le-of-lt}
+use lib.Dec.{lit<}
+use Rattle.field.specs.Field.{power, α}
+use Rattle.field.proofs.Widths.{field-of}
+use Rattle.field.specs.declared.Exponent.{Exponent}
+use Rattle.code.specs.Place.{column}
+use Rattle.code.proofs.Columns.{column-unit, column-none, column-power}
+use Rattle.code.proofs.place.column.Statement.{statement}
+use Rattle.code.proofs.place.column.Tie as tie
+
+returns : tie.Need-returns
+returns c = λ w.
+    (let a = c .before .before .args in
+    sym (ap (λ (p : ℕ). column (a .width) p (a .k)) (c .if2 .taken) ∙ column-unit (a .width) (a .k) (search needs)))
+
+returns-2 : tie.Need-returns-2
+returns-2 c = λ w.
+    (let a = c .before .before .args in
+    sym (column-none (a .width) (a .p .0) (a .k) (c .before .if1 .taken) (c .if2 .left)))
+
+exponent-of-requires : tie.Need-exponent-of-requires
+exponent-of-requires c κs = search needs
+
+mul-raise : tie.Need-mul-raise
+mul-raise c =
+    let i : c .exponent-of .result .0 ≤ 255 = omega (arith, ap (λ (e : Exponent). e .0) (c .exponent-of .ensures)) in
+    let k : c .before .before .args .k ≤ 255 = omega arith in
+    record { fits = lt-of-le-of-lt (mul-le-mul k i) (lit< tt) }
+
+raise-requires : tie.Need-raise-requires
+raise-requires c κs = search needs
+
+returns-3 : tie.Need-returns-3
+returns-3 c = λ w.
+    (let a = c .before .before .before .args in
+    let m = a .width in
+    c .raise .ensures (record { width = w; symbol = field-of m w .α-lt })
+    ∙ ap (λ (i : ℕ). power m α (a .k * i)) (ap (λ (e : Exponent). e .0) (c .before .exponent-of .ensures))
+    ∙ sym (column-power m (a .p .0) (a .k) (c .before .before .if1 .left)))
+
+pub column-spec : {M : Type 1} → statement M
+column-spec =
+    tie.close (tie.spec returns returns-2 exponent-of-requires mul-raise raise-requires returns-3)

@@ -1,0 +1,106 @@
+-- What the functions below the restorer work on and give: a trial, which is places taken as erased, and a correction. This is vocabulary of
+-- internal contracts: the contracts of the public calls rest on Word, Erasure, Near, Call and Demands alone. Assumes nothing.
+use mathlib.Core.Path.{_≡_}
+use mathlib.Core.Bool.{true, false, cond}
+use mathlib.Core.List.{List, [], _∷_, _++_}
+use Prim.Native.Nat.{ℕ, _+_, _-_, _≤_, _<_}
+use lib.Dec.{eqb, leb}
+use lib.ListN.{length, getD, set, take}
+use Rattle.field.specs.Field.{order}
+use Rattle.field.specs.Question.{isWidth, allBelow}
+use Rattle.code.specs.declared.restorer.Trial.{Trial}
+use Rattle.code.specs.declared.restorer.Correction.{Correction}
+use Rattle.code.specs.Word.{checks, five, places, at, Codeword}
+use Rattle.code.specs.Place.{column}
+use Rattle.code.specs.Erasure.{member, distinct, changes, maskedSyndrome}
+use Rattle.code.specs.Matrix.{rows, columns, unknowns}
+
+-- the word with the values zs at the places ls
+unfoldable pub fill : List ℕ → List ℕ → List ℕ → List ℕ
+fill w [] zs = w
+fill w (l ∷ ls) [] = w
+fill w (l ∷ ls) (z ∷ zs) = set (fill w ls zs) l z
+
+-- c agrees with w outside the places ls
+abbrev pub Agrees : ℕ → List ℕ → List ℕ → List ℕ → Type 0
+Agrees m ls w c = (p : ℕ) → p < places m → member p ls ≡ false → at c p ≡ at w p
+
+-- a word of the right length with symbols outside the places ls, which are distinct places
+pub record Lent (m : ℕ) (w ls : List ℕ) : Type 0 where
+  pub size : length w ≡ places m
+  pub symbols : (p : ℕ) → p < places m → member p ls ≡ false → at w p < order m
+  pub distinct : distinct ls ≡ true
+  pub below : allBelow (places m) ls ≡ true
+
+-- ---- a trial: places taken as erased, the erasures and extra ones, with the syndromes of the rest
+
+-- the places of a trial
+abbrev pub tried : Trial → List ℕ
+tried t = take (t .count) (t .places)
+
+-- the trial is one of the word w
+pub record Ready (m : ℕ) (w : List ℕ) (t : Trial) : Type 0 where
+  pub width : isWidth m ≡ true
+  pub lent : Lent m w (tried t)
+  pub sums : t .sums ≡ five (maskedSyndrome m (tried t) w)
+
+-- the entry in row k and column j of the system of a trial: the right-hand side, then a column for each place, then zeros
+abbrev pub systemEntry : ℕ → List ℕ → ℕ → ℕ → ℕ → ℕ
+systemEntry m ls b k j = cond (eqb j 0) b (cond (leb j (length ls)) (column m (getD ls (j - 1) 0) k) 0)
+
+-- the row for syndrome k
+pub record SystemRow (m : ℕ) (ls : List ℕ) (b k : ℕ) (row : List ℕ) : Type 0 where
+  pub wide : length row ≡ columns
+  pub entries : isWidth m ≡ true → (j : ℕ) → j < columns → getD row j 0 ≡ systemEntry m ls b k j
+
+-- the matrix of a trial of the first n places
+pub record SystemMatrix (m : ℕ) (ps : List ℕ) (n : ℕ) (sums : List ℕ) (a : List (List ℕ)) : Type 0 where
+  pub four : length ps ≡ unknowns
+  pub tall : length a ≡ rows
+  pub each : (k : ℕ) → k < rows → SystemRow m (take n ps) (at sums k) k (getD a k [])
+
+-- ---- a correction: places, and the symbols that belong there
+
+-- the corrected word
+abbrev pub corrected : List ℕ → Correction → List ℕ
+corrected w c = fill w (take (c .count) (c .places)) (take (c .count) (c .values))
+
+-- the corrected word is a codeword, and agrees with w outside the places ls and at most n extra ones
+pub record Corrects (m : ℕ) (w ls : List ℕ) (n : ℕ) (c : Correction) : Type 0 where
+  pub below : allBelow (places m) (take (c .count) (c .places)) ≡ true
+  pub codeword : Codeword m (corrected w c)
+  pub extra : List ℕ
+  pub few : length extra ≤ n
+  pub agrees : Agrees m (extra ++ ls) w (corrected w c)
+
+-- no codeword agrees with w outside the places ls
+abbrev pub NoneAt : ℕ → List ℕ → List ℕ → Type 0
+NoneAt m w ls = (c : List ℕ) → Codeword m c → Agrees m ls w c → ⊥
+
+-- nor outside them and one extra place, the place `from` or a later one
+abbrev pub NoneBeside : ℕ → List ℕ → List ℕ → ℕ → Type 0
+NoneBeside m w ls from = (p : ℕ) → from ≤ p → p < places m → member p ls ≡ false → NoneAt m w (p ∷ ls)
+
+-- nor outside them and two extra places
+abbrev pub NoneBesideTwo : ℕ → List ℕ → List ℕ → Type 0
+NoneBesideTwo m w ls = (p : ℕ) → p < places m → member p ls ≡ false → NoneBeside m w (p ∷ ls) (p + 1)
+
+-- a search for a correction with at most n extra places: one is found, or Far holds
+pub record Searched (m : ℕ) (w ls : List ℕ) (n : ℕ) (Far : Type 0) (c : Correction) : Type 0 where
+  pub yes : c .found ≡ true → Corrects m w ls n c
+  pub no : c .found ≡ false → Far
+
+-- no codeword differs from w, outside the erasures, at r places or fewer
+abbrev pub NoneWithin : ℕ → List ℕ → List ℕ → ℕ → Type 0
+NoneWithin m w es r = (c : List ℕ) → Codeword m c → changes m es w c ≤ r → ⊥
+
+-- the longest word, at width 7
+abbrev pub longest : ℕ
+longest = 132
+
+-- a word and erasures that can be worked on without leaving the memory lent
+pub record Workable (w es : List ℕ) : Type 0 where
+  pub few : length es ≤ unknowns
+  pub long : checks ≤ length w
+  pub short : length w ≤ longest
+  pub below : allBelow (length w) es ≡ true

@@ -1,0 +1,453 @@
+// The restorer by trials: the erasures, and one or two extra places, are taken as erased, and the linear system of their columns is
+// solved. These functions are no entry points.
+ghost use mathlib.Core.Path.{_≡_};
+ghost use mathlib.Core.Bool.{true, false, cond};
+ghost use mathlib.Core.List.{List, _∷_};
+ghost use Prim.Native.Nat.{ℕ, _+_, _≤_, _<_};
+ghost use lib.ListN.{length, take};
+ghost use Rattle.field.specs.Polynomial.{add};
+ghost use Rattle.field.specs.Field.{order, product};
+ghost use Rattle.field.specs.Question.{isWidth, allBelow};
+ghost use Rattle.code.specs.Word.{checks, five, places, at};
+ghost use Rattle.code.specs.Place.{column as columnM};
+ghost use Rattle.code.specs.Erasure.{member, differ, changesBelow, maskedSyndrome};
+ghost use Rattle.code.specs.Call.{allZero};
+ghost use Rattle.code.specs.Matrix.{unknowns};
+ghost use Rattle.code.specs.Correction.{fill, Lent, tried, Ready, systemEntry, SystemRow, SystemMatrix, corrected};
+ghost use Rattle.code.specs.Correction.{NoneAt, NoneBeside, NoneBesideTwo, Searched, NoneWithin, longest, Workable};
+use crate::place::Place;
+use crate::place::column;
+use crate::question::all_zero;
+use crate::question::contains;
+use crate::slice::copy;
+use crate::solver::Solutions;
+use crate::solver::solve;
+use crate::syndrome::syndromes;
+use field::arithmetic::multiply;
+
+// Places taken as erased, the first `count` of them, and the five syndromes of the other places.
+pub struct Trial {
+    pub places: [u8; 4],
+    pub count: usize,
+    pub sums: [u8; 5],
+}
+
+// Whether a codeword was found, and the symbols that belong at the first `count` places.
+pub struct Correction {
+    pub found: bool,
+    pub count: usize,
+    pub places: [u8; 4],
+    pub values: [u8; 4],
+}
+
+// The entry in row k and column j of the system of a trial.
+fn entry_of(width: u8, places: [u8; 4], count: usize, sum: u8, k: u8, j: usize) -> u8
+    requires { ⌜ count ≤ unknowns ⌝ }
+    ensures { λ r. ⌜ (isWidth width ≡ true → r ≡ systemEntry width (take count places) sum k j) ⌝ }
+{
+    if j == 0 {
+        return sum;
+    }
+    if j <= count {
+        return column(width, Place(places[j - 1]), k);
+    }
+    0
+}
+
+// Row k of the system of a trial.
+fn row_of(width: u8, places: [u8; 4], count: usize, sum: u8, k: u8) -> [u8; 5]
+    requires { ⌜ count ≤ unknowns ⌝ }
+    ensures { λ r. ⌜ SystemRow width (take count places) sum k r ⌝ }
+{
+    let mut row = [0u8; 5];
+    let mut j = 0;
+    while j < 5 {
+        row[j] = entry_of(width, places, count, sum, k, j);
+        j += 1;
+    }
+    row
+}
+
+// The system of a trial: the columns at its places, and its syndromes on the right.
+fn matrix_of(width: u8, places: [u8; 4], count: usize, sums: [u8; 5]) -> [[u8; 5]; 5]
+    requires { ⌜ count ≤ unknowns ⌝ }
+    ensures { λ r. ⌜ SystemMatrix width places count sums r ⌝ }
+{
+    let r0 = row_of(width, places, count, sums[0], 0);
+    let r1 = row_of(width, places, count, sums[1], 1);
+    let r2 = row_of(width, places, count, sums[2], 2);
+    let r3 = row_of(width, places, count, sums[3], 3);
+    let r4 = row_of(width, places, count, sums[4], 4);
+    [r0, r1, r2, r3, r4]
+}
+
+// The codeword that agrees with the word outside the places of the trial, if there is one.
+pub fn attempt(width: u8, t: Trial) -> Correction
+    requires { ⌜ t .count ≤ unknowns ⌝ }
+    ensures { λ r. ⌜ (r .count ≤ unknowns) × ((w : List ℕ) → Ready width w t → Searched width w (tried t) 0 (NoneAt width w (tried t)) r) ⌝ }
+{
+    let places = t.places;
+    let count = t.count;
+    let sums = t.sums;
+    let s = solve(width, matrix_of(width, places, count, sums), count);
+    let solutions = s.found;
+    let values = s.values;
+    match solutions {
+        Solutions::One => Correction {
+            found: true,
+            count,
+            places,
+            values,
+        },
+        Solutions::None => Correction {
+            found: false,
+            count,
+            places,
+            values,
+        },
+        Solutions::Dependent => Correction {
+            found: false,
+            count,
+            places,
+            values,
+        },
+    }
+}
+
+// No correction.
+fn nothing() -> Correction
+    ensures { λ r. ⌜ (r .count ≤ unknowns) × (r .found ≡ false) ⌝ }
+{
+    Correction {
+        found: false,
+        count: 0,
+        places: [0; 4],
+        values: [0; 4],
+    }
+}
+
+// The first `count` places with p in front.
+fn prepended(places: [u8; 4], count: usize, p: u8) -> [u8; 4]
+    requires { ⌜ count < unknowns ⌝ }
+    ensures { λ r. ⌜ take (count + 1) r ≡ p ∷ take count places ⌝ }
+{
+    let mut out = [p; 4];
+    let mut j = 0;
+    while j < count {
+        out[j + 1] = places[j];
+        j += 1;
+    }
+    out
+}
+
+// Row k of the column at place p, times x.
+fn column_times(width: u8, p: u8, k: u8, x: u8) -> u8
+    ensures { λ r. ⌜ (isWidth width ≡ true → x < order width → r ≡ product width (columnM width p k) x) ⌝ }
+{
+    multiply(width, column(width, Place(p), k), x)
+}
+
+// The syndromes without the symbol x at place p.
+fn masked(width: u8, sums: [u8; 5], p: u8, x: u8) -> [u8; 5]
+    ensures { λ r.
+        ⌜
+        (
+        isWidth width ≡ true → x < order width
+        → r ≡ five (λ k. add (at sums k) (product width (columnM width p k) x))
+        )
+        ⌝ }
+{
+    let a0 = column_times(width, p, 0, x);
+    let a1 = column_times(width, p, 1, x);
+    let a2 = column_times(width, p, 2, x);
+    let a3 = column_times(width, p, 3, x);
+    let a4 = column_times(width, p, 4, x);
+    [
+        sums[0] ^ a0,
+        sums[1] ^ a1,
+        sums[2] ^ a2,
+        sums[3] ^ a3,
+        sums[4] ^ a4,
+    ]
+}
+
+// The trial with one more place p, where the word holds x.
+fn extended(width: u8, t: Trial, p: u8, x: u8) -> Trial
+    requires { ⌜ t .count < unknowns ⌝ }
+    ensures { λ r.
+        ⌜
+        (r .count ≡ t .count + 1)
+        × ((w : List ℕ) → Ready width w t → p < places width → member p (tried t) ≡ false → x ≡ at w p → (tried r ≡ p ∷ tried t) × Ready width w r)
+        ⌝ }
+{
+    let places = t.places;
+    let count = t.count;
+    let sums = t.sums;
+    Trial {
+        places: prepended(places, count, p),
+        count: count + 1,
+        sums: masked(width, sums, p, x),
+    }
+}
+
+// Is p one of the first `count` places?
+fn listed(places: [u8; 4], count: usize, p: u8) -> bool
+    requires { ⌜ count ≤ unknowns ⌝ }
+    ensures { λ r. ⌜ r ≡ member p (take count places) ⌝ }
+{
+    contains(&places[..count], p)
+}
+
+// The trial with the extra place p.
+fn try_place(width: u8, word: &[u8], t: Trial, p: usize) -> Correction
+    requires { ⌜ (t .count < unknowns) × (p < length (now word)) × (length (now word) ≤ 256) ⌝ }
+    ensures { λ r.
+        ⌜
+        (r .count ≤ unknowns)
+        × (Ready width (now (word .entry)) t
+        → Searched width (now (word .entry)) (tried t) 1 (member p (tried t) ≡ false → NoneAt width (now (word .entry)) (p ∷ tried t)) r)
+        ⌝ }
+{
+    let q = p as u8;
+    let places = t.places;
+    let count = t.count;
+    if listed(places, count, q) {
+        return nothing();
+    }
+    attempt(width, extended(width, t, q, word[p]))
+}
+
+// A correction with one extra place, the place `from` or a later one.
+pub fn try_one(width: u8, word: &[u8], t: Trial, from: usize) -> Correction
+    requires { ⌜ (t .count < unknowns) × (length (now word) ≤ 256) ⌝ }
+    ensures { λ r.
+        ⌜
+        (r .count ≤ unknowns)
+        × (Ready width (now (word .entry)) t
+        → Searched width (now (word .entry)) (tried t) 1 (NoneBeside width (now (word .entry)) (tried t) from) r)
+        ⌝ }
+{
+    let mut p = from;
+    while p < word.len() {
+        let c = try_place(width, word, t, p);
+        let found = c.found;
+        if found {
+            return c;
+        }
+        p += 1;
+    }
+    nothing()
+}
+
+// The trial with the extra place p and a later one.
+fn try_after(width: u8, word: &[u8], t: Trial, p: usize) -> Correction
+    requires { ⌜ (t .count + 1 < unknowns) × (p < length (now word)) × (length (now word) ≤ 256) ⌝ }
+    ensures { λ r.
+        ⌜
+        (r .count ≤ unknowns)
+        × (Ready width (now (word .entry)) t
+        → Searched width (now (word .entry)) (tried t) 2 (member p (tried t) ≡ false → NoneBeside width (now (word .entry)) (p ∷ tried t) (p + 1)) r)
+        ⌝ }
+{
+    let q = p as u8;
+    let places = t.places;
+    let count = t.count;
+    if listed(places, count, q) {
+        return nothing();
+    }
+    let u = extended(width, t, q, word[p]);
+    try_one(width, word, u, p + 1)
+}
+
+// A correction with two extra places.
+pub fn try_two(width: u8, word: &[u8], t: Trial) -> Correction
+    requires { ⌜ (t .count + 1 < unknowns) × (length (now word) ≤ 256) ⌝ }
+    ensures { λ r.
+        ⌜
+        (r .count ≤ unknowns)
+        × (Ready width (now (word .entry)) t
+        → Searched width (now (word .entry)) (tried t) 2 (NoneBesideTwo width (now (word .entry)) (tried t)) r)
+        ⌝ }
+{
+    let mut p = 0;
+    while p < word.len() {
+        let c = try_after(width, word, t, p);
+        let found = c.found;
+        if found {
+            return c;
+        }
+        p += 1;
+    }
+    nothing()
+}
+
+// A correction with at most `reach` extra places.
+pub fn find(width: u8, word: &[u8], t: Trial, reach: usize) -> Correction
+    requires { ⌜ (t .count + reach ≤ unknowns) × (reach ≤ 2) × (length (now word) ≤ 256) ⌝ }
+    ensures { λ r.
+        ⌜
+        (r .count ≤ unknowns)
+        × (Ready width (now (word .entry)) t
+        → Searched width (now (word .entry)) (tried t) reach (NoneWithin width (now (word .entry)) (tried t) reach) r)
+        ⌝ }
+{
+    let c = attempt(width, t);
+    let exact = c.found;
+    if exact {
+        return c;
+    }
+    if reach == 0 {
+        return nothing();
+    }
+    let d = try_one(width, word, t, 0);
+    let beside = d.found;
+    if beside {
+        return d;
+    }
+    if reach == 1 {
+        return nothing();
+    }
+    try_two(width, word, t)
+}
+
+// The word, copied to the front of an array that has room for the longest.
+fn copied(word: &[u8]) -> [u8; 132]
+    requires { ⌜ length (now word) ≤ longest ⌝ }
+    ensures { λ r. ⌜ take (length (now (word .entry))) r ≡ now (word .entry) ⌝ }
+{
+    let mut out = [0u8; 132];
+    let n = word.len();
+    copy(&mut out[..n], word);
+    out
+}
+
+// The values put in at the first `count` places of the row, whose first n bytes are the word.
+fn filled(row: [u8; 132], n: usize, places: [u8; 4], count: usize, values: [u8; 4]) -> [u8; 132]
+    requires { ⌜ (count ≤ unknowns) × (n ≤ longest) × (allBelow n (take count places) ≡ true) ⌝ }
+    ensures { λ r. ⌜ take n r ≡ fill (take n row) (take count places) (take count values) ⌝ }
+{
+    let mut out = row;
+    let mut i = count;
+    while 0 < i {
+        i -= 1;
+        let p = places[i] as usize;
+        out[p] = values[i];
+    }
+    out
+}
+
+// The five syndromes of the word without the symbols at the first `count` places: zeros take their place.
+fn masked_sums(width: u8, word: &[u8], places: [u8; 4], count: usize) -> [u8; 5]
+    requires { ⌜
+        (count ≤ unknowns) × (checks ≤ length (now word)) × (length (now word) ≤ longest)
+        × (allBelow (length (now word)) (take count places) ≡ true)
+        ⌝ }
+    ensures { λ r.
+        ⌜
+        (
+        isWidth width ≡ true → Lent width (now (word .entry)) (take count places)
+        → r ≡ five (maskedSyndrome width (take count places) (now (word .entry)))
+        )
+        ⌝ }
+{
+    let n = word.len();
+    let row = filled(copied(word), n, places, count, [0; 4]);
+    syndromes(width, &row[..n])
+}
+
+// The erasures, copied to the front of an array that has room for four.
+fn row_of_places(erasures: &[u8]) -> [u8; 4]
+    requires { ⌜ length (now erasures) ≤ unknowns ⌝ }
+    ensures { λ r. ⌜ take (length (now (erasures .entry))) r ≡ now (erasures .entry) ⌝ }
+{
+    let mut out = [0u8; 4];
+    let n = erasures.len();
+    copy(&mut out[..n], erasures);
+    out
+}
+
+// The trial of the erasures alone.
+pub fn started(width: u8, word: &[u8], erasures: &[u8]) -> Trial
+    requires { ⌜ Workable (now word) (now erasures) ⌝ }
+    ensures { λ r.
+        ⌜
+        (r .count ≡ length (now (erasures .entry)))
+        × (tried r ≡ now (erasures .entry))
+        × (isWidth width ≡ true → Lent width (now (word .entry)) (now (erasures .entry)) → Ready width (now (word .entry)) r)
+        ⌝ }
+{
+    let places = row_of_places(erasures);
+    let count = erasures.len();
+    if count == 0 {
+        let sums = syndromes(width, word);
+        return Trial {
+            places,
+            count,
+            sums,
+        };
+    }
+    let sums = masked_sums(width, word, places, count);
+    Trial {
+        places,
+        count,
+        sums,
+    }
+}
+
+// Has the trial no places, and are its syndromes zero? Then the word is a codeword.
+pub fn is_clean(t: Trial) -> bool
+    ensures { λ r. ⌜ (r ≡ true → (t .count ≡ 0) × (allZero (t .sums) ≡ true)) ⌝ }
+{
+    let count = t.count;
+    if 0 < count {
+        return false;
+    }
+    let sums = t.sums;
+    all_zero(&sums)
+}
+
+// 1 where the symbols at place p differ and p is not erased, else 0.
+fn change_at(erasures: &[u8], p: u8, x: u8, y: u8) -> u8
+    ensures { λ r. ⌜ r ≡ cond (member p (now (erasures .entry))) 0 (differ x y) ⌝ }
+{
+    if x == y {
+        return 0;
+    }
+    if contains(erasures, p) {
+        return 0;
+    }
+    1
+}
+
+// The number of places outside the erasures at which the words differ.
+pub fn count_changes(word: &[u8], other: &[u8], erasures: &[u8]) -> u8
+    requires { ⌜ (length (now word) ≡ length (now other)) × (length (now word) ≤ longest) ⌝ }
+    ensures { λ r. ⌜ r ≡ changesBelow (length (now (word .entry))) (now (erasures .entry)) (now (word .entry)) (now (other .entry)) ⌝ }
+{
+    let mut k: u8 = 0;
+    let mut p = 0;
+    while p < word.len() {
+        k += change_at(erasures, p as u8, word[p], other[p]);
+        p += 1;
+    }
+    k
+}
+
+// Writes the corrected word, and counts the changes outside the erasures.
+pub fn write(word: &mut [u8], erasures: &[u8], c: Correction) -> u8
+    requires { ⌜ (c .count ≤ unknowns) × (length (now word) ≤ longest) × (allBelow (length (now word)) (take (c .count) (c .places)) ≡ true) ⌝ }
+    ensures { λ r.
+        ⌜
+        (now (word .exit) ≡ corrected (now (word .entry)) c)
+        × (r ≡ changesBelow (length (now (word .entry))) (now (erasures .entry)) (now (word .entry)) (corrected (now (word .entry)) c))
+        ⌝ }
+{
+    let places = c.places;
+    let count = c.count;
+    let values = c.values;
+    let n = word.len();
+    let row = filled(copied(word), n, places, count, values);
+    let k = count_changes(word, &row[..n], erasures);
+    copy(word, &row[..n]);
+    k
+}

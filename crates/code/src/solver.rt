@@ -1,0 +1,150 @@
+// A solver of linear systems over the field: Gauss-Jordan elimination with a search for each pivot. These functions are no entry points:
+// each is safe on all bytes, and says what it gives for symbols at a width of the field.
+ghost use mathlib.Core.Path.{_≡_};
+ghost use mathlib.Core.Bool.{true};
+ghost use Prim.Native.Nat.{_≤_, _<_};
+ghost use lib.ListN.{take};
+ghost use Rattle.field.specs.Question.{isWidth};
+ghost use Rattle.field.specs.Answer.{Operand};
+ghost use Rattle.code.specs.Matrix.{rows, unknowns, columns, Matrix, Operands, rowAdd, scale, Cleared, swapped, Pivot, columnOf, Means};
+use field::arithmetic::invert;
+use field::arithmetic::multiply;
+
+// The shape of a matrix: a row for each equation, with the right-hand side in column 0 and then a column for each unknown.
+const ROWS: usize = 5;
+
+const UNKNOWNS: usize = 4;
+
+const COLUMNS: usize = UNKNOWNS + 1;
+
+// How many solutions a system has: none, one, or, where the columns of the unknowns are dependent, none or several.
+pub enum Solutions {
+    None,
+    One,
+    Dependent,
+}
+
+// With one solution, its values are the first of the values, one for each unknown; with none or several the values say nothing.
+pub struct Solution {
+    pub found: Solutions,
+    pub values: [u8; UNKNOWNS],
+}
+
+// The row with k times the row `by` added.
+fn add_row(width: u8, row: [u8; COLUMNS], k: u8, by: [u8; COLUMNS]) -> [u8; COLUMNS]
+    ensures { λ r. ⌜ (Operand width k → Operands width by → r ≡ rowAdd width row k by) ⌝ }
+{
+    let mut out = row;
+    let mut j = 0;
+    while j < COLUMNS {
+        out[j] = row[j] ^ multiply(width, k, by[j]);
+        j += 1;
+    }
+    out
+}
+
+// k times the row.
+fn scale_row(width: u8, k: u8, row: [u8; COLUMNS]) -> [u8; COLUMNS]
+    ensures { λ r. ⌜ (Operand width k → Operands width row → r ≡ scale width k row) ⌝ }
+{
+    let mut out = row;
+    let mut j = 0;
+    while j < COLUMNS {
+        out[j] = multiply(width, k, row[j]);
+        j += 1;
+    }
+    out
+}
+
+// Column c becomes 1 in row p, whose symbol there is not 0, and 0 in every other row.
+fn clear_column(width: u8, a: [[u8; COLUMNS]; ROWS], c: usize, p: usize) -> [[u8; COLUMNS]; ROWS]
+    requires { ⌜ (c < columns) × (p < rows) ⌝ }
+    ensures { λ r. ⌜ (isWidth width ≡ true → Matrix width a → Cleared width a c p r) ⌝ }
+{
+    let pivot = a[p];
+    let k = invert(width, pivot[c]);
+    let unit = scale_row(width, k, pivot);
+    let mut out = a;
+    let mut i = 0;
+    while i < ROWS {
+        let row = a[i];
+        out[i] = add_row(width, row, row[c], unit);
+        i += 1;
+    }
+    out[p] = unit;
+    out
+}
+
+// The matrix with rows i and p exchanged.
+fn swap_rows(a: [[u8; COLUMNS]; ROWS], i: usize, p: usize) -> [[u8; COLUMNS]; ROWS]
+    requires { ⌜ (i < rows) × (p < rows) ⌝ }
+    ensures { λ r. ⌜ r ≡ swapped a i p ⌝ }
+{
+    let x = a[i];
+    let y = a[p];
+    let mut out = a;
+    out[i] = y;
+    out[p] = x;
+    out
+}
+
+// The first row, from row r on, whose symbol in column c is not 0, or the number of rows.
+fn find_pivot(a: [[u8; COLUMNS]; ROWS], c: usize, r: usize) -> usize
+    requires { ⌜ (c < columns) × (r ≤ rows) ⌝ }
+    ensures { λ p. ⌜ Pivot a c r p ⌝ }
+{
+    let mut p = r;
+    while p < ROWS {
+        if a[p][c] != 0 {
+            return p;
+        }
+        p += 1;
+    }
+    ROWS
+}
+
+// The right-hand sides of as many rows as there can be unknowns: at the end of the elimination, the values of the unknowns.
+fn first_column(a: [[u8; COLUMNS]; ROWS]) -> [u8; UNKNOWNS]
+    ensures { λ r. ⌜ r ≡ take unknowns (columnOf a 0) ⌝ }
+{
+    let mut out = [0; UNKNOWNS];
+    let mut i = 0;
+    while i < UNKNOWNS {
+        out[i] = a[i][0];
+        i += 1;
+    }
+    out
+}
+
+// Solves the system a in its first s unknowns. Each unknown in turn gets a row, whose symbol in the unknown's column is not 0, and is
+// cleared from all the others. The rows that are left have no unknown, so that their right-hand sides have to be 0.
+pub fn solve(width: u8, a: [[u8; COLUMNS]; ROWS], s: usize) -> Solution
+    requires { ⌜ s ≤ unknowns ⌝ }
+    ensures { λ r. ⌜ (isWidth width ≡ true → Matrix width a → Means width (r .found) a s (r .values)) ⌝ }
+{
+    let mut t = a;
+    let mut c = 0;
+    while c < s {
+        let p = find_pivot(t, c + 1, c);
+        if p == ROWS {
+            return Solution {
+                found: Solutions::Dependent,
+                values: [0; UNKNOWNS],
+            };
+        }
+        let u = swap_rows(t, c, p);
+        t = clear_column(width, u, c + 1, c);
+        c += 1;
+    }
+    let p = find_pivot(t, 0, s);
+    if p == ROWS {
+        return Solution {
+            found: Solutions::One,
+            values: first_column(t),
+        };
+    }
+    Solution {
+        found: Solutions::None,
+        values: [0; UNKNOWNS],
+    }
+}

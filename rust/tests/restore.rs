@@ -1,0 +1,361 @@
+//! The restorer against a search of the reference: the cases of document 01, every syndrome at width 3, random words, and every refusal.
+
+mod reference;
+mod tools;
+
+use reference::{items, order, places, search};
+use tools::{encode, restore_word, restore_word_within, Chance};
+use xrs::Refusal::{self, Correctable, ErasureCount, ErasureDistinct, ErasurePlace, Length, Symbol, Width};
+
+const WIDTHS: [u8; 3] = [3, 5, 7];
+const BAD_WIDTHS: [u8; 8] = [0, 1, 2, 4, 6, 8, 128, 255];
+
+type Answer = (Result<u8, Refusal>, Vec<u8>);
+
+/// Fails unless the answer and the bytes afterwards are those of the reference.
+fn compare(width: u8, word: &[u8], marks: &[u8], (answer, after): &Answer) {
+    let wanted = match search::restore(width, word, marks) {
+        Ok((count, restored)) => (Ok(count), restored),
+        Err(number) => (Err(Refusal::from_number(number).expect("a refusal number")), word.to_vec()),
+    };
+    assert!((answer, after) == (&wanted.0, &wanted.1), "width {width}, marks {marks:?}, {word:?}: {answer:?}, {after:?}, not {wanted:?}");
+}
+
+/// The restorer's answer and the word afterwards, compared with the reference.
+fn restored(width: u8, word: &[u8], marks: &[u8]) -> Answer {
+    let result = restore_word(width, word, marks);
+    compare(width, word, marks, &result);
+    result
+}
+
+/// A codeword of random data.
+fn random_codeword(chance: &mut Chance, width: u8) -> Vec<u8> {
+    let data = chance.symbols(items(width), order(width));
+    let (answer, word) = encode(width, &data, &vec![0; places(width)]);
+    assert_eq!(answer, Ok(()));
+    word
+}
+
+/// The word with another symbol at each of the places.
+fn spoiled(chance: &mut Chance, width: u8, word: &[u8], at: &[u8]) -> Vec<u8> {
+    let mut wrong = word.to_vec();
+    for &place in at {
+        wrong[place as usize] ^= 1 + chance.below(order(width) - 1) as u8;
+    }
+    wrong
+}
+
+#[test]
+fn cases_f_to_n() {
+    let zeros = [0; 12];
+    let word_c = [1, 2, 4, 3, 6, 0, 1, 0, 0, 0, 0, 0];
+    let word_d = [1, 0, 0, 0, 0, 1, 1, 1, 1, 1, 1, 1];
+    let but = |symbols: &[(usize, u8)]| {
+        let mut word = zeros;
+        symbols.iter().for_each(|&(place, symbol)| word[place] = symbol);
+        word
+    };
+    let accepted: [(char, [u8; 12], &[u8], u8, [u8; 12]); 5] = [
+        ('F', but(&[(5, 1)]), &[], 1, zeros),
+        ('G', but(&[(0, 7), (5, 7)]), &[], 2, zeros),
+        ('J', but(&[(7, 5)]), &[0, 1], 1, zeros),
+        ('L', word_d, &[5], 0, word_d),
+        ('M', [1, 2, 0, 3, 6, 0, 0, 0, 0, 0, 0, 0], &[2, 5, 6, 8], 0, word_c),
+    ];
+    for (name, word, marks, count, after) in accepted {
+        assert_eq!(restored(3, &word, marks), (Ok(count), after.to_vec()), "case {name}");
+    }
+    let refused: [(char, [u8; 12], &[u8]); 4] = [
+        ('H', but(&[(0, 1), (1, 1), (2, 1)]), &[]),
+        ('I', but(&[(1, 1), (2, 1)]), &[0]),
+        ('K', but(&[(7, 5)]), &[0, 1, 2]),
+        ('N', but(&[(4, 1)]), &[0, 1, 2, 3]),
+    ];
+    for (name, word, marks) in refused {
+        assert_eq!(restored(3, &word, marks), (Err(Correctable), word.to_vec()), "case {name}");
+    }
+}
+
+/// Restores the words of width 3 with all check symbols and zero data: they have all syndromes. The marked places hold any bytes. Each
+/// pattern of errors that can be undone has syndromes of its own, since the distance is 5, so it is known how many are accepted.
+fn every_syndrome(chance: &mut Chance, marks: &[u8]) {
+    let mut accepted = 0;
+    for number in 0..8usize.pow(5) {
+        let mut word: [u8; 12] = std::array::from_fn(|place| if place < 5 { (number >> (3 * place) & 7) as u8 } else { 0 });
+        for &mark in marks {
+            word[mark as usize] = chance.below(256) as u8;
+        }
+        let result = restore_word_within(number as u8, 3, &word, marks);
+        compare(3, &word, marks, &result);
+        accepted += result.0.is_ok() as usize;
+    }
+    let others = 12 - marks.len();
+    let beside_the_marks = match marks.len() {
+        0 => 1 + 7 * others + 49 * others * (others - 1) / 2,
+        1 | 2 => 1 + 7 * others,
+        _ => 1,
+    };
+    assert_eq!(accepted, 8usize.pow(marks.len() as u32) * beside_the_marks, "marks {marks:?}");
+}
+
+#[test]
+fn every_syndrome_without_marks() {
+    every_syndrome(&mut Chance::new(), &[]);
+}
+
+#[test]
+fn every_syndrome_with_one_mark() {
+    let mut chance = Chance::new();
+    for mark in 0..12 {
+        every_syndrome(&mut chance, &[mark]);
+    }
+}
+
+#[test]
+fn every_syndrome_with_two_marks() {
+    let mut chance = Chance::new();
+    for first in 0..12 {
+        for second in 0..first {
+            every_syndrome(&mut chance, &[first, second]);
+        }
+    }
+}
+
+#[test]
+fn every_syndrome_with_three_or_four_marks() {
+    let mut chance = Chance::new();
+    for round in 0..40 {
+        let marks = chance.places(3 + round % 2, 12);
+        every_syndrome(&mut chance, &marks);
+    }
+}
+
+/// Codewords with `marked` places that hold any bytes and `wrong` other symbols changed.
+fn words_near_codewords(width: u8, rounds: usize) {
+    let mut chance = Chance::new();
+    let mut seen = [0; 4];
+    for round in 0..rounds {
+        let (marked, wrong) = (round % 5, round / 5 % 4);
+        let codeword = random_codeword(&mut chance, width);
+        let chosen = chance.places(marked + wrong, places(width));
+        let (marks, others) = chosen.split_at(marked);
+        let mut word = spoiled(&mut chance, width, &codeword, others);
+        for &mark in marks {
+            word[mark as usize] = chance.below(256) as u8;
+        }
+        let result = restored(width, &word, marks);
+        if marked + 2 * wrong <= 4 {
+            assert_eq!(result, (Ok(wrong as u8), codeword), "{word:?}, marks {marks:?}");
+        }
+        seen[result.0.map_or(3, |count| count as usize)] += 1;
+    }
+    assert!(seen.iter().all(|&count| count > rounds / 40), "all answers were tried: {seen:?}");
+}
+
+#[test]
+fn words_near_codewords_of_width_5() {
+    words_near_codewords(5, 16000);
+}
+
+#[test]
+fn words_near_codewords_of_width_7() {
+    words_near_codewords(7, 8000);
+}
+
+#[test]
+fn random_words() {
+    let mut chance = Chance::new();
+    for (width, rounds) in [(3, 4000), (5, 2000), (7, 400)] {
+        for round in 0..rounds {
+            let marks = chance.places(round % 5, places(width));
+            let word = chance.symbols(places(width), order(width));
+            let _ = restored(width, &word, &marks);
+        }
+    }
+}
+
+#[test]
+fn every_change_of_one_symbol_is_undone() {
+    let mut chance = Chance::new();
+    for width in WIDTHS {
+        let codeword = random_codeword(&mut chance, width);
+        assert_eq!(restored(width, &codeword, &[]), (Ok(0), codeword.clone()));
+        for place in 0..places(width) {
+            for change in 1..order(width) {
+                let mut word = codeword.clone();
+                word[place] ^= change as u8;
+                assert_eq!(restore_word(width, &word, &[]), (Ok(1), codeword.clone()), "place {place} at width {width}");
+            }
+        }
+    }
+}
+
+/// At width 7 the pairs have a place among the check symbols, the first data symbols or the last ones.
+#[test]
+fn changes_of_two_symbols_are_undone() {
+    let mut chance = Chance::new();
+    for width in WIDTHS {
+        let n = places(width);
+        for first in (0..n).filter(|&first| n < 132 || first < 8 || first > 129) {
+            for second in (0..n).filter(|&second| second != first) {
+                let codeword = random_codeword(&mut chance, width);
+                let word = spoiled(&mut chance, width, &codeword, &[first as u8, second as u8]);
+                assert_eq!(restore_word(width, &word, &[]), (Ok(2), codeword), "places {first} and {second} at width {width}");
+            }
+        }
+    }
+}
+
+#[test]
+fn any_byte_may_stand_at_a_mark() {
+    let mut chance = Chance::new();
+    for width in WIDTHS {
+        for byte in 0..=255 {
+            let codeword = random_codeword(&mut chance, width);
+            let marks = chance.places(1 + byte as usize % 4, places(width));
+            let mut word = codeword.clone();
+            word[marks[0] as usize] = byte;
+            assert_eq!(restored(width, &word, &marks), (Ok(0), codeword), "{byte} at width {width}");
+        }
+    }
+}
+
+#[test]
+fn the_order_of_the_marks_changes_nothing() {
+    let mut chance = Chance::new();
+    for width in WIDTHS {
+        for round in 0..200 {
+            let codeword = random_codeword(&mut chance, width);
+            let mut marks = chance.places(2 + round % 3, places(width));
+            let wrong = chance.places(round % 5, places(width));
+            let word = spoiled(&mut chance, width, &codeword, &wrong);
+            let first = restored(width, &word, &marks);
+            for turn in 0..marks.len() {
+                marks.rotate_left(1);
+                assert_eq!(restore_word(width, &word, &marks), first);
+                marks.swap(0, 1);
+                assert_eq!(restore_word(width, &word, &marks), first, "turn {turn}");
+            }
+        }
+    }
+}
+
+/// The answer to a call that must be refused; `restore_word` sees that nothing is written.
+fn refused(width: u8, word: &[u8], marks: &[u8]) -> Refusal {
+    restored(width, word, marks).0.expect_err("a refusal")
+}
+
+#[test]
+fn bad_widths_and_lengths() {
+    for width in BAD_WIDTHS {
+        for length in [0, 11, 12, 20, 36, 132, 260] {
+            assert_eq!(refused(width, &vec![0; length], &[]), Width);
+        }
+    }
+    for width in WIDTHS {
+        let n = places(width);
+        for length in [0, n - 1, n + 1, 2 * n, n + 256, n + 65536] {
+            assert_eq!(refused(width, &vec![0; length], &[]), Length, "{length} at width {width}");
+        }
+        for other in WIDTHS.into_iter().filter(|&other| other != width) {
+            assert_eq!(refused(width, &vec![0; places(other)], &[1]), Length);
+        }
+    }
+}
+
+#[test]
+fn bad_marks() {
+    for width in WIDTHS {
+        let n = places(width);
+        let zeros = vec![0; n];
+        for count in [5, 6, 12, 255, 256, 257, 260, 65536, 65540] {
+            let marks: Vec<u8> = (0..count).map(|i| (i % n) as u8).collect();
+            assert_eq!(refused(width, &zeros, &marks), ErasureCount, "{count} marks at width {width}");
+        }
+        for mark in 0..=255 {
+            for index in 0..4 {
+                let mut marks = [0, 1, 2, 3].map(|i| (i + mark as usize + 1) as u8 % n as u8);
+                marks[index] = mark;
+                if (mark as usize) < n {
+                    assert_eq!(restored(width, &zeros, &marks), (Ok(0), zeros.clone()), "mark {mark} at width {width}");
+                } else {
+                    assert_eq!(refused(width, &zeros, &marks), ErasurePlace, "mark {mark} at width {width}");
+                    assert_eq!(refused(width, &zeros, &[mark, mark]), ErasurePlace, "mark {mark} twice at width {width}");
+                }
+            }
+        }
+        for (first, second) in [(0, 1), (0, 2), (0, 3), (1, 2), (1, 3), (2, 3)] {
+            for place in [0, 3, 4, 5, n as u8 - 1] {
+                let mut marks = [6, 7, 8, 9];
+                (marks[first], marks[second]) = (place, place);
+                assert_eq!(refused(width, &zeros, &marks), ErasureDistinct, "marks {marks:?} at width {width}");
+                assert_eq!(refused(width, &zeros, &marks[first..=second]), ErasureDistinct);
+            }
+        }
+    }
+}
+
+#[test]
+fn bad_symbols() {
+    let mut chance = Chance::new();
+    for width in WIDTHS {
+        let top = order(width) as u8;
+        let codeword = random_codeword(&mut chance, width);
+        for place in 0..places(width) {
+            for bad in [top, top + 1, 128, 255] {
+                let mut word = codeword.clone();
+                word[place] = bad;
+                let beside = (place as u8 + 1) % places(width) as u8;
+                assert_eq!(refused(width, &word, &[]), Symbol, "place {place} = {bad} at width {width}");
+                assert_eq!(refused(width, &word, &[beside]), Symbol, "place {place} = {bad} at width {width}");
+                assert_eq!(restored(width, &word, &[beside, place as u8]), (Ok(0), codeword.clone()));
+            }
+        }
+    }
+}
+
+/// Lent slices that are restored with nothing changed beside the two marks.
+struct Input {
+    width: u8,
+    word: Vec<u8>,
+    marks: Vec<u8>,
+}
+
+impl Input {
+    /// Makes this question be answered no. `kind` chooses among the ways to do so.
+    fn spoil(&mut self, question: Refusal, kind: usize) {
+        let n = self.word.len();
+        match question {
+            Width => self.width = BAD_WIDTHS[kind % 8],
+            Length => self.word.resize([n - 1, n + 1, n + 256, 0][kind % 4], 0),
+            ErasureCount => self.marks.extend(if kind % 2 == 0 { vec![1, 2, 3] } else { vec![5; 256] }),
+            ErasurePlace => self.marks.insert(kind % 3, if kind % 2 == 0 { n as u8 } else { 255 }),
+            ErasureDistinct => self.marks.insert(kind % 3, self.marks[kind % 2]),
+            Symbol => self.word[8 + kind % 2] = if kind % 4 < 2 { n as u8 - 4 } else { 255 },
+            _ => [0, 1, 2].into_iter().for_each(|place| self.word[place] ^= 1),
+        }
+    }
+}
+
+#[test]
+fn each_question_alone_and_before_the_later_ones() {
+    let mut chance = Chance::new();
+    // The last one first, so that the word has its length until all else is spoiled.
+    let questions = [Correctable, Symbol, ErasureDistinct, ErasurePlace, ErasureCount, Length, Width];
+    for width in WIDTHS {
+        for kind in 0..16 {
+            let codeword = random_codeword(&mut chance, width);
+            for (i, &first) in questions.iter().enumerate() {
+                for &later in &questions[..=i] {
+                    let mut input = Input { width, word: codeword.clone(), marks: vec![places(width) as u8 - 1, 6] };
+                    assert_eq!(restored(width, &input.word, &input.marks), (Ok(0), codeword.clone()));
+                    input.spoil(later, kind / 4);
+                    if later != first {
+                        input.spoil(first, kind);
+                    }
+                    assert_eq!(refused(input.width, &input.word, &input.marks), first, "{later:?} too at width {width}");
+                }
+            }
+        }
+    }
+}
