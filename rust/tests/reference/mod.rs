@@ -1,6 +1,7 @@
 //! An independent implementation, written from document 01 and sharing no code or table with the library. A refusal is its number.
 #![allow(dead_code)] // each test file uses its part
 
+pub mod card;
 pub mod search;
 
 /// The reduction polynomial of a width.

@@ -1,0 +1,158 @@
+-- The layout of a record, and what its own questions tell of it. Assumes nothing.
+use mathlib.Core.Path.{_≡_, refl, sym, ap, ap₂, _∙_}
+use mathlib.Core.Logic.{_≢_}
+use mathlib.Core.Bool.{Bool, true, false, _&&_}
+use mathlib.Core.List.{List, [], _∷_}
+use Prim.Native.Nat.{ℕ, _+_, _-_, _≤_, _<_}
+use native.Mathlib.Numerals.{add-one}
+use native.Mathlib.Omega.{arith}
+use borrow.Author.Tests.{eq-eqb, ne-eqb, eqb-true, le-leb, lt-leb, leb-true}
+use lib.Dec.{eqb, leb}
+use lib.ListN.{length, getD, take, drop, replicate, drop-of-length-le, length-drop}
+use lib.Seq.{drop-cons, take-all, take-take}
+use Rattle.field.specs.Field.{order}
+use Rattle.field.specs.Question.{isWidth}
+use Rattle.field.specs.Answer.{orderOf}
+use Rattle.field.specs.declared.Question.the-variants.{Width, Length, ErasureCount, Padding}
+use Rattle.field.specs.declared.Verdict.the-variants.{Passed, Refused}
+use Rattle.field.proofs.Ask.{ask-yes, ask-next, and-true-left, and-true-right, width-yes, width-no, order-is}
+use Rattle.field.proofs.Widths.{order-small}
+use Rattle.code.specs.Word.{places}
+use Rattle.code.specs.Call.{maxErasures}
+use Rattle.card.specs.Record.{slots, headerSize, recordSize, widthOf, countOf, erasuresOf, unusedOf, wordOf, tailOf}
+use Rattle.card.specs.Record.{allAre, recordAsked}
+
+-- ---- bytes that are all the same
+
+module _ (x : ℕ) (ys : List ℕ) (i : ℕ) (e : allAre x ys ≡ allAre x (drop i ys)) where
+  step : i < length ys → allAre x ys ≡ (eqb (getD ys i 0) x && allAre x (drop (i + 1) ys))
+  step h = e ∙ ap (allAre x) one
+    where
+      one : drop i ys ≡ getD ys i 0 ∷ drop (i + 1) ys
+      one = rw (add-one, drop-cons ys i 0)
+
+  pub all-on : i < length ys → getD ys i 0 ≡ x → allAre x ys ≡ allAre x (drop (i + 1) ys)
+  all-on h t = step h ∙ simp (eq-eqb _ _ t)
+
+  pub all-stop : i < length ys → (getD ys i 0 ≡ x → ⊥) → false ≡ allAre x ys
+  all-stop h t = sym (step h ∙ simp (ne-eqb _ _ t))
+
+  pub all-end : length ys ≤ i → true ≡ allAre x ys
+  all-end h = sym (e ∙ ap (allAre x) (drop-of-length-le ys h))
+
+pub all-replicate : (x : ℕ) (ys : List ℕ) → allAre x ys ≡ true → ys ≡ replicate (length ys) x
+all-replicate x [] h = refl
+all-replicate x (y ∷ ys) h =
+    ap₂ _∷_ (eqb-true y x (and-true-left (eqb y x) (allAre x ys) h)) (all-replicate x ys (and-true-right (eqb y x) (allAre x ys) h))
+
+-- ---- parts
+
+-- a part up to the end
+pub tail-part : (n : ℕ) (r : List ℕ) → take (length r - n) (drop n r) ≡ drop n r
+tail-part n r = take-all (length r - n) (drop n r) (simp length-drop (omega arith))
+
+module _ (r : List ℕ) (n e : ℕ) (b c : Bool) where
+  -- question 4: the unused erasure bytes, a part up to the header's end, and then the tail
+  pub padded-yes : n ≤ slots → b ≡ allAre 255 (take (headerSize - (2 + n)) (drop (2 + n) r)) → b ≡ true
+      → c ≡ allAre 0 (take (length r - e) (drop e r))
+      → c ≡ (allAre 255 (take (slots - n) (drop (2 + n) r)) && allAre 0 (drop e r))
+  padded-yes l eb t ec =
+      ec ∙ ap (allAre 0) (tail-part e r)
+      ∙ ap (λ (x : Bool). x && allAre 0 (drop e r)) (sym t ∙ eb ∙ ap (λ (k : ℕ). allAre 255 (take k (drop (2 + n) r))) less)
+    where
+      less : headerSize - (2 + n) ≡ slots - n
+      less = omega arith
+
+  pub padded-no : n ≤ slots → b ≡ allAre 255 (take (headerSize - (2 + n)) (drop (2 + n) r)) → b ≡ false
+      → false ≡ (allAre 255 (take (slots - n) (drop (2 + n) r)) && allAre 0 (drop e r))
+  padded-no l eb t = ap (λ (x : Bool). x && allAre 0 (drop e r)) (sym t ∙ eb ∙ ap (λ (k : ℕ). allAre 255 (take k (drop (2 + n) r))) less)
+    where
+      less : headerSize - (2 + n) ≡ slots - n
+      less = omega arith
+
+-- the erasure bytes, read one by one
+pub four-bytes : (r : List ℕ) → headerSize ≤ length r
+    → _≡_ {A = List ℕ} (getD r 2 0 ∷ getD r 3 0 ∷ getD r 4 0 ∷ getD r 5 0 ∷ []) (take slots (drop 2 r))
+four-bytes [] h = absurd (omega arith)
+four-bytes (a ∷ []) h = absurd (omega arith)
+four-bytes (a ∷ b ∷ []) h = absurd (omega arith)
+four-bytes (a ∷ b ∷ c ∷ []) h = absurd (omega arith)
+four-bytes (a ∷ b ∷ c ∷ d ∷ []) h = absurd (omega arith)
+four-bytes (a ∷ b ∷ c ∷ d ∷ e ∷ []) h = absurd (omega arith)
+four-bytes (a ∷ b ∷ c ∷ d ∷ e ∷ f ∷ r) h = refl
+
+-- ---- the record's own questions, one by one
+
+module _ (r : List ℕ) where
+  pub length-no : (length r ≡ recordSize → ⊥) → Refused Length ≡ recordAsked r
+  unfolding recordAsked
+  length-no n = simp (ne-eqb (length r) recordSize n)
+
+  module _ (size : length r ≡ recordSize) (q : ℕ) (eq : q ≡ orderOf (widthOf r)) where
+    pub record-no-width : q ≡ 0 → Refused Width ≡ recordAsked r
+    unfolding recordAsked
+    record-no-width z = simp (eq-eqb (length r) recordSize size, width-no (widthOf r) q eq z)
+
+    module _ (nz : q ≢ 0) where
+      width : isWidth (widthOf r) ≡ true
+      width = width-yes (widthOf r) q eq nz
+
+      pub record-fits : headerSize + (q + 4) ≤ recordSize
+      record-fits = omega (arith, order-is (widthOf r) q eq width, order-small (widthOf r) width)
+
+      pub count-no : maxErasures (widthOf r) < countOf r → Refused ErasureCount ≡ recordAsked r
+      unfolding recordAsked
+      count-no h = simp (eq-eqb (length r) recordSize size, width, lt-leb (countOf r) (maxErasures (widthOf r)) h)
+
+      module _ (few : countOf r ≤ maxErasures (widthOf r)) (b : Bool)
+          (eb : b ≡ (allAre 255 (take (slots - countOf r) (drop (2 + countOf r) r)) && allAre 0 (drop (headerSize + (q + 4)) r))) where
+        padding : b ≡ (allAre 255 (unusedOf r) && allAre 0 (tailOf r))
+        padding = eb ∙ ap (λ (x : ℕ). allAre 255 (unusedOf r) && allAre 0 (drop (headerSize + (x + 4)) r)) (order-is (widthOf r) q eq width)
+
+        pub record-passes : b ≡ true → Passed ≡ recordAsked r
+        unfolding recordAsked
+        record-passes t =
+            simp (eq-eqb (length r) recordSize size, width, le-leb (countOf r) (maxErasures (widthOf r)) few, sym padding ∙ t)
+
+        pub padding-no : b ≡ false → Refused Padding ≡ recordAsked r
+        unfolding recordAsked
+        padding-no t =
+            simp (eq-eqb (length r) recordSize size, width, le-leb (countOf r) (maxErasures (widthOf r)) few, sym padding ∙ t)
+
+-- ---- a record that passed them
+
+pub record Asked (r : List ℕ) : Type 0 where
+  pub size : length r ≡ recordSize
+  pub width : isWidth (widthOf r) ≡ true
+  pub few : countOf r ≤ slots
+  pub tail : allAre 0 (tailOf r) ≡ true
+
+pub asked : (r : List ℕ) → recordAsked r ≡ Passed → Asked r
+unfolding recordAsked
+asked r p1 =
+    let p2 = ask-next (eqb (length r) recordSize) Length _ p1 in
+    let p3 = ask-next (isWidth (widthOf r)) Width _ p2 in
+    let p4 = ask-next (leb (countOf r) (maxErasures (widthOf r))) ErasureCount _ p3 in
+    record {
+      size = eqb-true (length r) recordSize (ask-yes (eqb (length r) recordSize) Length _ p1);
+      width = ask-yes (isWidth (widthOf r)) Width _ p2;
+      few = leb-true (countOf r) (maxErasures (widthOf r)) (ask-yes (leb (countOf r) (maxErasures (widthOf r))) ErasureCount _ p3);
+      tail = and-true-right (allAre 255 (unusedOf r)) (allAre 0 (tailOf r))
+          (ask-yes (allAre 255 (unusedOf r) && allAre 0 (tailOf r)) Padding Passed p4);
+    }
+
+module _ (r : List ℕ) (A : Asked r) (q : ℕ) (eq : q ≡ orderOf (widthOf r)) where
+  order-of : q ≡ order (widthOf r)
+  order-of = order-is (widthOf r) q eq (A .width)
+
+  pub word-fits : headerSize + (q + 4) ≤ length r
+  word-fits = omega (arith, order-of, order-small (widthOf r) (A .width), A .size)
+
+  pub word-long : headerSize + (q + 4) - headerSize ≡ places (widthOf r)
+  word-long = omega (arith, order-of)
+
+  pub word-part : take (headerSize + (q + 4) - headerSize) (drop headerSize r) ≡ wordOf r
+  word-part = ap (λ (n : ℕ). take n (drop headerSize r)) word-long
+
+  pub erasures-part : (es : List ℕ) → es ≡ take slots (drop 2 r) → take (countOf r) es ≡ erasuresOf r
+  erasures-part es e = ap (take (countOf r)) e ∙ take-take (countOf r) slots (drop 2 r) (A .few)

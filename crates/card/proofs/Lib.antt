@@ -1,0 +1,6 @@
+-- Laws of the card's definitions, and what the proofs of several functions use. Assumes nothing.
+pub mod Layouts
+pub mod Recording
+pub mod Checking
+pub mod Writing
+pub mod Lines

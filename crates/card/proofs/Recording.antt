@@ -1,0 +1,111 @@
+-- The restored record. Assumes nothing.
+use mathlib.Core.Path.{_≡_, refl, sym, ap, ap₂, _∙_, subst₂}
+use mathlib.Core.List.{List, _∷_, _++_}
+use Prim.Native.Nat.{ℕ, _+_, _-_}
+use native.Mathlib.Omega.{arith}
+use lib.ListN.{length, take, drop, replicate, take-append-drop, length-drop}
+use lib.Seq.{drop-at, drop-drop, length-take-le}
+use Rattle.field.specs.Question.{Outcome, accepted, refused, refusal, after}
+use Rattle.field.specs.Answer.{orderOf}
+use Rattle.field.specs.declared.Question.{Question}
+use Rattle.field.specs.declared.Question.the-variants.{Length}
+use Rattle.field.specs.declared.Verdict.{Verdict}
+use Rattle.field.specs.declared.Verdict.the-variants.{Passed, Refused as RefusedBy}
+use Rattle.field.proofs.Widths.{order-small}
+use Rattle.code.specs.Word.{places}
+use Rattle.code.specs.Call.{restoreOf, restoreWritten, repair, Restores}
+use Rattle.code.specs.declared.Repair.{Repair}
+use Rattle.code.specs.declared.Repair.the-variants.{Restored, Refused}
+use Rattle.code.proofs.Demands.{accepts, refused-unchanged}
+use Rattle.card.specs.Record.{slots, longest, headerSize, recordSize, widthOf, countOf, wordOf, tailOf, erasuresOf}
+use Rattle.card.specs.Record.{recordAsked, recordOf, clearRecord, onAccept, recordWritten, RestoresRecord}
+use Rattle.card.proofs.Layouts.{Asked, asked, all-replicate, length-no, word-part, erasures-part}
+
+-- the record's own questions were answered no
+pub record-refused : (r : List ℕ) (v : Verdict) (q : Question) → v ≡ recordAsked r → v ≡ RefusedBy q → refused (refusal q) ≡ recordOf r
+unfolding recordOf
+record-refused r v q e p = ap (λ (u : Verdict). after u (restoreOf (widthOf r) (wordOf r) (erasuresOf r))) (sym p ∙ e)
+
+pub restores-refused : (r : List ℕ) (v : Verdict) (q : Question) → v ≡ recordAsked r → v ≡ RefusedBy q → (new : List ℕ) → new ≡ r
+    → RestoresRecord r (Refused q) new
+unfolding recordWritten
+restores-refused r v q e p new h =
+    let o = record-refused r v q e p in
+    record {
+      answer = o;
+      content = h
+          ∙ ap (λ (x : Outcome). onAccept x r (clearRecord (widthOf r) (restoreWritten (widthOf r) (wordOf r) (erasuresOf r)))) o;
+    }
+
+-- what the restorer did with the parts of the record, q the order of its width and es its erasure bytes
+pub restores-parts : (r : List ℕ) (A : Asked r) (q : ℕ) (eq : q ≡ orderOf (widthOf r)) (es : List ℕ) → es ≡ take slots (drop 2 r)
+    → (x : Repair) (new : List ℕ)
+    → Restores (widthOf r) (take (headerSize + (q + 4) - headerSize) (drop headerSize r)) (take (countOf r) es) x new
+    → Restores (widthOf r) (wordOf r) (erasuresOf r) x new
+restores-parts r A q eq es e x new R =
+    subst₂ (λ (w ls : List ℕ). Restores (widthOf r) w ls x new) (word-part r A q eq) (erasures-part r A q eq es e) R
+
+-- they were answered yes; R is what the restorer did with the word
+module _ (r : List ℕ) (P : recordAsked r ≡ Passed) (x : Repair) (new : List ℕ)
+    (R : Restores (widthOf r) (wordOf r) (erasuresOf r) x new) where
+  answer : repair x ≡ recordOf r
+  unfolding recordOf
+  answer = R .answer ∙ sym (ap (λ (u : Verdict). after u (restoreOf (widthOf r) (wordOf r) (erasuresOf r))) P)
+
+  -- the record with the word put back
+  module _ (n : ℕ) (en : n ≡ places (widthOf r)) where
+    same-word : new ≡ wordOf r → take headerSize r ++ (new ++ drop n (drop headerSize r)) ≡ r
+    same-word e =
+        ap (λ (u : List ℕ). take headerSize r ++ (u ++ drop n (drop headerSize r)))
+        (e ∙ ap (λ (k : ℕ). take k (drop headerSize r)) (sym en))
+        ∙ ap (λ (u : List ℕ). take headerSize r ++ u) (take-append-drop n (drop headerSize r))
+        ∙ take-append-drop headerSize r
+
+    pub word-refused : (q : Question) → x ≡ Refused q
+        → RestoresRecord r (Refused q) (take headerSize r ++ (new ++ drop n (drop headerSize r)))
+    unfolding recordWritten
+    word-refused q e =
+        let o : refused (refusal q) ≡ recordOf r = ap repair (sym e) ∙ answer in
+        let f : restoreOf (widthOf r) (wordOf r) (erasuresOf r) ≡ refused (refusal q) = sym (R .answer) ∙ ap repair e in
+        record {
+          answer = o;
+          content = same-word (R .word ∙ refused-unchanged (widthOf r) (wordOf r) (erasuresOf r) (refusal q) f)
+              ∙ ap (λ (y : Outcome). onAccept y r (clearRecord (widthOf r) (restoreWritten (widthOf r) (wordOf r) (erasuresOf r)))) o;
+        }
+
+    A : Asked r
+    A = asked r P
+
+    rest : drop n (drop headerSize r) ≡ tailOf r
+    rest = drop-drop n headerSize r ∙ ap (λ (k : ℕ). drop (headerSize + k) r) en
+
+    pub word-restored : (k : ℕ) → x ≡ Restored k → (final : List ℕ)
+        → final ≡ (widthOf r ∷ 0 ∷ replicate slots 255) ++ drop headerSize (take headerSize r ++ (new ++ drop n (drop headerSize r)))
+        → RestoresRecord r (Restored k) final
+    unfolding recordWritten
+    word-restored k e final f =
+        record {
+          answer = o;
+          content = f
+              ∙ ap (λ (u : List ℕ). (widthOf r ∷ 0 ∷ replicate slots 255) ++ u)
+              (drop-at (take headerSize r) (new ++ drop n (drop headerSize r)) headerSize
+              (length-take-le headerSize r (omega (arith, A .size)))
+              ∙ ap₂ _++_ (R .word) (rest ∙ all-replicate 0 (tailOf r) (A .tail) ∙ ap (λ (i : ℕ). replicate i 0) long))
+              ∙ ap (λ (y : Outcome). onAccept y r (clearRecord (widthOf r) (restoreWritten (widthOf r) (wordOf r) (erasuresOf r)))) o;
+        }
+      where
+        o : accepted k ≡ recordOf r
+        o = ap repair (sym e) ∙ answer
+
+        size : length (restoreWritten (widthOf r) (wordOf r) (erasuresOf r)) ≡ places (widthOf r)
+        size =
+            accepts (widthOf r) (wordOf r) (erasuresOf r) k (restoreWritten (widthOf r) (wordOf r) (erasuresOf r)) .0
+            (sym (R .answer) ∙ ap repair e, refl) .1 .near .codeword .size
+
+        long : length (tailOf r) ≡ longest - length (restoreWritten (widthOf r) (wordOf r) (erasuresOf r))
+        long = length-drop (headerSize + places (widthOf r)) r ∙ omega (arith, A .size, size, order-small (widthOf r) (A .width))
+
+-- ---- a record of another length
+
+pub short-refused : (r : List ℕ) → (length r ≡ recordSize → ⊥) → refused (refusal Length) ≡ recordOf r
+short-refused r n = record-refused r (RefusedBy Length) Length (length-no r n) refl

@@ -1,0 +1,83 @@
+-- `card::cards::check` meets its contract. Assumes nothing.
+use borrow.Author.Needs.{needs}
+use Prim.Native.Nat.{_-_}
+use lib.ListN.{length}
+use Rattle.card.proofs.Checking.{Walked, walked-start, walked-on, checks-refused, checks-last, checks-end}
+use Rattle.card.proofs.cards.check.Statement.{statement}
+use Rattle.card.proofs.cards.check.Tie as tie
+
+abbrev Inv-loop : tie.InvT-loop
+Inv-loop card at₀ i₀ at i = Walked card at i
+
+abbrev μ-loop : tie.MeasureT-loop
+μ-loop card at₀ i₀ at i = length card - at
+
+loop-holds : tie.Need-loop-holds Inv-loop μ-loop
+loop-holds c = walked-start (c .before .args .card .now)
+
+record-from-requires : tie.Need-record-from-requires Inv-loop μ-loop
+record-from-requires c κs = search needs
+
+would-pass-requires : tie.Need-would-pass-requires Inv-loop μ-loop
+would-pass-requires c κs = search needs
+
+add-t8 : tie.Need-add-t8 Inv-loop μ-loop
+add-t8 c = search needs
+
+returns : tie.Need-returns Inv-loop μ-loop
+returns c =
+    let turn = c .before .before .before .before in
+    let called = c .before .would-pass in
+    checks-refused (turn .before .before .args .card .now) (turn .loop .at) (turn .loop .i) (turn .loop .inv) (called .result) _
+    (called .ensures) (c .before .before .record-from .ensures) (c .before .before .before .loop-test .taken) (c .if1 .taken)
+
+sub-if2 : tie.Need-sub-if2 Inv-loop μ-loop
+sub-if2 c = search needs
+
+returns-2 : tie.Need-returns-2 Inv-loop μ-loop
+returns-2 c =
+    let turn = c .before .before .before .before .before in
+    let called = c .before .before .would-pass in
+    checks-last (turn .before .before .args .card .now) (turn .loop .at) (turn .loop .i) (turn .loop .inv) (called .result) _
+    (called .ensures) (c .before .before .before .record-from .ensures) (c .before .before .before .before .loop-test .taken)
+    (c .if2 .taken) (c .before .if1 .left)
+
+add-at : tie.Need-add-at Inv-loop μ-loop
+add-at c = search needs
+
+add-i : tie.Need-add-i Inv-loop μ-loop
+add-i c = search needs
+
+loop-less : tie.Need-loop-less Inv-loop μ-loop
+loop-less c = search needs
+
+loop-again : tie.Need-loop-again Inv-loop μ-loop
+loop-again c =
+    let turn = c .before .before .before .before .before in
+    let called = c .before .before .would-pass in
+    walked-on (turn .before .before .args .card .now) (turn .loop .at) (turn .loop .i) (turn .loop .inv) (called .result) _
+    (called .ensures) (c .before .before .before .record-from .ensures) (c .before .if1 .left)
+
+returns-3 : tie.Need-returns-3 Inv-loop μ-loop
+returns-3 c =
+    let turn = c .before in
+    checks-end (turn .before .before .args .card .now) (turn .loop .at) (turn .loop .i) (turn .loop .inv) (c .loop-test .left)
+
+pub check-spec : {M : Type 1} → statement M
+check-spec =
+    tie.close
+    (tie.spec
+    Inv-loop
+    μ-loop
+    loop-holds
+    record-from-requires
+    would-pass-requires
+    add-t8
+    returns
+    sub-if2
+    returns-2
+    add-at
+    add-i
+    loop-less
+    loop-again
+    returns-3)

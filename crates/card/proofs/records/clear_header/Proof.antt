@@ -1,0 +1,40 @@
+-- `card::records::clear_header` meets its contract. Assumes nothing.
+use borrow.Author.Needs.{needs}
+use mathlib.Core.Path.{sym, ap}
+use mathlib.Core.List.{List, _++_}
+use Prim.Native.Nat.{ℕ}
+use lib.ListN.{drop}
+use lib.Seq.{length-take-le}
+use Rattle.card.proofs.records.clear_header.Statement.{statement}
+use Rattle.card.proofs.records.clear_header.Tie as tie
+
+slice-relend-prefix-copy : tie.Need-slice-relend-prefix-copy
+slice-relend-prefix-copy c = search needs
+
+slice-aggregate-copy : tie.Need-slice-aggregate-copy
+slice-aggregate-copy c = sym (length-take-le 6 (c .before .before .args .bytes .now) (c .before .before .pre))
+
+slice-aggregate-copy-2 : tie.Need-slice-aggregate-copy-2
+slice-aggregate-copy-2 c = search needs
+
+copy-requires : tie.Need-copy-requires
+copy-requires c κs = length-take-le 6 (c .before .before .before .args .bytes .now) (c .before .before .before .pre)
+
+same-length : tie.Need-same-length
+same-length c = search needs
+
+returns : tie.Need-returns
+returns c =
+    let called = c .before .before in
+    ap (λ (u : List ℕ). u ++ drop 6 (called .before .before .before .before .args .bytes .now)) (called .copy .ensures)
+
+pub clear-header-spec : {M : Type 1} → statement M
+clear-header-spec =
+    tie.close
+    (tie.spec
+    slice-relend-prefix-copy
+    slice-aggregate-copy
+    slice-aggregate-copy-2
+    copy-requires
+    same-length
+    returns)

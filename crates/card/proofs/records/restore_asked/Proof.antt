@@ -1,0 +1,135 @@
+-- `card::records::restore_asked` meets its contract. Assumes nothing.
+use borrow.Author.Needs.{needs}
+use mathlib.Core.Path.{_≡_, sym}
+use native.Mathlib.Omega.{arith}
+use lib.ListN.{length}
+use lib.Seq.{length-take-le}
+use Rattle.card.specs.Record.{countOf}
+use Rattle.card.proofs.Layouts.{asked, word-fits, word-long}
+use Rattle.card.proofs.Recording.{restores-parts, word-refused, word-restored}
+use Rattle.card.proofs.records.restore_asked.Statement.{statement}
+use Rattle.card.proofs.records.restore_asked.Tie as tie
+
+slice-read-width : tie.Need-slice-read-width
+slice-read-width c = omega (arith, (asked (c .before .before .args .bytes .now) (c .before .before .pre)) .size)
+
+slice-read-count : tie.Need-slice-read-count
+slice-read-count c = omega (arith, (asked (c .before .before .before .args .bytes .now) (c .before .before .before .pre)) .size)
+
+cast-count : tie.Need-cast-count
+cast-count c = omega (arith, c .slice-known3 .given 1)
+
+erasure-bytes-requires : tie.Need-erasure-bytes-requires
+erasure-bytes-requires c κs =
+    let s = c .before .before .before .before in
+    omega (arith, asked (s .args .bytes .now) (s .pre) .size)
+
+order-of-requires : tie.Need-order-of-requires
+order-of-requires c κs = search needs
+
+cast-end : tie.Need-cast-end
+cast-end c = search needs
+
+add-end : tie.Need-add-end
+add-end c = search needs
+
+add-end-2 : tie.Need-add-end-2
+add-end-2 c = search needs
+
+sub-restore : tie.Need-sub-restore
+sub-restore c = search needs
+
+part-restore-start : tie.Need-part-restore-start
+part-restore-start c = search needs
+
+part-restore-end : tie.Need-part-restore-end
+part-restore-end c =
+    let s = c .before .before .before .before .before .before in
+    let r = s .args .bytes .now in
+    omega (arith, word-fits r (asked r (s .pre)) (c .order-of .result) (c .order-of .ensures))
+
+array-share-prefix-erasures : tie.Need-array-share-prefix-erasures
+array-share-prefix-erasures c =
+    let s = c .before .before .before .before .before .before .before in
+    let l : 4 ≡ length (c .before .before .erasure-bytes .result) = search needs in
+    omega (arith, asked (s .args .bytes .now) (s .pre) .few)
+
+slice-aggregate-restore : tie.Need-slice-aggregate-restore
+slice-aggregate-restore c =
+    let s = c .before .before .before .before .before .before .before .before in
+    let e = c .before .before .before .erasure-bytes .result in
+    let l : 4 ≡ length e = search needs in
+    sym (length-take-le (countOf (s .args .bytes .now)) e (omega (arith, asked (s .args .bytes .now) (s .pre) .few)))
+
+restore-requires : tie.Need-restore-requires
+restore-requires c κs = search needs
+
+enum-known-k : tie.Need-enum-known-k
+enum-known-k c = search needs
+
+clear-header-requires : tie.Need-clear-header-requires
+clear-header-requires c κs =
+    let s = c .before .before .before .before .before .before .before .before .before .before .before .before .before .before .before in
+    omega (arith, asked (s .args .bytes .now) (s .pre) .size)
+
+enum-known-q : tie.Need-enum-known-q
+enum-known-q c = search needs
+
+same-length : tie.Need-same-length
+same-length c = search needs
+
+returns : tie.Need-returns
+returns c =
+    let called = c .before .before .before .before .before .before .before .before .before in
+    let ordered = called .before .before .before in
+    let s = ordered .before .before .before .before .before .before in
+    let r = s .args .bytes .now in
+    let a = asked r (s .pre) in
+    let e = ordered .before .erasure-bytes in
+    let q = ordered .order-of in
+    let x = called .restore in
+    let R = restores-parts r a (q .result) (q .ensures) (e .result) (e .ensures) (x .result) _ (x .ensures) in
+    word-restored r (s .pre) (x .result) _ R _ (word-long r a (q .result) (q .ensures)) _ (search needs) _
+    (c .before .before .clear-header .ensures)
+
+same-length-2 : tie.Need-same-length-2
+same-length-2 c = search needs
+
+returns-2 : tie.Need-returns-2
+returns-2 c =
+    let called = c .before .before .before .before .before in
+    let ordered = called .before .before .before in
+    let s = ordered .before .before .before .before .before .before in
+    let r = s .args .bytes .now in
+    let a = asked r (s .pre) in
+    let e = ordered .before .erasure-bytes in
+    let q = ordered .order-of in
+    let x = called .restore in
+    let R = restores-parts r a (q .result) (q .ensures) (e .result) (e .ensures) (x .result) _ (x .ensures) in
+    word-refused r (s .pre) (x .result) _ R _ (word-long r a (q .result) (q .ensures)) _ (search needs)
+
+pub restore-asked-spec : {M : Type 1} → statement M
+restore-asked-spec =
+    tie.close
+    (tie.spec
+    slice-read-width
+    slice-read-count
+    cast-count
+    erasure-bytes-requires
+    order-of-requires
+    cast-end
+    add-end
+    add-end-2
+    sub-restore
+    part-restore-start
+    part-restore-end
+    array-share-prefix-erasures
+    slice-aggregate-restore
+    restore-requires
+    enum-known-k
+    clear-header-requires
+    enum-known-q
+    same-length
+    returns
+    same-length-2
+    returns-2)

@@ -1,0 +1,24 @@
+-- `card::text::put_field` meets its contract: a number has at most 20 digits. Assumes nothing.
+use borrow.Author.Needs.{needs}
+use native.Mathlib.Omega.{arith}
+use Rattle.card.proofs.Writing.{writes-on, length-decimal}
+use Rattle.card.proofs.text.put_field.Statement.{statement}
+use Rattle.card.proofs.text.put_field.Tie as tie
+
+put-decimal-requires : tie.Need-put-decimal-requires
+put-decimal-requires c κs = omega (arith, length-decimal (c .before .before .args .n))
+
+put-byte-requires : tie.Need-put-byte-requires
+put-byte-requires c κs = omega (arith, length-decimal (c .before .before .before .before .before .before .args .n))
+
+same-length : tie.Need-same-length
+same-length c = search needs
+
+returns : tie.Need-returns
+returns c =
+    let called = c .before .before .before .before .before .before in
+    let few = length-decimal (called .before .before .before .args .n) in
+    (writes-on (called .put-decimal .ensures) (c .before .before .put-byte .ensures), omega (arith, few))
+
+pub put-field-spec : {M : Type 1} → statement M
+put-field-spec = tie.close (tie.spec put-decimal-requires put-byte-requires same-length returns)

@@ -1,0 +1,41 @@
+-- `card::text::put_line` meets its contract: the four fields stand one behind the other. Assumes nothing.
+use borrow.Author.Needs.{needs}
+use mathlib.Core.List.{append-assoc}
+use Rattle.card.proofs.Writing.{writes-on}
+use Rattle.card.proofs.text.put_line.Statement.{statement}
+use Rattle.card.proofs.text.put_line.Tie as tie
+
+put-field-requires : tie.Need-put-field-requires
+put-field-requires c κs = search needs
+
+put-field-requires-2 : tie.Need-put-field-requires-2
+put-field-requires-2 c κs = search needs
+
+put-field-requires-3 : tie.Need-put-field-requires-3
+put-field-requires-3 c κs = search needs
+
+put-field-requires-4 : tie.Need-put-field-requires-4
+put-field-requires-4 c κs = search needs
+
+same-length : tie.Need-same-length
+same-length c = search needs
+
+returns : tie.Need-returns
+returns c =
+    let third = c .before .before .before .before .before .before in
+    let second = third .before .before .before .before in
+    let first = second .before .before .before .before in
+    let two = writes-on (first .put-field .ensures .0) (second .put-field2 .ensures .0) in
+    let three = writes-on two (third .put-field3 .ensures .0) in
+    (simp append-assoc at (writes-on three (c .before .before .put-field4 .ensures .0)), search needs)
+
+pub put-line-spec : {M : Type 1} → statement M
+put-line-spec =
+    tie.close
+    (tie.spec
+    put-field-requires
+    put-field-requires-2
+    put-field-requires-3
+    put-field-requires-4
+    same-length
+    returns)

@@ -1,0 +1,91 @@
+-- The text of a listing of a card. Assumes nothing.
+use mathlib.Core.Bool.{cond}
+use mathlib.Core.List.{List, [], _∷_, _++_}
+use Prim.Native.Nat.{ℕ, zero, suc, _+_, _/_, _%_, _*_, min}
+use lib.Dec.{ltb}
+use lib.ListN.{length, take, drop, getD}
+use Rattle.field.specs.Question.{Outcome, accepted, refused}
+use Rattle.card.specs.declared.Totals.{Totals}
+use Rattle.card.specs.Record.{recordSize, recordOf}
+use Rattle.card.specs.Card.{recordCount}
+
+-- the decimal digits of n as text, without leading zeros; the first argument bounds their number
+unfoldable pub digitsFrom : ℕ → ℕ → List ℕ
+digitsFrom zero n = []
+digitsFrom (suc k) n = cond (ltb n 10) ((48 + n) ∷ []) (digitsFrom k (n / 10) ++ ((48 + n % 10) ∷ []))
+
+-- every number of 64 bits has at most 20 digits
+abbrev pub decimal : ℕ → List ℕ
+decimal n = digitsFrom 20 n
+
+-- the byte between two fields, and the one that ends a line
+abbrev pub space : ℕ
+space = 32
+
+abbrev pub newline : ℕ
+newline = 10
+
+-- the refusal number, 0 where the record is accepted
+abbrev pub refusalOf : Outcome → ℕ
+refusalOf (accepted k) = 0
+refusalOf (refused n) = n
+
+-- the number of changed places, 0 where the record is refused
+abbrev pub changesOf : Outcome → ℕ
+changesOf (accepted k) = k
+changesOf (refused n) = 0
+
+-- four numbers in a line: record number, byte 0, refusal number, changed places
+abbrev pub lineText : ℕ → ℕ → ℕ → ℕ → List ℕ
+lineText n w r k = decimal n ++ (space ∷ decimal w ++ (space ∷ decimal r ++ (space ∷ decimal k ++ (newline ∷ []))))
+
+-- the line of a record
+abbrev pub recordLine : ℕ → List ℕ → List ℕ
+recordLine n bytes = lineText n (getD bytes 0 0) (refusalOf (recordOf bytes)) (changesOf (recordOf bytes))
+
+-- the totals with one more record
+abbrev pub counted : Totals → Outcome → Totals
+counted t (accepted k) = record { accepted = t .accepted + 1; refused = t .refused; changed = t .changed + k }
+counted t (refused n) = record { accepted = t .accepted; refused = t .refused + 1; changed = t .changed }
+
+-- the lines of k records from the bytes on, the first with the number n
+unfoldable pub linesOf : ℕ → ℕ → List ℕ → List ℕ
+linesOf n zero bytes = []
+linesOf n (suc k) bytes = recordLine n (take recordSize bytes) ++ linesOf (n + 1) k (drop recordSize bytes)
+
+-- the totals t after k records more, from the bytes on
+unfoldable pub totalsOf : Totals → ℕ → List ℕ → Totals
+totalsOf t zero bytes = t
+totalsOf t (suc k) bytes = totalsOf (counted t (recordOf (take recordSize bytes))) k (drop recordSize bytes)
+
+-- the five letters total
+abbrev pub totalWord : List ℕ
+totalWord = 116 ∷ 111 ∷ 116 ∷ 97 ∷ 108 ∷ []
+
+-- the last line: the five letters, then accepted records, refused records and changed places
+abbrev pub totalLine : Totals → List ℕ
+totalLine t =
+    totalWord ++ (space ∷ decimal (t .accepted) ++ (space ∷ decimal (t .refused) ++ (space ∷ decimal (t .changed) ++ (newline ∷ []))))
+
+-- the line that says that the card goes on behind the records listed
+abbrev pub moreLine : List ℕ
+moreLine = 109 ∷ 111 ∷ 114 ∷ 101 ∷ newline ∷ []
+
+-- no more records than this are listed
+abbrev pub mostRecords : ℕ
+mostRecords = 1000000
+
+-- the totals before the first record
+abbrev pub noTotals : Totals
+noTotals = record { accepted = 0; refused = 0; changed = 0 }
+
+-- the number of records listed of a card of n bytes
+abbrev pub listedCount : ℕ → ℕ
+listedCount n = min (recordCount n) mostRecords
+
+-- the whole listing: the lines, the line "more" where a byte follows the last record listed, and the last line
+unfoldable pub listing : List ℕ → List ℕ
+listing card =
+    linesOf 1 (listedCount (length card)) card
+    ++ (cond (ltb (mostRecords * recordSize) (length card)) moreLine []
+    ++ totalLine (totalsOf noTotals (listedCount (length card)) card))

@@ -1,0 +1,93 @@
+-- A record: width, number of erasures, erasures, symbols, and zeros up to the record's length. Assumes nothing.
+use mathlib.Core.Path.{_≡_}
+use mathlib.Core.Bool.{Bool, true, _&&_}
+use mathlib.Core.List.{List, [], _∷_, _++_}
+use Prim.Native.Nat.{ℕ, _+_, _-_}
+use lib.Dec.{eqb, leb}
+use lib.ListN.{length, getD, take, drop, replicate}
+use Rattle.field.specs.Question.{Outcome, accepted, refused, ask, after, isWidth}
+use Rattle.field.specs.declared.Question.the-variants.{Width, Length, ErasureCount, Padding}
+use Rattle.field.specs.declared.Verdict.{Verdict}
+use Rattle.field.specs.declared.Verdict.the-variants.{Passed}
+use Rattle.code.specs.Word.{places}
+use Rattle.code.specs.Call.{maxErasures, restoreOf, restoreWritten, repair}
+use Rattle.code.specs.declared.Repair.{Repair}
+
+-- ---- the layout
+
+-- the number of erasure bytes, document 01's mark bytes
+abbrev pub slots : ℕ
+slots = 4
+
+-- the longest word, at width 7
+abbrev pub longest : ℕ
+longest = 132
+
+-- byte 0 is the width, byte 1 the number of erasures; then come the erasure bytes, and at this byte the symbols start
+abbrev pub headerSize : ℕ
+headerSize = 2 + slots
+
+-- the number of bytes of a record
+abbrev pub recordSize : ℕ
+recordSize = headerSize + longest
+
+-- the width, byte 0
+abbrev pub widthOf : List ℕ → ℕ
+widthOf r = getD r 0 0
+
+-- the number of erasures, byte 1
+abbrev pub countOf : List ℕ → ℕ
+countOf r = getD r 1 0
+
+-- the erasures, the first of the erasure bytes
+abbrev pub erasuresOf : List ℕ → List ℕ
+erasuresOf r = take (countOf r) (drop 2 r)
+
+-- the erasure bytes that are not used
+abbrev pub unusedOf : List ℕ → List ℕ
+unusedOf r = take (slots - countOf r) (drop (2 + countOf r) r)
+
+-- the symbols
+abbrev pub wordOf : List ℕ → List ℕ
+wordOf r = take (places (widthOf r)) (drop headerSize r)
+
+-- the rest, behind the last symbol
+abbrev pub tailOf : List ℕ → List ℕ
+tailOf r = drop (headerSize + places (widthOf r)) r
+
+-- every entry is x
+abbrev pub allAre : ℕ → List ℕ → Bool
+allAre x [] = true
+allAre x (y ∷ ys) = eqb y x && allAre x ys
+
+-- ---- restoring a record
+
+-- a record's length is asked first, then questions 1, 3 and 4; the others are put to its word
+unfoldable pub recordAsked : List ℕ → Verdict
+recordAsked r =
+    ask (eqb (length r) recordSize) Length
+    (ask (isWidth (widthOf r)) Width
+    (ask (leb (countOf r) (maxErasures (widthOf r))) ErasureCount
+    (ask (allAre 255 (unusedOf r) && allAre 0 (tailOf r)) Padding Passed)))
+
+-- what restoring the record answers
+unfoldable pub recordOf : List ℕ → Outcome
+recordOf r = after (recordAsked r) (restoreOf (widthOf r) (wordOf r) (erasuresOf r))
+
+-- a record of the width m that holds the codeword c and has no erasures
+abbrev pub clearRecord : ℕ → List ℕ → List ℕ
+clearRecord m c = (m ∷ 0 ∷ replicate slots 255) ++ (c ++ replicate (longest - length c) 0)
+
+-- what is written where the record is accepted; a refused one stays as it was
+abbrev pub onAccept : Outcome → List ℕ → List ℕ → List ℕ
+onAccept (accepted k) old new = new
+onAccept (refused n) old new = old
+
+-- the record after the call
+unfoldable pub recordWritten : List ℕ → List ℕ
+recordWritten r = onAccept (recordOf r) r (clearRecord (widthOf r) (restoreWritten (widthOf r) (wordOf r) (erasuresOf r)))
+
+-- what restore_record answers and leaves in the record
+pub record RestoresRecord (old : List ℕ) (r : Repair) (new : List ℕ) : Type 0 where
+  pub answer : repair r ≡ recordOf old
+  pub content : new ≡ recordWritten old

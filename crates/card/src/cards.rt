@@ -1,0 +1,51 @@
+// The card check.
+ghost use mathlib.Core.Path.{_≡_};
+ghost use Prim.Native.Nat.{_≤_};
+ghost use lib.ListN.{length, take, drop};
+ghost use Rattle.card.specs.Record.{recordSize};
+ghost use Rattle.card.specs.Card.{passes, Checks};
+use crate::CardCheck;
+use crate::records::RECORD;
+use crate::records::probe;
+use code::Repair;
+
+// The record of the card that begins at byte `at`; the last may be shorter.
+pub fn record_from(card: &[u8], at: usize) -> &[u8]
+    requires { ⌜ at ≤ length (now card) ⌝ }
+    ensures { λ r. ⌜ now r ≡ take recordSize (drop at (now (card .entry))) ⌝ }
+{
+    if card.len() - at < RECORD {
+        return &card[at..];
+    }
+    let end = at + RECORD;
+    &card[at..end]
+}
+
+// Would the record be accepted?
+fn would_pass(bytes: &[u8]) -> bool
+    ensures { λ r. ⌜ r ≡ passes (now (bytes .entry)) ⌝ }
+{
+    match probe(bytes) {
+        Repair::Restored(_) => true,
+        Repair::Refused(_) => false,
+    }
+}
+
+// Looks at each record in turn, and stops at the first that would be refused.
+pub fn check(card: &[u8]) -> CardCheck
+    ensures { λ r. ⌜ Checks (now (card .entry)) r ⌝ }
+{
+    let mut at = 0;
+    let mut i = 0;
+    while at < card.len() {
+        if !would_pass(record_from(card, at)) {
+            return CardCheck::Refused(i + 1);
+        }
+        if card.len() - at <= RECORD {
+            return CardCheck::AllAccepted;
+        }
+        at += RECORD;
+        i += 1;
+    }
+    CardCheck::AllAccepted
+}

@@ -1,0 +1,17 @@
+// Records and cards: restoring a record, checking a card, and the text of a listing.
+pub mod cards;
+pub mod records;
+pub mod text;
+
+// What the card check answers: every record would be accepted, or the number of some record that would not be, counted from 1.
+pub enum CardCheck {
+    AllAccepted,
+    Refused(usize),
+}
+
+// What a listing has counted so far: accepted records, refused records, changed places.
+pub struct Totals {
+    pub accepted: u64,
+    pub refused: u64,
+    pub changed: u64,
+}

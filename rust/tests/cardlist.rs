@@ -1,0 +1,184 @@
+//! The program cardlist, as it is built by `rt`, against listings by the reference. Cards at the limit are made while it reads.
+
+mod reference;
+mod tools;
+
+use reference::card::{judge, list, record, Listing, LISTED, RECORD};
+use std::fs::{self, File};
+use std::io::Write;
+use std::process::{Command, Output, Stdio};
+use std::thread;
+use tools::wear::{codeword, worn};
+use tools::Chance;
+
+const PROGRAM: &str = concat!(env!("CARGO_MANIFEST_DIR"), "/../target/bin/cardlist");
+
+/// What the program wrote. It never fails, and complains of nothing that it is tried on here.
+fn text_of(output: Output) -> String {
+    assert!(output.status.success(), "{}", output.status);
+    assert_eq!(String::from_utf8_lossy(&output.stderr), "");
+    String::from_utf8(output.stdout).expect("a listing is text")
+}
+
+/// The listing of the card that `make` writes.
+fn listed(make: impl FnOnce(&mut dyn Write) + Send) -> String {
+    let mut program = Command::new(PROGRAM)
+        .stdin(Stdio::piped())
+        .stdout(Stdio::piped())
+        .stderr(Stdio::piped())
+        .spawn()
+        .expect("cardlist is built by `rt check cardlist`");
+    let mut input = program.stdin.take().expect("a pipe");
+    let output = thread::scope(|scope| {
+        scope.spawn(move || make(&mut input));
+        program.wait_with_output().expect("cardlist ends")
+    });
+    text_of(output)
+}
+
+/// The listing of these bytes.
+fn listed_bytes(card: &[u8]) -> String {
+    listed(|input| input.write_all(card).expect("all of the card is read"))
+}
+
+#[test]
+fn the_example_of_document_01() {
+    let mut case_f = [0; 12];
+    case_f[5] = 1;
+    let mut case_n = [0; 12];
+    case_n[4] = 1;
+    let card = [record(3, &case_f, &[]), record(3, &case_n, &[0, 1, 2, 3])].concat();
+    assert_eq!(listed_bytes(&card), "1 3 0 1\n2 3 7 0\ntotal 1 1 1\n");
+}
+
+#[test]
+fn the_cards_that_ship() {
+    for name in ["two", "worn"] {
+        let card = fs::read(format!("{}/../examples/{name}.card", env!("CARGO_MANIFEST_DIR"))).expect("an example");
+        assert_eq!(listed_bytes(&card), list(&card), "{name}");
+    }
+}
+
+#[test]
+fn an_empty_card() {
+    assert_eq!(listed_bytes(&[]), "total 0 0 0\n");
+}
+
+#[test]
+fn one_byte() {
+    for byte in 0..=255 {
+        assert_eq!(listed_bytes(&[byte]), format!("1 {byte} 2 0\ntotal 0 1 0\n"));
+    }
+}
+
+#[test]
+fn short_last_pieces() {
+    let clean = record(7, &codeword(&mut Chance::new(), 7), &[]);
+    for length in [1, 2, 137, 138, 139, 275, 276, 277] {
+        let card: Vec<u8> = clean.iter().cycle().take(length).copied().collect();
+        assert_eq!(listed_bytes(&card), list(&card), "{length} bytes");
+    }
+}
+
+#[test]
+fn random_cards() {
+    let mut chance = Chance::new();
+    for round in 0..12 {
+        let records = 1 + chance.below(900);
+        let mut card: Vec<u8> = (0..records).flat_map(|_| { let width = [3, 5, 7][chance.below(3)]; worn(&mut chance, width) }).collect();
+        card.truncate(card.len() - chance.below(RECORD));
+        assert_eq!(listed_bytes(&card), list(&card), "round {round}");
+    }
+}
+
+#[test]
+fn the_edges_of_a_batch() {
+    let mut chance = Chance::new();
+    let card: Vec<u8> = (0..802).flat_map(|_| worn(&mut chance, 3)).collect();
+    for records in [399, 400, 401, 800, 801] {
+        for more in [0, 1] {
+            let card = &card[..records * RECORD + more];
+            assert_eq!(listed_bytes(card), list(card), "{records} records and {more} bytes");
+        }
+    }
+}
+
+#[test]
+fn a_card_that_comes_in_drops() {
+    let mut chance = Chance::new();
+    let card: Vec<u8> = (0..450).flat_map(|_| worn(&mut chance, 5)).collect();
+    let text = listed(|input| card.chunks(61).for_each(|drop| input.write_all(drop).expect("all of the card is read")));
+    assert_eq!(text, list(&card));
+}
+
+#[test]
+fn the_card_is_not_written() {
+    let path = concat!(env!("CARGO_TARGET_TMPDIR"), "/card");
+    let mut chance = Chance::new();
+    let card: Vec<u8> = (0..50).flat_map(|_| worn(&mut chance, 3)).collect();
+    fs::write(path, &card).expect("a file");
+    let file = File::options().read(true).write(true).open(path).expect("the file");
+    let output = Command::new(PROGRAM).stdin(file).output().expect("cardlist is built by `rt check cardlist`");
+    assert_eq!(text_of(output), list(&card));
+    assert!(fs::read(path).expect("the file") == card);
+}
+
+/// Seven records that take turns on a large card, no two of them with the same line.
+fn turns() -> Vec<Vec<u8>> {
+    let mut chance = Chance::new();
+    let clean = codeword(&mut chance, 7);
+    let small = codeword(&mut chance, 3);
+    let mut wrong = small.clone();
+    wrong[11] ^= 1;
+    let mut two_wrong = wrong.clone();
+    two_wrong[0] ^= 6;
+    let mut large = small.clone();
+    large[2] = 8;
+    vec![
+        record(7, &clean, &[]),
+        record(3, &small, &[]),
+        record(3, &wrong, &[]),
+        record(3, &two_wrong, &[]),
+        record(3, &large, &[]),
+        record(3, &small, &[12]),
+        record(9, &small, &[]),
+    ]
+}
+
+/// Lists so many records and further bytes, made one after the other, and compares the text with the reference.
+fn large_card(records: usize, further: &[u8]) {
+    let turns = turns();
+    let judged: Vec<_> = turns.iter().map(|record| judge(record)).collect();
+    assert_eq!(judged, [Ok(0), Ok(0), Ok(1), Ok(2), Err(6), Err(4), Err(1)]);
+    let mut wanted = Listing::default();
+    (0..records).for_each(|i| wanted.add(turns[i % 7][0], judged[i % 7]));
+    let text = listed(|input| {
+        let several = turns.concat();
+        let (rounds, rest) = (records / 7, records % 7);
+        (0..rounds).for_each(|_| input.write_all(&several).expect("all of the card is read"));
+        input.write_all(&several[..rest * RECORD]).expect("all of the card is read");
+        input.write_all(further).expect("a pipe has room for it");
+    });
+    let wanted = wanted.end(!further.is_empty());
+    assert!(text == wanted, "the text ends with {:?}, not {:?}", tail(&text), tail(&wanted));
+}
+
+/// The last characters of a text.
+fn tail(text: &str) -> &str {
+    &text[text.len().saturating_sub(60)..]
+}
+
+#[test]
+fn as_many_records_as_are_listed() {
+    large_card(LISTED, &[]);
+}
+
+#[test]
+fn one_byte_more() {
+    large_card(LISTED, &[3]);
+}
+
+#[test]
+fn two_records_more() {
+    large_card(LISTED, &turns()[..2].concat());
+}
