@@ -271,6 +271,57 @@ static void restore_refused_at(uint8_t width) {
     check(at("a long word stays at width", width), holds(&slice, old));
 }
 
+/* A record of width 3 with the word and the marks, and zeros behind. */
+static void make_record(uint8_t *record, const uint8_t *word, const uint8_t *marks, uint8_t count) {
+    memset(record, 0, XRS_RECORD_SIZE);
+    record[0] = 3;
+    record[1] = count;
+    memset(record + 2, 255, 4);
+    memcpy(record + 2, marks, count);
+    memcpy(record + 6, word, 12);
+}
+
+static void records(void) {
+    static const uint8_t worn[12] = {1, 2, 4, 3, 6, 0, 200, 0, 0, 5, 0, 0}, marks[4] = {6, 255, 255, 255};
+    uint8_t old[XRS_RECORD_SIZE + 1] = {0}, clean[XRS_RECORD_SIZE];
+    lent slice;
+    make_record(clean, words[2], marks, 0);
+    make_record(old, worn, marks, 1);
+    answers("restore a record", xrs_restore_record(lend(&slice, old, XRS_RECORD_SIZE), XRS_RECORD_SIZE), XRS_ACCEPTED, 1);
+    check("a restored record has no marks", holds(&slice, clean));
+    old[0] = 4;
+    answers("restore a short record of width 4", xrs_restore_record(lend(&slice, old, 137), 137), XRS_REFUSED_LENGTH, 0);
+    answers("restore a long record", xrs_restore_record(lend(&slice, old, 139), 139), XRS_REFUSED_LENGTH, 0);
+    old[1] = 5;
+    answers("restore a record of width 4", xrs_restore_record(lend(&slice, old, 138), 138), XRS_REFUSED_WIDTH, 0);
+    old[0] = 3;
+    answers("restore a record with five marks", xrs_restore_record(lend(&slice, old, 138), 138), XRS_REFUSED_ERASURE_COUNT, 0);
+    old[1] = 1;
+    old[2] = 12;
+    old[18] = 1;
+    answers("restore a record with a bad tail", xrs_restore_record(lend(&slice, old, 138), 138), XRS_REFUSED_PADDING, 0);
+    check("a record with a bad tail stays", holds(&slice, old));
+    old[18] = 0;
+    answers("restore a record with the mark 12", xrs_restore_record(lend(&slice, old, 138), 138), XRS_REFUSED_ERASURE_PLACE, 0);
+    old[1] = 0;
+    answers("restore a record with an unused mark", xrs_restore_record(lend(&slice, old, 138), 138), XRS_REFUSED_PADDING, 0);
+}
+
+static void cards(void) {
+    static const uint8_t none[1] = {0};
+    uint8_t card[3 * XRS_RECORD_SIZE];
+    size_t i;
+    for (i = 0; i < 3; i++) {
+        make_record(card + i * XRS_RECORD_SIZE, words[i], none, 0);
+    }
+    check("an empty card passes", xrs_check_card(card, 0) == 0);
+    check("a card of three codewords passes", xrs_check_card(card, sizeof card) == 0);
+    check("a short last piece does not", xrs_check_card(card, sizeof card - 1) == 3);
+    card[XRS_RECORD_SIZE] = 4;
+    check("record 2 of width 4 does not", xrs_check_card(card, sizeof card) == 2);
+    check("the record before it does", xrs_check_card(card, XRS_RECORD_SIZE) == 0);
+}
+
 int main(void) {
     uint8_t width;
     field();
@@ -284,6 +335,8 @@ int main(void) {
         restore_at(width);
         restore_refused_at(width);
     }
+    records();
+    cards();
     printf("%u passed, %u failed\n", passed, failed);
     return failed != 0;
 }

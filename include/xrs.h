@@ -4,7 +4,7 @@
  * Widths: the width is 3, 5 or 7, and q is 2^width. A symbol is a number below q, one to a byte. A word has n = q + 4 symbols (12, 36 or
  * 132): five check symbols, then the q - 1 data symbols (7, 31 or 127).
  *
- * Answers: every call returns refusal + 256 * value. The refusal is 0 where the call was accepted; otherwise it is that of the first
+ * Answers: every call but xrs_check_card returns refusal + 256 * value. The refusal is 0 where the call was accepted; otherwise it is that of the first
  * question answered no, and the value is 0. The questions are put in the order 1, 2, 3, 8, 4, 5, 6, 7, 9, 10 of their refusals, each for
  * all its items before the next. XRS_REFUSAL and XRS_VALUE take the number apart.
  *
@@ -78,6 +78,23 @@ uint32_t xrs_read_data(uint8_t width, const uint8_t *word, size_t word_length, u
  * 1 to 7.
  */
 uint32_t xrs_restore_word(uint8_t width, uint8_t *word, size_t word_length, const uint8_t *marks, size_t marks_length);
+
+/* ---- The card. */
+
+/* Bytes of a record: the width, the number of marks, four bytes for the marks (255 where unused), the word, and zeros. */
+#define XRS_RECORD_SIZE 138
+
+/*
+ * Restores the word of a record with the marks that the record names, and leaves the record without marks. The value is the number of
+ * unmarked places changed, 0 to 2. Refused with 1 to 8; the length is asked before the width.
+ */
+uint32_t xrs_restore_record(uint8_t *record, size_t record_length);
+
+/*
+ * Would every record of the card be accepted by xrs_restore_record? Returns 0 for yes, else the number of a record that would not be,
+ * counted from 1. A last piece shorter than a record is one that would not be. A card of length 0 passes.
+ */
+uint64_t xrs_check_card(const uint8_t *card, size_t card_length);
 
 #ifdef __cplusplus
 }

@@ -49,6 +49,8 @@ mod raw {
         pub fn xrs_is_codeword(width: u8, word: *const u8, word_length: usize) -> u32;
         pub fn xrs_read_data(width: u8, word: *const u8, word_length: usize, data: *mut u8, data_length: usize) -> u32;
         pub fn xrs_restore_word(width: u8, word: *mut u8, word_length: usize, marks: *const u8, marks_length: usize) -> u32;
+        pub fn xrs_restore_record(record: *mut u8, record_length: usize) -> u32;
+        pub fn xrs_check_card(card: *const u8, card_length: usize) -> u64;
     }
 }
 
@@ -167,4 +169,48 @@ pub fn read_data(width: u8, word: &[u8], data: &mut [u8]) -> Result<(), Refusal>
 /// ```
 pub fn restore_word(width: u8, word: &mut [u8], marks: &[u8]) -> Result<u8, Refusal> {
     unpack(unsafe { raw::xrs_restore_word(width, word.as_mut_ptr(), word.len(), marks.as_ptr(), marks.len()) }).map(|count| count as u8)
+}
+
+/// Bytes of a record: the width, the number of marks, four bytes for the marks (255 where unused), the word, and zeros.
+pub const RECORD_SIZE: usize = 138;
+
+/// Restores the word of a record with the marks that the record names, leaves the record without marks, and answers the number of unmarked
+/// places that changed, 0 to 2.
+///
+/// ```
+/// let mut record = [0; xrs::RECORD_SIZE];
+/// record[..6].copy_from_slice(&[3, 1, 7, 255, 255, 255]); // width 3, one mark, at place 7
+/// record[6 + 7] = 200;
+/// record[6 + 11] = 5; // a wrong symbol
+/// assert_eq!(xrs::restore_record(&mut record), Ok(1));
+/// assert_eq!(record[..6], [3, 0, 255, 255, 255, 255]);
+/// assert_eq!(record[6..], [0; 132]);
+///
+/// record[137] = 1; // the tail of a record is 0
+/// assert_eq!(xrs::restore_record(&mut record), Err(xrs::Refusal::Padding));
+/// assert_eq!(xrs::restore_record(&mut record[1..]), Err(xrs::Refusal::Length));
+/// ```
+pub fn restore_record(record: &mut [u8]) -> Result<u8, Refusal> {
+    unpack(unsafe { raw::xrs_restore_record(record.as_mut_ptr(), record.len()) }).map(|count| count as u8)
+}
+
+/// Would every record of the card be accepted by `restore_record`? If not, the `Err` holds the number of one that would not be, counted
+/// from 1. A last piece shorter than a record is one that would not be. An empty card passes.
+///
+/// ```
+/// let mut card = [0; 2 * xrs::RECORD_SIZE];
+/// for record in card.chunks_mut(xrs::RECORD_SIZE) {
+///     record[..6].copy_from_slice(&[3, 0, 255, 255, 255, 255]);
+/// }
+/// assert_eq!(xrs::check_card(&card), Ok(()));
+/// assert_eq!(xrs::check_card(&card[..200]), Err(2));
+/// card[0] = 4;
+/// assert_eq!(xrs::check_card(&card), Err(1));
+/// assert_eq!(xrs::check_card(&[]), Ok(()));
+/// ```
+pub fn check_card(card: &[u8]) -> Result<(), u64> {
+    match unsafe { raw::xrs_check_card(card.as_ptr(), card.len()) } {
+        0 => Ok(()),
+        number => Err(number),
+    }
 }

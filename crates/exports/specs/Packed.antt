@@ -1,8 +1,15 @@
--- The one number that an exported call returns. Assumes nothing.
-use Prim.Native.Nat.{ℕ, _*_}
+-- The number that an exported call returns. Assumes nothing.
+use Prim.Native.Nat.{ℕ, zero, suc, _*_}
 use Rattle.field.specs.Question.{Outcome, accepted, refused}
+use Rattle.card.specs.declared.CardCheck.{CardCheck}
+use Rattle.card.specs.declared.CardCheck.the-variants.{AllAccepted, Refused}
 
 -- refusal + 256 * value: the refusal is 0 where the call accepts, and the value is 0 where it refuses
 abbrev pub packed : Outcome → ℕ
 packed (accepted v) = 256 * v
 packed (refused n) = n
+
+-- what the number that the card check returns says: 0 is no record's number
+abbrev pub checkOf : ℕ → CardCheck
+checkOf zero = AllAccepted
+checkOf (suc k) = Refused (suc k)

@@ -1,9 +1,15 @@
-// The calls for C and Rust. Each returns refusal + 256 * value, as its contract says by the same definitions as the call behind it.
+// The calls for C and Rust. Each returns refusal + 256 * value, the card check a record number, as its contract says by the same
+// definitions as the call behind it.
 // A slice is passed as its pointer, then its length.
 ghost use mathlib.Core.Path.{_≡_};
 ghost use Rattle.field.specs.Answer.{outcome, sumOf, productOf, powerOf, inverseOf};
 ghost use Rattle.code.specs.Call.{done, membership, repair, encodeOf, encodeWritten, testOf, readOf, readWritten, restoreOf, restoreWritten};
-ghost use Rattle.exports.specs.Packed.{packed};
+ghost use Rattle.card.specs.Record.{recordOf, recordWritten};
+ghost use Rattle.card.specs.Card.{Checks};
+ghost use Rattle.exports.specs.Packed.{packed, checkOf};
+use card::CardCheck;
+use card::cards::check;
+use card::records::restore_record;
 use code::Membership;
 use code::Repair;
 use field::Answer;
@@ -117,4 +123,24 @@ pub extern "C" fn xrs_restore_word(width: u8, word: &mut [u8], erasures: &[u8]) 
     ensures written { λ r. ⌜ now (word .exit) ≡ restoreWritten width (now (word .entry)) (now (erasures .entry)) ⌝ }
 {
     pack_repair(code::restore(width, word, erasures))
+}
+
+// Writes the near codeword in place of the record's word, and no erasures.
+#[no_mangle]
+pub extern "C" fn xrs_restore_record(bytes: &mut [u8]) -> u32
+    ensures answer { λ r. ⌜ r ≡ packed (recordOf (now (bytes .entry))) ⌝ }
+    ensures written { λ r. ⌜ now (bytes .exit) ≡ recordWritten (now (bytes .entry)) ⌝ }
+{
+    pack_repair(restore_record(bytes))
+}
+
+// The card check: 0 where every record would be accepted, else the number of one that would not be.
+#[no_mangle]
+pub extern "C" fn xrs_check_card(card: &[u8]) -> u64
+    ensures { λ r. ⌜ Checks (now (card .entry)) (checkOf r) ⌝ }
+{
+    match check(card) {
+        CardCheck::AllAccepted => 0,
+        CardCheck::Refused(k) => k as u64,
+    }
 }

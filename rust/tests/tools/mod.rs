@@ -65,6 +65,16 @@ pub fn restore_word_within(rim: u8, width: u8, word: &[u8], marks: &[u8]) -> (Re
     lend_within(rim, marks, word, |marks, word| xrs::restore_word(width, word, marks))
 }
 
+/// `xrs::restore_record` on a copy of the record: its answer, and the record afterwards.
+pub fn restore_record(record: &[u8]) -> (Result<u8, Refusal>, Vec<u8>) {
+    lend(&[], record, |_, record| xrs::restore_record(record))
+}
+
+/// `xrs::check_card` on a copy of the card.
+pub fn check_card(card: &[u8]) -> Result<(), u64> {
+    lend(card, &[], |card, _| Ok(xrs::check_card(card))).0.expect("the card check refuses no card")
+}
+
 /// The generator xorshift64 from a fixed seed, so that each run tries the same.
 pub struct Chance(u64);
 

@@ -1,0 +1,124 @@
+//! The restorer of a record and the card check against the reference.
+
+mod reference;
+mod tools;
+
+use reference::card::{judge, record, restore, RECORD};
+use tools::wear::{codeword, worn};
+use tools::{check_card, restore_record, Chance};
+use xrs::Refusal;
+
+const WIDTHS: [u8; 3] = [3, 5, 7];
+
+/// Fails unless the answer and the bytes afterwards are those of the reference.
+fn compare(old: &[u8]) -> Result<u8, Refusal> {
+    let wanted = match restore(old) {
+        Ok((changed, new)) => (Ok(changed), new),
+        Err(number) => (Err(Refusal::from_number(number).expect("a refusal number")), old.to_vec()),
+    };
+    let found = restore_record(old);
+    assert!(found == wanted, "{old:?}: {found:?}, not {wanted:?}");
+    found.0
+}
+
+#[test]
+fn worn_records() {
+    let mut chance = Chance::new();
+    let mut seen = [0; 11];
+    for _ in 0..3000 {
+        let width = WIDTHS[chance.below(3)];
+        let number = compare(&worn(&mut chance, width)).map_or_else(|refusal| refusal as usize, |_| 0);
+        seen[number] += 1;
+    }
+    for number in [0, 1, 3, 4, 5, 6, 7, 8] {
+        assert!(seen[number] > 0, "no record was refused with {number}: {seen:?}");
+    }
+}
+
+#[test]
+fn every_byte_of_the_header() {
+    let mut chance = Chance::new();
+    for width in WIDTHS {
+        let word = codeword(&mut chance, width);
+        let clean = record(width, &word, &[]);
+        let marked = record(width, &word, &[1, 5, 8, 11]);
+        for at in 0..6 {
+            for byte in 0..=255 {
+                for mut bytes in [clean.clone(), marked.clone()] {
+                    bytes[at] = byte;
+                    let _ = compare(&bytes);
+                }
+            }
+        }
+    }
+}
+
+#[test]
+fn every_byte_of_the_tail() {
+    let mut chance = Chance::new();
+    for width in WIDTHS {
+        let clean = record(width, &codeword(&mut chance, width), &[]);
+        for at in 6..RECORD {
+            let mut bytes = clean.clone();
+            bytes[at] ^= 1;
+            let _ = compare(&bytes);
+        }
+    }
+}
+
+#[test]
+fn the_length_comes_first() {
+    let clean = record(3, &codeword(&mut Chance::new(), 3), &[]);
+    let mut bytes: Vec<u8> = clean.iter().cycle().take(300).copied().collect();
+    bytes[0] = 4;
+    for length in (0..300).filter(|&length| length != RECORD) {
+        assert_eq!(compare(&bytes[..length]), Err(Refusal::Length));
+    }
+}
+
+#[test]
+fn restored_records_stay() {
+    let mut chance = Chance::new();
+    for _ in 0..500 {
+        let width = WIDTHS[chance.below(3)];
+        let (answer, restored) = restore_record(&worn(&mut chance, width));
+        if answer.is_ok() {
+            assert_eq!(restore_record(&restored), (Ok(0), restored));
+        }
+    }
+}
+
+/// Any number of a record that would be refused will do.
+fn compare_check(card: &[u8]) {
+    let pieces: Vec<&[u8]> = card.chunks(RECORD).collect();
+    match check_card(card) {
+        Ok(()) => assert!(pieces.iter().all(|piece| judge(piece).is_ok()), "a card passed that has a record to be refused"),
+        Err(number) => {
+            let piece = pieces.get((number as usize).wrapping_sub(1)).expect("the number of a record");
+            assert!(judge(piece).is_err(), "record {number} would be accepted");
+        }
+    }
+}
+
+#[test]
+fn cards() {
+    let mut chance = Chance::new();
+    let clean: Vec<u8> = (0..40).flat_map(|i| record(WIDTHS[i % 3], &codeword(&mut chance, WIDTHS[i % 3]), &[])).collect();
+    assert_eq!(check_card(&[]), Ok(()));
+    for records in 0..=40 {
+        assert_eq!(check_card(&clean[..records * RECORD]), Ok(()));
+    }
+    for length in 0..3 * RECORD {
+        compare_check(&clean[..length]);
+    }
+    for bad in 0..40 {
+        let mut card = clean.clone();
+        card[bad * RECORD + 1] = 5;
+        assert_eq!(check_card(&card), Err(bad as u64 + 1), "the one record that would be refused");
+    }
+    for _ in 0..200 {
+        let records = chance.below(6);
+        let card: Vec<u8> = (0..records).flat_map(|_| worn(&mut chance, 3)).collect();
+        compare_check(&card[..card.len() - chance.below(2).min(card.len())]);
+    }
+}
