@@ -15,7 +15,7 @@
  *
  * The calls keep no state, so any number of threads may call them at once on memory of their own.
  *
- * The archive target/staticlib/libexports.a, made by `rt staticlib exports`, is for x86-64 Linux.
+ * The archive libxrs.a, made by `./package` in the repository, is for x86-64 Linux.
  */
 #ifndef XRS_H
 #define XRS_H

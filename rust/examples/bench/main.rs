@@ -1,0 +1,141 @@
+//! Times the restorer beside an independent implementation of the same method; `bench/run` calls it and makes the table.
+//!
+//!     bench words         a line 'NAME WIDTH WRONG MARKS NANOSECONDS' for each kind of word
+//!     bench card FILE     writes a card of 1,000,000 clean records of width 7
+
+mod trying;
+
+use std::io::{BufWriter, Write};
+use std::time::{Duration, Instant};
+
+/// Words of each kind.
+const WORDS: usize = 4096;
+/// Timed rounds over the words; more follow until `SPENT` is reached. The best counts.
+const ROUNDS: usize = 5;
+const SPENT: Duration = Duration::from_millis(500);
+const RECORDS: usize = 1_000_000;
+
+/// The generator xorshift64 from a fixed seed, so that each run times the same words.
+struct Chance(u64);
+
+impl Chance {
+    fn new() -> Chance {
+        Chance(0x9E37_79B9_7F4A_7C15)
+    }
+
+    /// A number below `bound`, which is not 0.
+    fn below(&mut self, bound: usize) -> usize {
+        self.0 ^= self.0 << 13;
+        self.0 ^= self.0 >> 7;
+        self.0 ^= self.0 << 17;
+        ((self.0 >> 32) as usize) % bound
+    }
+
+    /// Different places below `n`.
+    fn places(&mut self, count: usize, n: usize) -> Vec<u8> {
+        let mut found = Vec::new();
+        while found.len() < count {
+            let place = self.below(n) as u8;
+            if !found.contains(&place) {
+                found.push(place);
+            }
+        }
+        found
+    }
+
+    /// A codeword of random data.
+    fn codeword(&mut self, width: u8) -> Vec<u8> {
+        let q = 1 << width;
+        let data: Vec<u8> = (1..q).map(|_| self.below(q) as u8).collect();
+        let mut word = vec![0; q + 4];
+        xrs::encode(width, &data, &mut word).expect("data of the width");
+        word
+    }
+}
+
+/// Words of one kind: `wrong` wrong symbols beside `marks` erasures, whose symbols are wrong too. The words stand one behind the other.
+struct Words {
+    width: u8,
+    wrong: usize,
+    codewords: Vec<u8>,
+    worn: Vec<u8>,
+    marks: Vec<Vec<u8>>,
+}
+
+impl Words {
+    fn new(width: u8, wrong: usize, marks: usize) -> Words {
+        let mut chance = Chance::new();
+        let mut words = Words { width, wrong, codewords: Vec::new(), worn: Vec::new(), marks: Vec::new() };
+        for _ in 0..WORDS {
+            let codeword = chance.codeword(width);
+            let places = chance.places(wrong + marks, codeword.len());
+            let mut worn = codeword.clone();
+            for &place in &places {
+                worn[place as usize] ^= 1 + chance.below((1 << width) - 1) as u8;
+            }
+            words.codewords.extend(codeword);
+            words.worn.extend(worn);
+            words.marks.push(places[wrong..].to_vec());
+        }
+        words
+    }
+
+    /// Restores fresh copies of the words, made before the clock starts. Fails where a word is not restored.
+    fn round(&self, name: &str, restore: &impl Fn(&mut [u8], &[u8]) -> Option<u8>) -> Duration {
+        let mut copies = self.worn.clone();
+        let mut restored = 0;
+        let start = Instant::now();
+        for (word, marks) in copies.chunks_mut((1 << self.width) + 4).zip(&self.marks) {
+            restored += (restore(word, marks) == Some(self.wrong as u8)) as usize;
+        }
+        let spent = start.elapsed();
+        assert!(restored == WORDS && copies == self.codewords, "{name} does not restore every word");
+        spent
+    }
+
+    /// Prints the nanoseconds per word of the best round. One round goes before, to check and to warm up.
+    fn time(&self, name: &str, restore: impl Fn(&mut [u8], &[u8]) -> Option<u8>) {
+        self.round(name, &restore);
+        let mut times = Vec::new();
+        while times.len() < ROUNDS || times.iter().sum::<Duration>() < SPENT {
+            times.push(self.round(name, &restore));
+        }
+        let best = times.iter().min().expect("a round").as_nanos() as f64 / WORDS as f64;
+        println!("{name} {} {} {} {best:.1}", self.width, self.wrong, self.marks[0].len());
+    }
+}
+
+fn time_words() {
+    let decoder = trying::Decoder::new();
+    for width in [3, 5, 7] {
+        for wrong in 0..=2 {
+            Words::new(width, wrong, 0).time("ours", |word, marks| xrs::restore_word(width, word, marks).ok());
+        }
+    }
+    for marks in 1..=4 {
+        Words::new(7, 0, marks).time("ours", |word, marks| xrs::restore_word(7, word, marks).ok());
+    }
+    for (wrong, marks) in [(0, 0), (1, 0), (2, 0), (0, 1), (0, 2), (0, 3), (0, 4)] {
+        let words = Words::new(7, wrong, marks);
+        words.time("independent", |word, marks| decoder.restore(word.try_into().expect("132 symbols"), marks));
+    }
+}
+
+fn write_card(path: &str) -> std::io::Result<()> {
+    let mut chance = Chance::new();
+    let mut card = BufWriter::new(std::fs::File::create(path)?);
+    for _ in 0..RECORDS {
+        card.write_all(&[7, 0, 255, 255, 255, 255])?;
+        card.write_all(&chance.codeword(7))?;
+    }
+    card.flush()
+}
+
+fn main() {
+    let arguments: Vec<String> = std::env::args().skip(1).collect();
+    match arguments.iter().map(String::as_str).collect::<Vec<_>>()[..] {
+        ["words"] => time_words(),
+        ["card", path] => write_card(path).expect("the card cannot be written"),
+        _ => panic!("usage: bench words | bench card FILE"),
+    }
+}

@@ -1,0 +1,97 @@
+//! Restores a million worn words from a fixed seed. Prints how many, and how many came out wrong; ends with an error where one did.
+//!
+//! The words are sums of codewords by the reference, so each is known before its cells wear. Where no more than r symbols beside the
+//! erasures are wrong, that codeword must come back, with their number. Where more are wrong, the answer is that of the reference at
+//! width 3; at the others, where its search takes long, an accepted word must be a codeword that is near, and a refused one as it was.
+
+#[path = "../tests/reference/mod.rs"]
+mod reference;
+#[path = "../tests/tools/mod.rs"]
+mod tools;
+
+use reference::{order, places, search, syndromes};
+use std::time::Instant;
+use tools::wear::codeword;
+use tools::Chance;
+use xrs::Refusal;
+
+const WORDS: usize = 1_000_000;
+
+/// Of 20 words so many have this width: the wide ones take long.
+const SHARES: [(u8, usize); 3] = [(3, 13), (5, 6), (7, 1)];
+
+/// Codewords of a width, whose sums are codewords too.
+struct Source {
+    width: u8,
+    words: Vec<Vec<u8>>,
+}
+
+impl Source {
+    fn new(chance: &mut Chance, width: u8) -> Source {
+        let words = (0..64).map(|_| codeword(chance, width)).collect();
+        Source { width, words }
+    }
+
+    fn draw(&self, chance: &mut Chance) -> Vec<u8> {
+        let mut sum = self.words[chance.below(64)].clone();
+        for _ in 0..3 {
+            let other = &self.words[chance.below(64)];
+            sum.iter_mut().zip(other).for_each(|(a, b)| *a ^= b);
+        }
+        sum
+    }
+}
+
+/// The number of unmarked places at which two words differ.
+fn changes(a: &[u8], b: &[u8], marks: &[u8]) -> usize {
+    (0..a.len()).filter(|&p| a[p] != b[p] && !marks.contains(&(p as u8))).count()
+}
+
+/// Is this answer right for the worn word, of which `clean` is the codeword?
+fn is_right(width: u8, clean: &[u8], worn: &[u8], marks: &[u8], answer: Result<u8, Refusal>, after: &[u8]) -> bool {
+    let wrong = changes(clean, worn, marks);
+    let reach = (4 - marks.len()) / 2;
+    if wrong <= reach {
+        return answer == Ok(wrong as u8) && after == clean;
+    }
+    if width == 3 {
+        return match search::restore(width, worn, marks) {
+            Ok((count, near)) => answer == Ok(count) && after == near,
+            Err(number) => answer.map_err(|refusal| refusal as u8) == Err(number) && after == worn,
+        };
+    }
+    match answer {
+        Ok(count) => {
+            let changed = changes(worn, after, marks);
+            changed == count as usize && changed <= reach && syndromes(width, after) == [0; 5]
+        }
+        Err(refusal) => refusal == Refusal::Correctable && after == worn,
+    }
+}
+
+/// Wears a codeword, restores it, and tells whether the answer is right.
+fn soak(chance: &mut Chance, source: &Source) -> bool {
+    let width = source.width;
+    let clean = source.draw(chance);
+    let mut worn = clean.clone();
+    let (marked, wrong) = (chance.below(5), chance.below(4));
+    let spoiled = chance.places(marked + wrong, places(width));
+    let (marks, others) = spoiled.split_at(marked);
+    marks.iter().for_each(|&place| worn[place as usize] = chance.below(256) as u8);
+    others.iter().for_each(|&place| worn[place as usize] ^= 1 + chance.below(order(width) - 1) as u8);
+    let mut after = worn.clone();
+    let answer = xrs::restore_word(width, &mut after, marks);
+    is_right(width, &clean, &worn, marks, answer, &after)
+}
+
+fn main() {
+    let mut chance = Chance::new();
+    let began = Instant::now();
+    let mut mismatches = 0;
+    for (width, share) in SHARES {
+        let source = Source::new(&mut chance, width);
+        mismatches += (0..WORDS / 20 * share).filter(|_| !soak(&mut chance, &source)).count();
+    }
+    println!("soak: {WORDS} words, {mismatches} mismatches, {} s", began.elapsed().as_secs());
+    std::process::exit((mismatches > 0) as i32);
+}
