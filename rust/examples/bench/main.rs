@@ -3,10 +3,16 @@
 //!     bench words         a line 'NAME WIDTH WRONG MARKS NANOSECONDS' for each kind of word
 //!     bench card FILE     writes a card of 1,000,000 clean records of width 7
 
+#[path = "../../tests/reference/mod.rs"]
+mod reference;
+#[path = "../../tests/tools/mod.rs"]
+mod tools;
 mod trying;
 
+use reference::{items, order, places};
 use std::io::{BufWriter, Write};
 use std::time::{Duration, Instant};
+use tools::Chance;
 
 /// Words of each kind.
 const WORDS: usize = 4096;
@@ -15,42 +21,12 @@ const ROUNDS: usize = 5;
 const SPENT: Duration = Duration::from_millis(500);
 const RECORDS: usize = 1_000_000;
 
-/// The generator xorshift64 from a fixed seed, so that each run times the same words.
-struct Chance(u64);
-
-impl Chance {
-    fn new() -> Chance {
-        Chance(0x9E37_79B9_7F4A_7C15)
-    }
-
-    /// A number below `bound`, which is not 0.
-    fn below(&mut self, bound: usize) -> usize {
-        self.0 ^= self.0 << 13;
-        self.0 ^= self.0 >> 7;
-        self.0 ^= self.0 << 17;
-        ((self.0 >> 32) as usize) % bound
-    }
-
-    /// Different places below `n`.
-    fn places(&mut self, count: usize, n: usize) -> Vec<u8> {
-        let mut found = Vec::new();
-        while found.len() < count {
-            let place = self.below(n) as u8;
-            if !found.contains(&place) {
-                found.push(place);
-            }
-        }
-        found
-    }
-
-    /// A codeword of random data.
-    fn codeword(&mut self, width: u8) -> Vec<u8> {
-        let q = 1 << width;
-        let data: Vec<u8> = (1..q).map(|_| self.below(q) as u8).collect();
-        let mut word = vec![0; q + 4];
-        xrs::encode(width, &data, &mut word).expect("data of the width");
-        word
-    }
+/// A codeword of random data. The library makes it: the reference would take long for a card.
+fn codeword(chance: &mut Chance, width: u8) -> Vec<u8> {
+    let data = chance.symbols(items(width), order(width));
+    let mut word = vec![0; places(width)];
+    xrs::encode(width, &data, &mut word).expect("data of the width");
+    word
 }
 
 /// Words of one kind: `wrong` wrong symbols beside `marks` erasures, whose symbols are wrong too. The words stand one behind the other.
@@ -67,15 +43,15 @@ impl Words {
         let mut chance = Chance::new();
         let mut words = Words { width, wrong, codewords: Vec::new(), worn: Vec::new(), marks: Vec::new() };
         for _ in 0..WORDS {
-            let codeword = chance.codeword(width);
-            let places = chance.places(wrong + marks, codeword.len());
-            let mut worn = codeword.clone();
-            for &place in &places {
-                worn[place as usize] ^= 1 + chance.below((1 << width) - 1) as u8;
+            let clean = codeword(&mut chance, width);
+            let spoiled = chance.places(wrong + marks, places(width));
+            let mut worn = clean.clone();
+            for &place in &spoiled {
+                worn[place as usize] ^= 1 + chance.below(order(width) - 1) as u8;
             }
-            words.codewords.extend(codeword);
+            words.codewords.extend(clean);
             words.worn.extend(worn);
-            words.marks.push(places[wrong..].to_vec());
+            words.marks.push(spoiled[wrong..].to_vec());
         }
         words
     }
@@ -85,7 +61,7 @@ impl Words {
         let mut copies = self.worn.clone();
         let mut restored = 0;
         let start = Instant::now();
-        for (word, marks) in copies.chunks_mut((1 << self.width) + 4).zip(&self.marks) {
+        for (word, marks) in copies.chunks_mut(places(self.width)).zip(&self.marks) {
             restored += (restore(word, marks) == Some(self.wrong as u8)) as usize;
         }
         let spent = start.elapsed();
@@ -126,7 +102,7 @@ fn write_card(path: &str) -> std::io::Result<()> {
     let mut card = BufWriter::new(std::fs::File::create(path)?);
     for _ in 0..RECORDS {
         card.write_all(&[7, 0, 255, 255, 255, 255])?;
-        card.write_all(&chance.codeword(7))?;
+        card.write_all(&codeword(&mut chance, 7))?;
     }
     card.flush()
 }
