@@ -13,10 +13,9 @@ enum {
     PLACES = 127,
     CHECKS = 4,
     DATA = PLACES - CHECKS,
-    WORDS = 4096, /* words of each kind */
-    ROUNDS = 5    /* timed rounds over the words; more follow until SPENT is reached, and the best counts */
+    WORDS = 4096 /* words of each kind */
 };
-#define SPENT 0.5 /* seconds */
+#define SPENT 0.5 /* seconds: rounds over the words follow each other until they are spent, and the best counts */
 
 static uint8_t codewords[WORDS][PLACES], worn[WORDS][PLACES], copies[WORDS][PLACES];
 static int marked[WORDS][CHECKS], places[WORDS][CHECKS]; /* the decoder writes into its list of erasures */
@@ -68,14 +67,14 @@ static double one_round(void *code, int wrong, int marks) {
     return spent;
 }
 
-/* Prints the nanoseconds per word of the best round. One round goes before, to check and to warm up. */
+/* Prints the nanoseconds per word of the best round. */
 static void time_words(void *code, int wrong, int marks) {
     make(code, wrong + marks);
-    double best = one_round(code, wrong, marks), sum = 0;
-    for (int round = 0; round < ROUNDS || sum < SPENT; round++) {
+    double best = one_round(code, wrong, marks), sum = best;
+    while (sum < SPENT) {
         double spent = one_round(code, wrong, marks);
         sum += spent;
-        if (round == 0 || spent < best) best = spent;
+        if (spent < best) best = spent;
     }
     printf("libfec 7 %d %d %.1f\n", wrong, marks, best * 1e9 / WORDS);
 }

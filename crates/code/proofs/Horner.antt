@@ -4,16 +4,14 @@ use mathlib.Core.Bool.{true}
 use mathlib.Core.List.{List, [], _∷_}
 use Prim.Native.Nat.{ℕ, zero, suc, _+_, _-_, _*_, _≤_, _<_}
 use native.Mathlib.Nat.{mul-zero, mul-suc}
-use native.Mathlib.Numerals.{add-one}
 use native.Mathlib.Omega.{arith}
 use lib.ListN.{length, getD, take, drop, length-drop}
 use lib.Seq.{drop-cons, drop-length, getD-drop}
 use Rattle.field.specs.Polynomial.{add}
-use Rattle.field.specs.Field.{order, double, product, power, α}
+use Rattle.field.specs.Field.{order, product, power, α}
 use Rattle.field.specs.Question.{isWidth, allBelow}
 use Rattle.field.proofs.Laws.{IsField}
 use Rattle.field.proofs.Widths.{field-of}
-use Rattle.field.proofs.Powers.{double-product}
 use Rattle.code.specs.Word.{checks, places, items, five, at, sum, weighted, parity, syndrome, dataOf}
 use Rattle.code.proofs.Sums.{sum-cong}
 use Rattle.code.proofs.Loops.{part-drop}
@@ -83,22 +81,11 @@ module _ {m : ℕ} (F : IsField m) where
   evaluate-lt [] k b = omega (arith, F .one-lt)
   evaluate-lt (c ∷ cs) k b = F .add-lt _ _ (F .product-lt _ _) (b 0 (omega arith))
 
--- a times the power k of α, doubled once more
-pub shift-start : (m a : ℕ) → isWidth m ≡ true → a < order m → a ≡ product m (power m α 0) a
-shift-start m a w h =
+-- the power 0 of α changes nothing
+pub first-shift : (m a : ℕ) → isWidth m ≡ true → a < order m → a ≡ product m (power m α 0) a
+first-shift m a w h =
     let F = field-of m w in
     sym (ap (λ (x : ℕ). product m x a) (F .power-zero α) ∙ F .one-product a h)
-
-pub shift-on : (m a i r d : ℕ) → isWidth m ≡ true → r ≡ product m (power m α i) a → d ≡ double m r → d ≡ product m (power m α (i + 1)) a
-shift-on m a i r d w e f =
-    let F = field-of m w in
-    f ∙ ap (double m) e ∙ double-product m (F .positive) (product m (power m α i) a) (F .product-lt _ _)
-    ∙ sym (F .product-assoc α (power m α i) a)
-    ∙ sym (ap (λ (j : ℕ). product m (power m α j) a) (add-one i) ∙ ap (λ (x : ℕ). product m x a) (F .power-suc α i))
-
-pub shift-small : (m q a i r : ℕ) → isWidth m ≡ true → q ≡ order m → r ≡ product m (power m α i) a → r < q
-shift-small m q a i r w eq e =
-    subst (λ (x : ℕ). x < q) (sym e) (subst (λ (x : ℕ). product m (power m α i) a < x) (sym eq) (field-of m w .product-lt (power m α i) a))
 
 -- the pass: s holds the sums over the symbols from i on
 module _ (m : ℕ) (w : isWidth m ≡ true) (cs : List ℕ) (b : allBelow (order m) cs ≡ true) where

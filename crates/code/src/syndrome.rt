@@ -5,42 +5,26 @@ ghost use mathlib.Core.Bool.{true};
 ghost use Prim.Native.Nat.{ℕ, _<_, _≤_};
 ghost use lib.ListN.{length};
 ghost use Rattle.field.specs.Polynomial.{add};
-ghost use Rattle.field.specs.Field.{order, polynomial, product, power, α};
+ghost use Rattle.field.specs.Field.{order, product, power, α};
 ghost use Rattle.field.specs.Question.{isWidth, allBelow};
 ghost use Rattle.code.specs.Word.{checks, five, weighted, places, at, syndrome};
-use field::arithmetic::double;
-use field::arithmetic::order_of;
-use field::arithmetic::polynomial_of;
+use field::shift::shift;
 
-// a times the power k of α, by doubling; q and p are the order and the polynomial of a width.
-fn shifted(q: u8, p: u8, a: u8, k: usize) -> u8
-    ensures { λ r. ⌜ ((m : ℕ) → isWidth m ≡ true → q ≡ order m → p ≡ polynomial m → a < q → r ≡ product m (power m α k) a) ⌝ }
-{
-    let mut r = a;
-    let mut i = 0;
-    while i < k {
-        r = double(q, p, r);
-        i += 1;
-    }
-    r
-}
-
-// The sums with one more symbol in front.
-fn step(q: u8, p: u8, s: [u8; 5], c: u8) -> [u8; 5]
+// The sums with one more symbol in front. The power 0 of α leaves the first as it is.
+fn step(width: u8, s: [u8; 5], c: u8) -> [u8; 5]
     ensures { λ r.
         ⌜
         (
-        (m : ℕ) → isWidth m ≡ true → q ≡ order m → p ≡ polynomial m → ((k : ℕ) → k < checks → at s k < q)
-        → r ≡ five (λ k. add (product m (power m α k) (at s k)) c)
+        isWidth width ≡ true → ((k : ℕ) → k < checks → at s k < order width)
+        → r ≡ five (λ k. add (product width (power width α k) (at s k)) c)
         )
         ⌝ }
 {
-    let s0 = shifted(q, p, s[0], 0);
-    let s1 = shifted(q, p, s[1], 1);
-    let s2 = shifted(q, p, s[2], 2);
-    let s3 = shifted(q, p, s[3], 3);
-    let s4 = shifted(q, p, s[4], 4);
-    [s0 ^ c, s1 ^ c, s2 ^ c, s3 ^ c, s4 ^ c]
+    let s1 = shift(width, s[1], 1);
+    let s2 = shift(width, s[2], 2);
+    let s3 = shift(width, s[3], 3);
+    let s4 = shift(width, s[4], 4);
+    [s[0] ^ c, s1 ^ c, s2 ^ c, s3 ^ c, s4 ^ c]
 }
 
 // For k from 0 to 4 the field sum over i of α^(k·i) times symbol i.
@@ -53,13 +37,11 @@ pub fn parities(width: u8, symbols: &[u8]) -> [u8; 5]
         )
         ⌝ }
 {
-    let q = order_of(width);
-    let p = polynomial_of(width);
     let mut s = [0u8; 5];
     let mut i = symbols.len();
     while 0 < i {
         i -= 1;
-        let next = step(q, p, s, symbols[i]);
+        let next = step(width, s, symbols[i]);
         s = next;
     }
     s

@@ -17,6 +17,10 @@ pub and-right : (a b : Bool) → T (a && b) → T b
 and-right true b t = t
 and-right false b t = absurd t
 
+pub and-both : (a b : Bool) → T a → T b → T (a && b)
+and-both true b s t = t
+and-both false b s t = s
+
 pub or-right : (a b : Bool) → T (a || b) → (T a → ⊥) → T b
 or-right true b t n = absurd (n tt)
 or-right false b t n = t

@@ -5,5 +5,6 @@ pub mod Powers
 pub mod Laws
 pub mod Widths
 pub mod PowerTable
+pub mod Shifts
 pub mod Steps
 pub mod Ask

@@ -23,7 +23,7 @@ pub fn order_of(width: u8) -> u8
     }
 }
 
-pub fn polynomial_of(width: u8) -> u8
+fn polynomial_of(width: u8) -> u8
     ensures { λ r. ⌜ (isWidth width ≡ true → r ≡ polynomial width) ⌝ }
 {
     match width {
@@ -34,7 +34,7 @@ pub fn polynomial_of(width: u8) -> u8
 }
 
 // a times α, where q and p are the order and the polynomial of a width.
-pub fn double(q: u8, p: u8, a: u8) -> u8
+fn double(q: u8, p: u8, a: u8) -> u8
     ensures { λ r. ⌜ ((m : ℕ) → isWidth m ≡ true → q ≡ order m → p ≡ polynomial m → a < q → r ≡ doubleM m a) ⌝ }
 {
     let d = a % 128 * 2;

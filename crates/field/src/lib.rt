@@ -5,6 +5,7 @@ ghost use Rattle.field.specs.Question.{refusal};
 ghost use Rattle.field.specs.Answer.{operands, outcome, sumOf, productOf, powerOf, inverseOf};
 
 pub mod arithmetic;
+pub mod shift;
 pub mod table;
 
 use arithmetic::multiply;

@@ -16,8 +16,7 @@ use tools::Chance;
 
 /// Words of each kind.
 const WORDS: usize = 4096;
-/// Timed rounds over the words; more follow until `SPENT` is reached. The best counts.
-const ROUNDS: usize = 5;
+/// Rounds over the words follow each other until this time is spent. The best counts.
 const SPENT: Duration = Duration::from_millis(500);
 const RECORDS: usize = 1_000_000;
 
@@ -69,14 +68,16 @@ impl Words {
         spent
     }
 
-    /// Prints the nanoseconds per word of the best round. One round goes before, to check and to warm up.
+    /// Prints the nanoseconds per word of the best round.
     fn time(&self, name: &str, restore: impl Fn(&mut [u8], &[u8]) -> Option<u8>) {
-        self.round(name, &restore);
-        let mut times = Vec::new();
-        while times.len() < ROUNDS || times.iter().sum::<Duration>() < SPENT {
-            times.push(self.round(name, &restore));
+        let mut best = self.round(name, &restore);
+        let mut spent = best;
+        while spent < SPENT {
+            let round = self.round(name, &restore);
+            spent += round;
+            best = best.min(round);
         }
-        let best = times.iter().min().expect("a round").as_nanos() as f64 / WORDS as f64;
+        let best = best.as_nanos() as f64 / WORDS as f64;
         println!("{name} {} {} {} {best:.1}", self.width, self.wrong, self.marks[0].len());
     }
 }

@@ -7,28 +7,21 @@ use native.Mathlib.Omega.{arith}
 use lib.ListN.{length, drop}
 use Rattle.field.specs.Field.{order}
 use Rattle.field.specs.Question.{isWidth, allBelow}
-use Rattle.field.proofs.Ask.{order-is}
 use Rattle.code.specs.Word.{five, at}
 use Rattle.code.proofs.Horner.{evaluate, pass-start, pass-small, pass-on, pass-end}
 use Rattle.code.proofs.syndrome.parities.Statement.{statement}
 use Rattle.code.proofs.syndrome.parities.Tie as tie
 
 abbrev Inv-loop : tie.InvT-loop
-Inv-loop width symbols q p s₀ i₀ s i =
+Inv-loop width symbols s₀ i₀ s i =
     (i ≤ length symbols)
     × (isWidth width ≡ true → allBelow (order width) symbols ≡ true → s ≡ five (evaluate width (drop i symbols)))
 
 abbrev μ-loop : tie.MeasureT-loop
-μ-loop width symbols q p s₀ i₀ s i = i
-
-order-of-requires : tie.Need-order-of-requires Inv-loop μ-loop
-order-of-requires c κs = search needs
-
-polynomial-of-requires : tie.Need-polynomial-of-requires Inv-loop μ-loop
-polynomial-of-requires c κs = search needs
+μ-loop width symbols s₀ i₀ s i = i
 
 loop-holds : tie.Need-loop-holds Inv-loop μ-loop
-loop-holds c = (search needs, λ w b. pass-start (c .before .before .before .args .width) w (c .before .before .before .args .symbols .now) b)
+loop-holds c = (search needs, λ w b. pass-start (c .before .args .width) w (c .before .args .symbols .now) b)
 
 sub-i : tie.Need-sub-i Inv-loop μ-loop
 sub-i c = search needs
@@ -45,25 +38,22 @@ loop-less c = omega arith
 loop-again : tie.Need-loop-again Inv-loop μ-loop
 loop-again c =
     let l = c .before .before .before in
-    let a = l .before .before .before .before .args in
+    let a = l .before .before .args in
     let m = a .width in
     let cs = a .symbols .now in
     let s = l .loop .s in
-    let i = l .loop .i in
-    let o = l .before .before .order-of in (
+    let i = l .loop .i in (
       omega (arith, l .loop .inv .0),
       λ w b. (
           let e = l .loop .inv .1 w b in
-          let q = order-is m (o .result) (o .ensures) w in
           pass-on m w cs b s (c .step .result) i e (search needs) (l .loop .inv .0)
-          (c .step .ensures m w q (l .before .polynomial-of .ensures w)
-          (λ k h. subst (λ (x : ℕ). at s k < x) (sym q) (pass-small m w cs b s i k e (l .loop .inv .0) h)))),
+          (c .step .ensures w (λ k h. pass-small m w cs b s i k e (l .loop .inv .0) h))),
     )
 
 returns : tie.Need-returns Inv-loop μ-loop
 returns c = λ w b.
     (let l = c .before in
-    let a = l .before .before .before .before .args in
+    let a = l .before .before .args in
     pass-end (a .width) w (a .symbols .now) b (l .loop .s) (l .loop .i) (l .loop .inv .1 w b) (omega arith))
 
 pub parities-spec : {M : Type 1} → statement M
@@ -72,8 +62,6 @@ parities-spec =
     (tie.spec
     Inv-loop
     μ-loop
-    order-of-requires
-    polynomial-of-requires
     loop-holds
     sub-i
     shared-slice-read-step

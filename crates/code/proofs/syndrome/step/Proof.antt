@@ -6,68 +6,64 @@ use lib.Dec.{lit<}
 use Rattle.field.specs.Polynomial.{add}
 use Rattle.field.specs.Field.{product, power, α}
 use Rattle.code.specs.Word.{at}
-use Rattle.code.proofs.Horner.{five-of}
+use Rattle.code.proofs.Horner.{five-of, first-shift}
 use Rattle.code.proofs.syndrome.step.Statement.{statement}
 use Rattle.code.proofs.syndrome.step.Tie as tie
 
-array-read-shifted : tie.Need-array-read-shifted
-array-read-shifted c = search needs
+array-read-shift : tie.Need-array-read-shift
+array-read-shift c = search needs
 
-shifted-requires : tie.Need-shifted-requires
-shifted-requires c κs = search needs
+shift-requires : tie.Need-shift-requires
+shift-requires c κs = search needs
 
-array-read-shifted-2 : tie.Need-array-read-shifted-2
-array-read-shifted-2 c = search needs
+array-read-shift-2 : tie.Need-array-read-shift-2
+array-read-shift-2 c = search needs
 
-shifted-requires-2 : tie.Need-shifted-requires-2
-shifted-requires-2 c κs = search needs
+shift-requires-2 : tie.Need-shift-requires-2
+shift-requires-2 c κs = search needs
 
-array-read-shifted-3 : tie.Need-array-read-shifted-3
-array-read-shifted-3 c = search needs
+array-read-shift-3 : tie.Need-array-read-shift-3
+array-read-shift-3 c = search needs
 
-shifted-requires-3 : tie.Need-shifted-requires-3
-shifted-requires-3 c κs = search needs
+shift-requires-3 : tie.Need-shift-requires-3
+shift-requires-3 c κs = search needs
 
-array-read-shifted-4 : tie.Need-array-read-shifted-4
-array-read-shifted-4 c = search needs
+array-read-shift-4 : tie.Need-array-read-shift-4
+array-read-shift-4 c = search needs
 
-shifted-requires-4 : tie.Need-shifted-requires-4
-shifted-requires-4 c κs = search needs
+shift-requires-4 : tie.Need-shift-requires-4
+shift-requires-4 c κs = search needs
 
-array-read-shifted-5 : tie.Need-array-read-shifted-5
-array-read-shifted-5 c = search needs
-
-shifted-requires-5 : tie.Need-shifted-requires-5
-shifted-requires-5 c κs = search needs
+array-read-t11 : tie.Need-array-read-t11
+array-read-t11 c = search needs
 
 returns : tie.Need-returns
 unfolding add
-returns c = λ m w eq ep h.
-    (let s5 = c .before in
-    let s4 = s5 .before in
-    let s3 = s4 .before in
-    let s2 = s3 .before in
-    let a = s2 .before .args in
+returns c = λ w h.
+    (let l3 = c .before in
+    let l2 = l3 .before in
+    let l1 = l2 .before in
+    let a = l1 .before .args in
+    let m = a .width in
     let plus : (x : ℕ) → ℕ = λ x. add x (a .c) in
-    five-of (λ k. add (product m (power m α k) (at (a .t3) k)) (a .c)) _ _ _ _ _
-    (ap plus (s2 .shifted .ensures m w eq ep (h 0 (lit< tt))))
-    (ap plus (s3 .shifted2 .ensures m w eq ep (h 1 (lit< tt))))
-    (ap plus (s4 .shifted3 .ensures m w eq ep (h 2 (lit< tt))))
-    (ap plus (s5 .shifted4 .ensures m w eq ep (h 3 (lit< tt))))
-    (ap plus (c .shifted5 .ensures m w eq ep (h 4 (lit< tt)))))
+    five-of (λ k. add (product m (power m α k) (at (a .t2) k)) (a .c)) _ _ _ _ _
+    (ap plus (first-shift m _ w (h 0 (lit< tt))))
+    (ap plus (l1 .shift .ensures (record { width = w; symbol = h 1 (lit< tt) })))
+    (ap plus (l2 .shift2 .ensures (record { width = w; symbol = h 2 (lit< tt) })))
+    (ap plus (l3 .shift3 .ensures (record { width = w; symbol = h 3 (lit< tt) })))
+    (ap plus (c .shift4 .ensures (record { width = w; symbol = h 4 (lit< tt) }))))
 
 pub step-spec : {M : Type 1} → statement M
 step-spec =
     tie.close
     (tie.spec
-    array-read-shifted
-    shifted-requires
-    array-read-shifted-2
-    shifted-requires-2
-    array-read-shifted-3
-    shifted-requires-3
-    array-read-shifted-4
-    shifted-requires-4
-    array-read-shifted-5
-    shifted-requires-5
+    array-read-shift
+    shift-requires
+    array-read-shift-2
+    shift-requires-2
+    array-read-shift-3
+    shift-requires-3
+    array-read-shift-4
+    shift-requires-4
+    array-read-t11
     returns)

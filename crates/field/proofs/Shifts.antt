@@ -1,0 +1,63 @@
+-- Products with the first powers of α by shifts: one test that antt computes at each width, over all symbols. Assumes nothing.
+use mathlib.Core.Path.{_≡_, sym, ap, _∙_, subst}
+use mathlib.Core.Bool.{Bool, true, not, _&&_, _||_}
+use Prim.Native.Nat.{ℕ, suc, _+_, _-_, _*_, _/_, _%_, _^_, _≤_, _<_}
+use native.Mathlib.Omega.{arith}
+use lib.Bits.{bitAnd}
+use lib.Dec.{T, eqb, leb, eqb→eq, eqb-refl, le→leb, T-not}
+use Rattle.field.specs.Polynomial.{add}
+use Rattle.field.specs.Field.{order, polynomial, product, power, α, arithmetic}
+use Rattle.field.specs.Question.{isWidth}
+use Rattle.field.specs.Answer.{Operand}
+use Rattle.field.proofs.Laws.{IsField}
+use Rattle.field.proofs.Widths.{Width, Width.three, Width.five, Width.seven, width-of, field-of, doubles, doubles-power}
+use Rattle.field.proofs.Check.{or-right, and-both, all, all-at}
+
+-- what the code makes of a: the digits that stay, moved up by k, and the k digits that leave, at x^0 and at x^d
+abbrev pub wrapped : ℕ → ℕ → ℕ → ℕ → ℕ
+wrapped m d a k = add (add (bitAnd (a * 2 ^ k % 256) (127 / 2 ^ (7 - m))) (a / 2 ^ (m - k))) (a / 2 ^ (m - k) * 2 ^ d % 256)
+
+-- the polynomial is x^m + x^d + 1, and k digits moved up by d stay below x^m
+hasRoom : ℕ → ℕ → ℕ → Bool
+hasRoom m d k = eqb (polynomial m) (order m + 2 ^ d + 1) && leb (k + d) m
+
+multiplies : ℕ → ℕ → ℕ → ℕ → Bool
+multiplies m d k a = eqb (wrapped m d a k) (product m (doubles m k) a)
+
+-- at every d and k below 8 with room, for all symbols
+computed : ℕ → Bool
+computed m = all (λ d. all (λ k. not (hasRoom m d k) || all (multiplies m d k) (order m)) 8) 8
+
+computedAt : {m : ℕ} → Width m → T (computed m)
+unfolding arithmetic doubles computed hasRoom multiplies
+computedAt three = tt
+computedAt five = tt
+computedAt seven = tt
+
+module _ (m : ℕ) (w : isWidth m ≡ true) where
+  pub wrapped-product : (d a k : ℕ) → m ≤ 7 → a < order m → polynomial m ≡ order m + 2 ^ d + 1 → k + d ≤ m → wrapped m d a k ≡ product m (power m α k) a
+  unfolding computed hasRoom multiplies
+  wrapped-product d a k small h e room =
+      eqb→eq (wrapped m d a k) (product m (doubles m k) a) (all-at (multiplies m d k) (order m) (or-right (not (hasRoom m d k)) (all (multiplies m d k) (order m)) at-k (λ n. T-not (hasRoom m d k) n has)) a h)
+      ∙ ap (λ (x : ℕ). product m x a) (doubles-power m (field-of m w .positive) k)
+    where
+      has : T (hasRoom m d k)
+      has = and-both (eqb (polynomial m) (order m + 2 ^ d + 1)) (leb (k + d) m)
+          (subst (λ (x : ℕ). T (eqb (polynomial m) x)) e (eqb-refl (polynomial m))) (le→leb (k + d) m room)
+
+      at-k : T (not (hasRoom m d k) || all (multiplies m d k) (order m))
+      at-k =
+          all-at (λ k. not (hasRoom m d k) || all (multiplies m d k) (order m)) 8
+          (all-at (λ d. all (λ k. not (hasRoom m d k) || all (multiplies m d k) (order m)) 8) 8 (computedAt (width-of m w)) d (omega arith)) k (omega arith)
+
+  -- in two steps
+  pub product-twice : (a k r s : ℕ) → 2 ≤ k → r ≡ product m (power m α 2) a → s ≡ product m (power m α (k - 2)) r → s ≡ product m (power m α k) a
+  product-twice a k r s h er es =
+      let F = field-of m w in
+      es ∙ ap (product m (power m α (k - 2))) er ∙ sym (F .product-assoc (power m α (k - 2)) (power m α 2) a)
+      ∙ ap (λ (x : ℕ). product m x a) (sym (F .power-add α (k - 2) 2) ∙ ap (power m α) (omega arith))
+
+-- what is known at a width, where the width has its value
+pub shift-at-width : (m n a k r : ℕ) → m ≡ n → (Operand n a → r ≡ product n (power n α k) a) → Operand m a → r ≡ product m (power m α k) a
+shift-at-width m n a k r e f o =
+    subst (λ (x : ℕ). r ≡ product x (power x α k) a) (sym e) (f (subst (λ (x : ℕ). Operand x a) e o))

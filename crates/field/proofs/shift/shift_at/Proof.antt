@@ -1,0 +1,44 @@
+-- `field::shift::shift_at` meets its contract. Assumes nothing.
+use borrow.Author.Needs.{needs}
+use native.Mathlib.Omega.{arith}
+use Prim.Native.Nat.{ℕ, _<_}
+use mathlib.Core.Path.{subst, sym}
+use Rattle.field.specs.Field.{order, power, α}
+use Rattle.field.proofs.Widths.{field-of}
+use Rattle.field.proofs.Shifts.{product-twice}
+use Rattle.field.proofs.shift.shift_at.Statement.{statement}
+use Rattle.field.proofs.shift.shift_at.Tie as tie
+
+add-if1 : tie.Need-add-if1
+add-if1 c = search needs
+
+wrap-requires : tie.Need-wrap-requires
+wrap-requires c κs = search needs
+
+wrap-requires-2 : tie.Need-wrap-requires-2
+wrap-requires-2 c κs = search needs
+
+sub-wrap : tie.Need-sub-wrap
+sub-wrap c = search needs
+
+wrap-requires-3 : tie.Need-wrap-requires-3
+wrap-requires-3 c κs = search needs
+
+returns : tie.Need-returns
+returns c = λ o e. c .wrap .ensures o e (c .before .if1 .taken)
+
+returns-2 : tie.Need-returns-2
+returns-2 c = λ o e.
+    (let first = c .before in
+    let a = first .before .before .args in
+    let m = a .width in
+    let r = first .wrap2 .result in
+    let er = first .wrap2 .ensures o e (search needs) in
+    let small = field-of m (o .width) .product-lt (power m α 2) (a .a) in
+    product-twice m (o .width) (a .a) (a .k) r (c .wrap3 .result) (omega arith) er
+    (c .wrap3 .ensures (record { width = o .width; symbol = subst (λ (x : ℕ). x < order m) (sym er) small }) e (omega arith)))
+
+pub shift-at-spec : {M : Type 1} → statement M
+shift-at-spec =
+    tie.close
+    (tie.spec add-if1 wrap-requires wrap-requires-2 sub-wrap wrap-requires-3 returns returns-2)

@@ -1,0 +1,50 @@
+// Products with the first powers of α, the same steps for every symbol: a branch for each digit would be guessed wrong half the time. The
+// polynomial of a width is x^width + x^middle + 1, so a digit that leaves at x^width comes back at x^0 and at x^middle. These functions are
+// no entry points.
+ghost use mathlib.Core.Path.{_≡_};
+ghost use Prim.Native.Nat.{ℕ, _+_, _^_, _≤_, _<_};
+ghost use Rattle.field.specs.Field.{order, polynomial, product as productM, power as powerM, α};
+ghost use Rattle.field.specs.Answer.{Operand};
+
+// a times the power k of α, where the digits that come back stay below x^width.
+fn wrap(width: u8, middle: u8, a: u8, k: u8) -> u8
+    requires { ⌜ (k ≤ width) × (width ≤ 7) × (middle ≤ 7) ⌝ }
+    ensures { λ r.
+        ⌜
+        (
+        Operand width a → polynomial width ≡ order width + 2 ^ middle + 1 → k + middle ≤ width
+        → r ≡ productM width (powerM width α k) a
+        )
+        ⌝ }
+{
+    let top = a >> (width - k);
+    let low = (a << k) & (127 >> (7 - width));
+    low ^ top ^ (top << middle)
+}
+
+// a times the power k of α, at once where there is room, or else in two steps.
+fn shift_at(width: u8, middle: u8, a: u8, k: u8) -> u8
+    requires { ⌜ (k ≤ 4) × (2 + middle ≤ width) × (width ≤ 7) ⌝ }
+    ensures { λ r.
+        ⌜
+        (Operand width a → polynomial width ≡ order width + 2 ^ middle + 1 → r ≡ productM width (powerM width α k) a)
+        ⌝ }
+{
+    if k + middle <= width {
+        wrap(width, middle, a, k)
+    } else {
+        wrap(width, middle, wrap(width, middle, a, 2), k - 2)
+    }
+}
+
+// a times the power k of α.
+pub fn shift(width: u8, a: u8, k: u8) -> u8
+    requires { ⌜ k ≤ 4 ⌝ }
+    ensures { λ r. ⌜ (Operand width a → r ≡ productM width (powerM width α k) a) ⌝ }
+{
+    match width {
+        3 => shift_at(3, 1, a, k),
+        5 => shift_at(5, 2, a, k),
+        _ => shift_at(7, 3, a, k),
+    }
+}
