@@ -1,7 +1,7 @@
 // Lists the records of the card on standard input: a line for each, up to 1,000,000, then the totals. The text is the card crate's; here
 // it is read, called and written.
 ghost use mathlib.Core.Path.{_≡_};
-ghost use Prim.Native.Nat.{_+_, _*_, _≤_};
+ghost use Prim.Native.Nat.{_*_, _≤_};
 ghost use lib.ListN.{length};
 ghost use Rattle.card.specs.Batch.{Within, Grows, batchRecords, mostChanges};
 ghost use Rattle.card.specs.Listing.{mostRecords};

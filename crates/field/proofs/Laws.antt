@@ -1,16 +1,16 @@
 -- The laws of the field, gathered in a record (`IsField`), and proved at every width at which α generates the symbols other than 0.
 -- The ring laws hold for all numbers, since a product reduces its operands; the others speak of symbols.
 -- Assumes nothing.
-use mathlib.Core.Path.{_≡_, refl, sym, ap, ap₂, _∙_, subst}
+use mathlib.Core.Path.{_≡_, sym, ap, ap₂, _∙_}
 use mathlib.Core.Logic.{_≢_}
 use Prim.Native.Nat.{ℕ, zero, suc, _+_, _-_, _*_, _≤_, _<_}
-use native.Mathlib.Nat.{zero-add, suc-add, add-zero, add-suc, mul-zero, mul-suc, mul-comm, one-mul}
+use native.Mathlib.Nat.{zero-add, add-zero, mul-comm}
 use native.Mathlib.Decide.{decLt, ℕ-discrete}
 use native.Mathlib.Omega.{arith}
 use lib.Pow.{pow-mono}
 use Rattle.field.specs.Polynomial.{add}
 use Rattle.field.proofs.Polynomial.{add-comm, add-assoc, add-left-comm, add-zero-l, add-zero-r, add-self, add-lt, add-cancel, eq-of-add}
-use Rattle.field.specs.Field.{order, double, product, power, inverse, α}
+use Rattle.field.specs.Field.{order, product, power, inverse, α}
 use Rattle.field.proofs.Ring.{product-lt, product-comm, product-assoc, product-one-l, product-one-r, product-zero-l, product-zero-r, product-add-l, product-add-r}
 use Rattle.field.proofs.Powers.{one-lt, power-zero, power-suc, power-one, zero-power, one-power, power-lt, power-add, power-power, power-product, product-left-comm}
 

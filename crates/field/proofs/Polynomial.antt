@@ -1,11 +1,11 @@
 -- The laws of sum and carry-less product of polynomials over GF(2), for all numbers. Assumes nothing.
-use mathlib.Core.Path.{_≡_, refl, sym, ap, ap₂, _∙_, subst}
-use Prim.Native.Nat.{ℕ, zero, suc, _+_, _-_, _*_, _/_, _%_, _^_, _≤_, _<_, zero-le, suc-le-suc}
-use native.Mathlib.Nat.{le-refl, not-suc-le-zero, zero-lt-suc, mod-lt, div-add-mod', mul-one, one-mul, zero-mul, mul-zero, add-zero, zero-add, mul-comm, mul-div-cancel, mul-mod-left}
+use mathlib.Core.Path.{_≡_, refl, sym, ap, ap₂, _∙_}
+use Prim.Native.Nat.{ℕ, zero, suc, _*_, _/_, _%_, _^_, _≤_, _<_}
+use native.Mathlib.Nat.{le-refl, not-suc-le-zero, zero-lt-suc, mod-lt, div-add-mod', mul-one, one-mul, zero-mul, mul-zero, add-zero, mul-div-cancel, mul-mod-left}
 use native.Mathlib.Omega.{arith}
 use native.Mathlib.Decide.{le-ind}
-use lib.Arith.{half-le, bin-ind, digits-div, digits-mod}
-use lib.Bits.{bitXor, differ, xor-step, xor-comm, xor-self, xor-zero-l, xor-zero-r, xor-lt, xor-block, xor-shr, xor-mod, xor-shifted}
+use lib.Arith.{half-le, bin-ind}
+use lib.Bits.{bitXor, xor-comm, xor-self, xor-zero-r, xor-lt, xor-block, xor-shr, xor-mod, xor-shifted}
 use Rattle.field.specs.Polynomial.{add, digitsFrom, digits, carryless}
 
 -- ---- the recursion over the digits

@@ -1,12 +1,11 @@
 -- The rule of the table of powers: one test that antt computes over the whole table, and a law that turns it into what stands at each
 -- exponent. Assumes nothing.
 use mathlib.Core.Path.{_≡_, refl, sym, ap, _∙_, subst}
-use mathlib.Core.Logic.{_≢_}
 use mathlib.Core.Bool.{Bool, true, _&&_}
 use mathlib.Core.List.{List, [], _∷_}
-use Prim.Native.Nat.{ℕ, zero, suc, _+_, _-_, _<_}
-use native.Mathlib.Nat.{le-of-suc-le-suc, not-suc-le-zero, suc-add, add-suc, add-zero, zero-add}
-use lib.Dec.{T, eqb, ltb, eqb→eq, ltb→lt}
+use Prim.Native.Nat.{ℕ, zero, suc, _<_}
+use native.Mathlib.Nat.{le-of-suc-le-suc, not-suc-le-zero}
+use lib.Dec.{T, eqb, eqb→eq}
 use lib.ListN.{length, getD}
 use Rattle.field.specs.Field.{order, double, product, power, α, arithmetic}
 use Rattle.field.proofs.Ring.{double-lt, product-assoc, product-comm, product-one-l, product-one-r}

@@ -1,10 +1,9 @@
 -- The laws of powers, at every width. Assumes nothing.
-use mathlib.Core.Path.{_≡_, refl, sym, ap, ap₂, _∙_, subst}
-use Prim.Native.Nat.{ℕ, zero, suc, _+_, _*_, _≤_, _<_}
-use native.Mathlib.Nat.{zero-add, suc-add, add-zero, add-suc, mul-zero, mul-suc, mul-comm, one-mul}
+use mathlib.Core.Path.{_≡_, refl, sym, ap, _∙_}
+use Prim.Native.Nat.{ℕ, zero, suc, _+_, _*_, _<_}
+use native.Mathlib.Nat.{zero-add, suc-add, mul-zero, mul-suc}
 use native.Mathlib.Omega.{arith}
 use lib.Pow.{pow-mono}
-use Rattle.field.specs.Polynomial.{carryless}
 use Rattle.field.proofs.Polynomial.{carryless-one-l, carryless-twice-l}
 use Rattle.field.specs.Field.{order, double, remainder, product, power, α}
 use Rattle.field.proofs.Ring.{product-lt, product-assoc, product-comm, product-one-l, product-one-r, product-zero-l, remainder-twice, remainder-same}

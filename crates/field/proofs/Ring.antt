@@ -1,17 +1,17 @@
 -- The laws of sum and product modulo a polynomial, at every width: a commutative ring. Assumes nothing.
-use mathlib.Core.Path.{_≡_, refl, sym, ap, ap₂, _∙_, subst, subst₂}
+use mathlib.Core.Path.{_≡_, refl, sym, ap, ap₂, _∙_, subst}
 use mathlib.Core.Bool.{Bool, true, false, cond}
-use Prim.Native.Nat.{ℕ, zero, suc, _+_, _-_, _*_, _/_, _%_, _^_, _≤_, _<_, zero-le, suc-le-suc}
-use native.Mathlib.Nat.{le-refl, le-of-eq, le-trans, lt-of-lt-of-le, lt-of-le-of-lt, not-suc-le-zero, zero-lt-suc, mod-lt, div-add-mod', mul-one, one-mul, zero-mul, mul-zero, add-zero, zero-add, mul-comm, mul-div-cancel, mul-mod-left, pow-suc, div-eq-of-lt, div-lt-iff-lt-mul, le-div-iff-mul-le, mul-lt-mul-of-pos-right, div-le-self, mod-eq-of-lt}
+use Prim.Native.Nat.{ℕ, zero, suc, _*_, _/_, _%_, _^_, _≤_, _<_}
+use native.Mathlib.Nat.{le-refl, le-of-eq, lt-of-lt-of-le, lt-of-le-of-lt, not-suc-le-zero, zero-lt-suc, mod-lt, div-add-mod', one-mul, zero-mul, mul-comm, mul-div-cancel, mul-mod-left, pow-suc, div-eq-of-lt, div-lt-iff-lt-mul, le-div-iff-mul-le, mul-lt-mul-of-pos-right, div-le-self}
 use native.Mathlib.Omega.{arith}
 use lib.Arith.{bin-ind}
 use lib.Pow.{pow-pos, pow-mono}
-use lib.Dec.{ltb, eqb, T, lit<, lit≤}
-use lib.Bits.{xor-shr, xor-block}
+use lib.Dec.{ltb, eqb, lit<, lit≤}
+use lib.Bits.{xor-shr}
 use lib.Pow as P
-use borrow.Author.Tests.{ltb-true, ltb-false, eqb-true, lt-ltb, le-ltb}
+use borrow.Author.Tests.{ltb-true, ltb-false, eqb-true, lt-ltb}
 use Rattle.field.specs.Polynomial.{add, carryless, digits, digitsFrom}
-use Rattle.field.proofs.Polynomial.{add-comm, add-assoc, add-self, add-lt, add-zero-l, add-zero-r, twice-add, interchange, add-half, add-odd, split, carryless-add-l, carryless-add-r, carryless-comm, carryless-assoc, carryless-step, carryless-zero-l, carryless-one-l, carryless-twice-l, carryless-zero-r, carryless-digit-l, add-cancel, add-left-comm, sums, digits-step, Digit, Digit.off, Digit.on, digit, digit<, digit-add-l}
+use Rattle.field.proofs.Polynomial.{add-assoc, add-self, add-lt, add-zero-l, add-zero-r, twice-add, interchange, add-half, add-odd, split, carryless-add-l, carryless-add-r, carryless-comm, carryless-assoc, carryless-step, carryless-zero-l, carryless-one-l, carryless-twice-l, carryless-zero-r, carryless-digit-l, add-cancel, sums, digits-step, Digit, Digit.off, Digit.on, digit, digit<, digit-add-l}
 use Rattle.field.specs.Field.{order, polynomial, reduce, double, remainder, product}
 
 -- ---- the polynomial has degree m

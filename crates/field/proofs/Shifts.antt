@@ -1,7 +1,7 @@
 -- Products with the first powers of α by shifts: one test that antt computes at each width, over all symbols. Assumes nothing.
 use mathlib.Core.Path.{_≡_, sym, ap, _∙_, subst}
 use mathlib.Core.Bool.{Bool, true, not, _&&_, _||_}
-use Prim.Native.Nat.{ℕ, suc, _+_, _-_, _*_, _/_, _%_, _^_, _≤_, _<_}
+use Prim.Native.Nat.{ℕ, _+_, _-_, _*_, _/_, _%_, _^_, _≤_, _<_}
 use native.Mathlib.Omega.{arith}
 use lib.Bits.{bitAnd}
 use lib.Dec.{T, eqb, leb, eqb→eq, eqb-refl, le→leb, T-not}
@@ -9,7 +9,6 @@ use Rattle.field.specs.Polynomial.{add}
 use Rattle.field.specs.Field.{order, polynomial, product, power, α, arithmetic}
 use Rattle.field.specs.Question.{isWidth}
 use Rattle.field.specs.Answer.{Operand}
-use Rattle.field.proofs.Laws.{IsField}
 use Rattle.field.proofs.Widths.{Width, Width.three, Width.five, Width.seven, width-of, field-of, doubles, doubles-power}
 use Rattle.field.proofs.Check.{or-right, and-both, all, all-at}
 

@@ -10,7 +10,7 @@ use borrow.Author.Tests.{eqb-true}
 use Rattle.field.specs.Field.{order, double, power, α, arithmetic}
 use Rattle.field.specs.Question.{isWidth}
 use Rattle.field.proofs.Powers.{power-zero, power-suc, power-lt, double-product}
-use Rattle.field.proofs.Laws.{Generates, ExponentOf, IsField, isField, CubeInjective, cubes}
+use Rattle.field.proofs.Laws.{Generates, IsField, isField, CubeInjective, cubes}
 use Rattle.field.proofs.Check.{and-left, and-right, or-right, all, all-at}
 
 -- a power of α, by doubling 1

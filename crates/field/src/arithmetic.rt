@@ -1,9 +1,8 @@
 // Arithmetic below the questions: plain bytes in and out. These functions are no entry points: each is safe on all bytes, and says what
 // it gives for a symbol at a width of the field.
 ghost use mathlib.Core.Path.{_≡_};
-ghost use mathlib.Core.Logic.{_≢_};
 ghost use mathlib.Core.Bool.{true};
-ghost use Prim.Native.Nat.{ℕ, _<_, _≤_};
+ghost use Prim.Native.Nat.{ℕ, _<_};
 ghost use Rattle.field.specs.Field.{order, polynomial, double as doubleM, product as productM, power as powerM, inverse as inverseM};
 ghost use Rattle.field.specs.Question.{isWidth};
 ghost use Rattle.field.specs.Answer.{Operand, orderOf};

@@ -2,7 +2,7 @@
 // polynomial of a width is x^width + x^middle + 1, so a digit that leaves at x^width comes back at x^0 and at x^middle. These functions are
 // no entry points.
 ghost use mathlib.Core.Path.{_≡_};
-ghost use Prim.Native.Nat.{ℕ, _+_, _^_, _≤_, _<_};
+ghost use Prim.Native.Nat.{_+_, _^_, _≤_};
 ghost use Rattle.field.specs.Field.{order, polynomial, product as productM, power as powerM, α};
 ghost use Rattle.field.specs.Answer.{Operand};
 

@@ -1,13 +1,13 @@
 -- `code::syndrome::parities` meets its contract: the sums over the symbols from i on, by Horner's rule. Assumes nothing.
 use borrow.Author.Needs.{needs}
-use mathlib.Core.Path.{_≡_, sym, subst}
+use mathlib.Core.Path.{_≡_}
 use mathlib.Core.Bool.{true}
-use Prim.Native.Nat.{ℕ, _≤_, _<_}
+use Prim.Native.Nat.{_≤_}
 use native.Mathlib.Omega.{arith}
 use lib.ListN.{length, drop}
 use Rattle.field.specs.Field.{order}
 use Rattle.field.specs.Question.{isWidth, allBelow}
-use Rattle.code.specs.Word.{five, at}
+use Rattle.code.specs.Word.{five}
 use Rattle.code.proofs.Horner.{evaluate, pass-start, pass-small, pass-on, pass-end}
 use Rattle.code.proofs.syndrome.parities.Statement.{statement}
 use Rattle.code.proofs.syndrome.parities.Tie as tie
