@@ -4,9 +4,9 @@
  * Widths: the width is 3, 5 or 7, and q is 2^width. A symbol is a number below q, one to a byte. A word has n = q + 4 symbols (12, 36 or
  * 132): five check symbols, then the q - 1 data symbols (7, 31 or 127).
  *
- * Answers: every call but xrs_check_card returns refusal + 256 * value. The refusal is 0 where the call was accepted; otherwise it is that of the first
- * question answered no, and the value is 0. The questions are put in the order 1, 2, 3, 8, 4, 5, 6, 7, 9, 10 of their refusals, each for
- * all its items before the next. XRS_REFUSAL and XRS_VALUE take the number apart.
+ * Answers: every call but xrs_check_card returns refusal + 256 * value. The refusal is 0 where the call was accepted; otherwise it is that
+ * of the first question answered no, and the value is 0. The questions are put in the order 1, 2, 3, 8, 4, 5, 6, 7, 9, 10 of their
+ * refusals, each for all its items before the next. XRS_REFUSAL and XRS_VALUE take the number apart.
  *
  * Memory: a slice is passed as a pointer and its length in bytes. The pointer must not be NULL, also where the length is 0, and must be
  * valid for that many bytes: to read where it is const, else to read and write. Slices passed to one call must not overlap. Any length and

@@ -39,6 +39,32 @@ impl Refusal {
     }
 }
 
+/// What was wrong, in words.
+///
+/// ```
+/// assert_eq!(xrs::Refusal::Correctable.to_string(), "no codeword is near");
+/// let error: Box<dyn std::error::Error> = xrs::inverse(3, 0).unwrap_err().into();
+/// assert_eq!(error.to_string(), "the symbol 0 has no inverse");
+/// ```
+impl std::fmt::Display for Refusal {
+    fn fmt(&self, out: &mut std::fmt::Formatter<'_>) -> std::fmt::Result {
+        out.write_str(match self {
+            Refusal::Width => "the width is not 3, 5 or 7",
+            Refusal::Length => "a slice has not its exact length",
+            Refusal::ErasureCount => "there are more than four erasures",
+            Refusal::ErasurePlace => "an erasure is no place of the word",
+            Refusal::ErasureDistinct => "an erasure is given twice",
+            Refusal::Symbol => "a symbol outside the erasures is not below 2^width",
+            Refusal::Correctable => "no codeword is near",
+            Refusal::Padding => "a record's unused erasure bytes are not 255, or its tail is not 0",
+            Refusal::Syndrome => "a syndrome is not zero",
+            Refusal::Nonzero => "the symbol 0 has no inverse",
+        })
+    }
+}
+
+impl std::error::Error for Refusal {}
+
 mod raw {
     extern "C" {
         pub fn xrs_sum(width: u8, a: u8, b: u8) -> u32;
