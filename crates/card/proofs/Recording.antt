@@ -12,12 +12,12 @@ use Rattle.field.specs.declared.Question.the-variants.{Length}
 use Rattle.field.specs.declared.Verdict.{Verdict}
 use Rattle.field.specs.declared.Verdict.the-variants.{Passed, Refused as RefusedBy}
 use Rattle.field.proofs.Widths.{order-small}
-use Rattle.code.specs.Word.{places}
+use Rattle.code.specs.Word.{places, longest}
 use Rattle.code.specs.Call.{restoreOf, restoreWritten, repair, Restores}
 use Rattle.code.specs.declared.Repair.{Repair}
 use Rattle.code.specs.declared.Repair.the-variants.{Restored, Refused}
 use Rattle.code.proofs.Demands.{accepts, refused-unchanged}
-use Rattle.card.specs.Record.{slots, longest, headerSize, recordSize, widthOf, countOf, wordOf, tailOf, erasuresOf}
+use Rattle.card.specs.Record.{slots, headerSize, recordSize, widthOf, countOf, wordOf, tailOf, erasuresOf}
 use Rattle.card.specs.Record.{recordAsked, recordOf, clearRecord, onAccept, recordWritten, RestoresRecord}
 use Rattle.card.proofs.Layouts.{Asked, asked, all-replicate, length-no, word-part, erasures-part}
 

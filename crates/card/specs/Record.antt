@@ -9,7 +9,7 @@ use Rattle.field.specs.Question.{Outcome, accepted, refused, ask, after, isWidt
 use Rattle.field.specs.declared.Question.the-variants.{Width, Length, ErasureCount, Padding}
 use Rattle.field.specs.declared.Verdict.{Verdict}
 use Rattle.field.specs.declared.Verdict.the-variants.{Passed}
-use Rattle.code.specs.Word.{places}
+use Rattle.code.specs.Word.{places, longest}
 use Rattle.code.specs.Call.{maxErasures, restoreOf, restoreWritten, repair}
 use Rattle.code.specs.declared.Repair.{Repair}
 
@@ -18,10 +18,6 @@ use Rattle.code.specs.declared.Repair.{Repair}
 -- the number of erasure bytes, document 01's mark bytes
 abbrev pub slots : ℕ
 slots = 4
-
--- the longest word, at width 7
-abbrev pub longest : ℕ
-longest = 132
 
 -- byte 0 is the width, byte 1 the number of erasures; then come the erasure bytes, and at this byte the symbols start
 abbrev pub headerSize : ℕ

@@ -10,7 +10,7 @@ use Rattle.field.specs.Field.{order}
 use Rattle.field.specs.Question.{isWidth, allBelow}
 use Rattle.code.specs.declared.restorer.Trial.{Trial}
 use Rattle.code.specs.declared.restorer.Correction.{Correction}
-use Rattle.code.specs.Word.{checks, five, places, at, Codeword}
+use Rattle.code.specs.Word.{checks, five, places, longest, at, Codeword}
 use Rattle.code.specs.Place.{column}
 use Rattle.code.specs.Erasure.{member, distinct, changes, maskedSyndrome}
 use Rattle.code.specs.Matrix.{rows, columns, unknowns}
@@ -93,10 +93,6 @@ pub record Searched (m : ℕ) (w ls : List ℕ) (n : ℕ) (Far : Type 0) (c : Co
 -- no codeword differs from w, outside the erasures, at r places or fewer
 abbrev pub NoneWithin : ℕ → List ℕ → List ℕ → ℕ → Type 0
 NoneWithin m w es r = (c : List ℕ) → Codeword m c → changes m es w c ≤ r → ⊥
-
--- the longest word, at width 7
-abbrev pub longest : ℕ
-longest = 132
 
 -- a word and erasures that can be worked on without leaving the memory lent
 pub record Workable (w es : List ℕ) : Type 0 where

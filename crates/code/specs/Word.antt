@@ -15,6 +15,10 @@ checks = 5
 abbrev pub places : ℕ → ℕ
 places m = order m + 4
 
+-- the longest word, at width 7
+abbrev pub longest : ℕ
+longest = 132
+
 -- the number of data symbols c_0 to c_(q-2); c_i stands at place 5 + i
 abbrev pub items : ℕ → ℕ
 items m = order m - 1

@@ -10,10 +10,9 @@ ghost use Rattle.field.specs.Question.{ask, isWidth, allBelow};
 ghost use Rattle.field.specs.Answer.{orderOf};
 ghost use Rattle.field.specs.declared.Question.the-variants.{Symbol};
 ghost use Rattle.field.specs.declared.Verdict.the-variants.{Passed};
-ghost use Rattle.code.specs.Word.{checks, places, items, encode as encodeM};
+ghost use Rattle.code.specs.Word.{checks, places, longest, items, encode as encodeM};
 ghost use Rattle.code.specs.Call.{zeroSyndromes, wordAsked, dataAsked, Encodes, testAsked, testOf, membership, readAsked, Reads};
 ghost use Rattle.code.specs.Call.{erasuresAsked, restoreAsked, Restores};
-ghost use Rattle.code.specs.Correction.{longest};
 ghost use Rattle.code.specs.Demands.{Passes};
 
 pub mod place;
