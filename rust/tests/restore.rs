@@ -3,8 +3,9 @@
 mod reference;
 mod tools;
 
-use reference::{items, order, places, search};
-use tools::{encode, restore_word, restore_word_within, Chance};
+use reference::{order, places, search};
+use tools::wear::codeword as random_codeword;
+use tools::{restore_word, restore_word_within, Chance};
 use xrs::Refusal::{self, Correctable, ErasureCount, ErasureDistinct, ErasurePlace, Length, Symbol, Width};
 
 const WIDTHS: [u8; 3] = [3, 5, 7];
@@ -26,14 +27,6 @@ fn restored(width: u8, word: &[u8], marks: &[u8]) -> Answer {
     let result = restore_word(width, word, marks);
     compare(width, word, marks, &result);
     result
-}
-
-/// A codeword of random data.
-fn random_codeword(chance: &mut Chance, width: u8) -> Vec<u8> {
-    let data = chance.symbols(items(width), order(width));
-    let (answer, word) = encode(width, &data, &vec![0; places(width)]);
-    assert_eq!(answer, Ok(()));
-    word
 }
 
 /// The word with another symbol at each of the places.
