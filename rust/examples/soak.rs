@@ -57,7 +57,7 @@ fn is_right(width: u8, clean: &[u8], worn: &[u8], marks: &[u8], answer: Result<u
     if width == 3 {
         return match search::restore(width, worn, marks) {
             Ok((count, near)) => answer == Ok(count) && after == near,
-            Err(number) => answer.map_err(|refusal| refusal as u8) == Err(number) && after == worn,
+            Err(number) => answer.map_err(Refusal::number) == Err(number) && after == worn,
         };
     }
     match answer {

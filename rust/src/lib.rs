@@ -3,39 +3,63 @@
 //! A word of width 3, 5 or 7 has n = q + 4 symbols, one to a byte, where q is 2^width: 12, 36 or 132. Its first five are check symbols, the
 //! other q - 1 are the data. A call that returns `Err` leaves every slice as it was.
 
-/// The question that was answered no, with the refusal number of document 01.
+/// The question that was answered no.
 #[derive(Clone, Copy, Debug, PartialEq, Eq)]
-#[repr(u8)]
 pub enum Refusal {
     /// The width is not 3, 5 or 7.
-    Width = 1,
+    Width,
     /// A slice has not its exact length.
-    Length = 2,
+    Length,
     /// There are more than four erasures.
-    ErasureCount = 3,
+    ErasureCount,
     /// An erasure is no place of the word.
-    ErasurePlace = 4,
+    ErasurePlace,
     /// An erasure is given twice.
-    ErasureDistinct = 5,
+    ErasureDistinct,
     /// A symbol outside the erasures is not below 2^width.
-    Symbol = 6,
+    Symbol,
     /// No codeword is near.
-    Correctable = 7,
+    Correctable,
     /// A record's unused erasure bytes are not 255, or its tail is not 0.
-    Padding = 8,
+    Padding,
     /// A syndrome is not zero.
-    Syndrome = 9,
+    Syndrome,
     /// The symbol 0 has no inverse.
-    Nonzero = 10,
+    Nonzero,
+    /// A refusal number that stands at none of the others. The archive that this crate was written for gives none.
+    Unknown(u8),
 }
 
 impl Refusal {
+    /// The refusal number of document 01.
+    pub fn number(self) -> u8 {
+        match self {
+            Refusal::Width => 1,
+            Refusal::Length => 2,
+            Refusal::ErasureCount => 3,
+            Refusal::ErasurePlace => 4,
+            Refusal::ErasureDistinct => 5,
+            Refusal::Symbol => 6,
+            Refusal::Correctable => 7,
+            Refusal::Padding => 8,
+            Refusal::Syndrome => 9,
+            Refusal::Nonzero => 10,
+            Refusal::Unknown(number) => number,
+        }
+    }
+
     /// The refusal of a number; `None` for 0, which is none.
+    ///
+    /// ```
+    /// assert_eq!(xrs::Refusal::from_number(7), Some(xrs::Refusal::Correctable));
+    /// assert_eq!(xrs::Refusal::from_number(200), Some(xrs::Refusal::Unknown(200)));
+    /// assert_eq!(xrs::Refusal::from_number(0), None);
+    /// ```
     pub fn from_number(number: u8) -> Option<Refusal> {
         use Refusal::*;
-        [Width, Length, ErasureCount, ErasurePlace, ErasureDistinct, Symbol, Correctable, Padding, Syndrome, Nonzero]
-            .into_iter()
-            .find(|refusal| *refusal as u8 == number)
+        let known = [Width, Length, ErasureCount, ErasurePlace, ErasureDistinct, Symbol, Correctable, Padding, Syndrome, Nonzero];
+        let found = known.into_iter().find(|refusal| refusal.number() == number);
+        found.or((number != 0).then_some(Unknown(number)))
     }
 }
 
@@ -59,6 +83,7 @@ impl std::fmt::Display for Refusal {
             Refusal::Padding => "a record's unused erasure bytes are not 255, or its tail is not 0",
             Refusal::Syndrome => "a syndrome is not zero",
             Refusal::Nonzero => "the symbol 0 has no inverse",
+            Refusal::Unknown(number) => return write!(out, "refused with the number {number}, which is not known here"),
         })
     }
 }
@@ -80,13 +105,9 @@ mod raw {
     }
 }
 
-/// Takes refusal + 256 * value apart. The library returns no other number than those of `Refusal`; one that is not known would be an
-/// error all the same, never a value.
+/// Takes refusal + 256 * value apart.
 fn unpack(packed: u32) -> Result<u32, Refusal> {
-    match (packed % 256) as u8 {
-        0 => Ok(packed / 256),
-        number => Err(Refusal::from_number(number).unwrap_or(Refusal::Correctable)),
-    }
+    Refusal::from_number(packed as u8).map_or(Ok(packed / 256), Err)
 }
 
 fn symbol(packed: u32) -> Result<u8, Refusal> {
@@ -238,5 +259,33 @@ pub fn check_card(card: &[u8]) -> Result<(), u64> {
     match unsafe { raw::xrs_check_card(card.as_ptr(), card.len()) } {
         0 => Ok(()),
         number => Err(number),
+    }
+}
+
+#[cfg(test)]
+mod tests {
+    use super::*;
+
+    #[test]
+    fn a_number_that_is_not_known_is_a_case_of_its_own() {
+        for number in 1..=255 {
+            let refusal = Refusal::from_number(number).expect("a refusal");
+            assert_eq!(refusal.number(), number);
+            // Document 01 has the numbers up to 10, document 02 those up to 21.
+            let unknown = refusal == Refusal::Unknown(number);
+            assert!(if number <= 10 { !unknown } else { unknown || number <= 21 }, "{refusal:?}");
+            for value in [0, 1, 0xFF_FFFF] {
+                assert_eq!(unpack(256 * value + number as u32), Err(refusal));
+            }
+        }
+        assert_eq!(Refusal::from_number(0), None);
+        assert_eq!(Refusal::Unknown(77).to_string(), "refused with the number 77, which is not known here");
+    }
+
+    #[test]
+    fn an_accepted_answer_is_its_value() {
+        for value in [0, 1, 2, 127, 0xFF_FFFF] {
+            assert_eq!(unpack(256 * value), Ok(value));
+        }
     }
 }

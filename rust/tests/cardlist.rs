@@ -123,6 +123,22 @@ fn the_card_is_not_written() {
     assert!(fs::read(path).expect("the file") == card);
 }
 
+/// The device /dev/full takes no byte.
+#[test]
+fn a_write_that_fails() {
+    let path = concat!(env!("CARGO_TARGET_TMPDIR"), "/unlisted");
+    let mut chance = Chance::new();
+    for records in [0, 1, 900] {
+        let card: Vec<u8> = (0..records).flat_map(|_| worn(&mut chance, 3)).collect();
+        fs::write(path, &card).expect("a file");
+        let full = File::options().write(true).open("/dev/full").expect("the device");
+        let output = Command::new(PROGRAM).stdin(File::open(path).expect("the file")).stdout(full).stderr(Stdio::piped()).output();
+        let output = output.expect("cardlist is built by `rt check cardlist`");
+        assert!(output.status.success(), "{}", output.status);
+        assert_eq!(String::from_utf8_lossy(&output.stderr), "cardlist: a write failed; the listing is cut short\n", "{records} records");
+    }
+}
+
 /// Seven records that take turns on a large card, no two of them with the same line.
 fn turns() -> Vec<Vec<u8>> {
     let mut chance = Chance::new();

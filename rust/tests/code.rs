@@ -280,7 +280,7 @@ fn random_calls_are_answered_as_by_the_reference() {
         }
         assert_eq!(is_codeword(width, &word), refusal(reference::is_codeword(width, &word)));
         let (answer, symbols) = read_data(width, &word, &data);
-        seen[answer.err().map_or(0, |refusal| refusal as usize)] += 1;
+        seen[answer.err().map_or(0, |refusal| refusal.number() as usize)] += 1;
         assert_eq!(answer.map(|()| symbols), refusal(reference::read_data(width, &word, count)));
     }
     for number in [0, 1, 2, 6, 9] {

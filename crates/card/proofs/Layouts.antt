@@ -10,16 +10,14 @@ use borrow.Author.Tests.{eq-eqb, ne-eqb, eqb-true, le-leb, lt-leb, leb-true}
 use lib.Dec.{eqb, leb}
 use lib.ListN.{length, getD, take, drop, replicate, drop-of-length-le, length-drop}
 use lib.Seq.{drop-cons, take-all, take-take}
-use Rattle.field.specs.Field.{order}
 use Rattle.field.specs.Question.{isWidth}
-use Rattle.field.specs.Answer.{orderOf}
 use Rattle.field.specs.declared.Question.the-variants.{Width, Length, ErasureCount, Padding}
 use Rattle.field.specs.declared.Verdict.the-variants.{Passed, Refused}
-use Rattle.field.proofs.Ask.{ask-yes, ask-next, and-true-left, and-true-right, width-yes, width-no, order-is}
-use Rattle.field.proofs.Widths.{order-small}
-use Rattle.code.specs.Word.{places}
+use Rattle.field.proofs.Ask.{ask-yes, ask-next, and-true-left, and-true-right}
+use Rattle.code.specs.Word.{places, wordLength}
 use Rattle.code.specs.Call.{maxErasures}
-use Rattle.card.specs.Record.{slots, headerSize, recordSize, widthOf, countOf, erasuresOf, unusedOf, wordOf, tailOf}
+use Rattle.code.proofs.Lengths.{width-some, width-none, length-is, places-most}
+use Rattle.card.specs.Record.{erasureBytes, headerSize, recordSize, widthOf, countOf, erasuresOf, unusedOf, wordOf, tailOf}
 use Rattle.card.specs.Record.{allAre, recordAsked}
 
 -- ---- bytes that are all the same
@@ -53,26 +51,26 @@ tail-part n r = take-all (length r - n) (drop n r) (simp length-drop (omega arit
 
 module _ (r : List ℕ) (n e : ℕ) (b c : Bool) where
   -- question 4: the unused erasure bytes, a part up to the header's end, and then the tail
-  pub padded-yes : n ≤ slots → b ≡ allAre 255 (take (headerSize - (2 + n)) (drop (2 + n) r)) → b ≡ true
+  pub padded-yes : n ≤ erasureBytes → b ≡ allAre 255 (take (headerSize - (2 + n)) (drop (2 + n) r)) → b ≡ true
       → c ≡ allAre 0 (take (length r - e) (drop e r))
-      → c ≡ (allAre 255 (take (slots - n) (drop (2 + n) r)) && allAre 0 (drop e r))
+      → c ≡ (allAre 255 (take (erasureBytes - n) (drop (2 + n) r)) && allAre 0 (drop e r))
   padded-yes l eb t ec =
       ec ∙ ap (allAre 0) (tail-part e r)
       ∙ ap (λ (x : Bool). x && allAre 0 (drop e r)) (sym t ∙ eb ∙ ap (λ (k : ℕ). allAre 255 (take k (drop (2 + n) r))) less)
     where
-      less : headerSize - (2 + n) ≡ slots - n
+      less : headerSize - (2 + n) ≡ erasureBytes - n
       less = omega arith
 
-  pub padded-no : n ≤ slots → b ≡ allAre 255 (take (headerSize - (2 + n)) (drop (2 + n) r)) → b ≡ false
-      → false ≡ (allAre 255 (take (slots - n) (drop (2 + n) r)) && allAre 0 (drop e r))
+  pub padded-no : n ≤ erasureBytes → b ≡ allAre 255 (take (headerSize - (2 + n)) (drop (2 + n) r)) → b ≡ false
+      → false ≡ (allAre 255 (take (erasureBytes - n) (drop (2 + n) r)) && allAre 0 (drop e r))
   padded-no l eb t = ap (λ (x : Bool). x && allAre 0 (drop e r)) (sym t ∙ eb ∙ ap (λ (k : ℕ). allAre 255 (take k (drop (2 + n) r))) less)
     where
-      less : headerSize - (2 + n) ≡ slots - n
+      less : headerSize - (2 + n) ≡ erasureBytes - n
       less = omega arith
 
 -- the erasure bytes, read one by one
 pub four-bytes : (r : List ℕ) → headerSize ≤ length r
-    → _≡_ {A = List ℕ} (getD r 2 0 ∷ getD r 3 0 ∷ getD r 4 0 ∷ getD r 5 0 ∷ []) (take slots (drop 2 r))
+    → _≡_ {A = List ℕ} (getD r 2 0 ∷ getD r 3 0 ∷ getD r 4 0 ∷ getD r 5 0 ∷ []) (take erasureBytes (drop 2 r))
 four-bytes [] h = absurd (omega arith)
 four-bytes (a ∷ []) h = absurd (omega arith)
 four-bytes (a ∷ b ∷ []) h = absurd (omega arith)
@@ -88,26 +86,26 @@ module _ (r : List ℕ) where
   unfolding recordAsked
   length-no n = simp (ne-eqb (length r) recordSize n)
 
-  module _ (size : length r ≡ recordSize) (q : ℕ) (eq : q ≡ orderOf (widthOf r)) where
-    pub record-no-width : q ≡ 0 → Refused Width ≡ recordAsked r
+  module _ (size : length r ≡ recordSize) (n : ℕ) (en : n ≡ wordLength (widthOf r)) where
+    pub record-no-width : n ≡ 0 → Refused Width ≡ recordAsked r
     unfolding recordAsked
-    record-no-width z = simp (eq-eqb (length r) recordSize size, width-no (widthOf r) q eq z)
+    record-no-width z = simp (eq-eqb (length r) recordSize size, width-none (widthOf r) n en z)
 
-    module _ (nz : q ≢ 0) where
+    module _ (nz : n ≢ 0) where
       width : isWidth (widthOf r) ≡ true
-      width = width-yes (widthOf r) q eq nz
+      width = width-some (widthOf r) n en nz
 
-      pub record-fits : headerSize + (q + 4) ≤ recordSize
-      record-fits = omega (arith, order-is (widthOf r) q eq width, order-small (widthOf r) width)
+      pub record-fits : headerSize + n ≤ recordSize
+      record-fits = omega (arith, length-is (widthOf r) n en width, places-most (widthOf r) width)
 
       pub count-no : maxErasures (widthOf r) < countOf r → Refused ErasureCount ≡ recordAsked r
       unfolding recordAsked
       count-no h = simp (eq-eqb (length r) recordSize size, width, lt-leb (countOf r) (maxErasures (widthOf r)) h)
 
       module _ (few : countOf r ≤ maxErasures (widthOf r)) (b : Bool)
-          (eb : b ≡ (allAre 255 (take (slots - countOf r) (drop (2 + countOf r) r)) && allAre 0 (drop (headerSize + (q + 4)) r))) where
+          (eb : b ≡ (allAre 255 (take (erasureBytes - countOf r) (drop (2 + countOf r) r)) && allAre 0 (drop (headerSize + n) r))) where
         padding : b ≡ (allAre 255 (unusedOf r) && allAre 0 (tailOf r))
-        padding = eb ∙ ap (λ (x : ℕ). allAre 255 (unusedOf r) && allAre 0 (drop (headerSize + (x + 4)) r)) (order-is (widthOf r) q eq width)
+        padding = eb ∙ ap (λ (x : ℕ). allAre 255 (unusedOf r) && allAre 0 (drop (headerSize + x) r)) (length-is (widthOf r) n en width)
 
         pub record-passes : b ≡ true → Passed ≡ recordAsked r
         unfolding recordAsked
@@ -124,7 +122,7 @@ module _ (r : List ℕ) where
 pub record Asked (r : List ℕ) : Type 0 where
   pub size : length r ≡ recordSize
   pub width : isWidth (widthOf r) ≡ true
-  pub few : countOf r ≤ slots
+  pub few : countOf r ≤ erasureBytes
   pub tail : allAre 0 (tailOf r) ≡ true
 
 pub asked : (r : List ℕ) → recordAsked r ≡ Passed → Asked r
@@ -141,18 +139,18 @@ asked r p1 =
           (ask-yes (allAre 255 (unusedOf r) && allAre 0 (tailOf r)) Padding Passed p4);
     }
 
-module _ (r : List ℕ) (A : Asked r) (q : ℕ) (eq : q ≡ orderOf (widthOf r)) where
-  order-of : q ≡ order (widthOf r)
-  order-of = order-is (widthOf r) q eq (A .width)
+module _ (r : List ℕ) (A : Asked r) (n : ℕ) (en : n ≡ wordLength (widthOf r)) where
+  word-length : n ≡ places (widthOf r)
+  word-length = length-is (widthOf r) n en (A .width)
 
-  pub word-fits : headerSize + (q + 4) ≤ length r
-  word-fits = omega (arith, order-of, order-small (widthOf r) (A .width), A .size)
+  pub word-fits : headerSize + n ≤ length r
+  word-fits = omega (arith, word-length, places-most (widthOf r) (A .width), A .size)
 
-  pub word-long : headerSize + (q + 4) - headerSize ≡ places (widthOf r)
-  word-long = omega (arith, order-of)
+  pub word-long : headerSize + n - headerSize ≡ places (widthOf r)
+  word-long = omega (arith, word-length)
 
-  pub word-part : take (headerSize + (q + 4) - headerSize) (drop headerSize r) ≡ wordOf r
-  word-part = ap (λ (n : ℕ). take n (drop headerSize r)) word-long
+  pub word-part : take (headerSize + n - headerSize) (drop headerSize r) ≡ wordOf r
+  word-part = ap (λ (k : ℕ). take k (drop headerSize r)) word-long
 
-  pub erasures-part : (es : List ℕ) → es ≡ take slots (drop 2 r) → take (countOf r) es ≡ erasuresOf r
-  erasures-part es e = ap (take (countOf r)) e ∙ take-take (countOf r) slots (drop 2 r) (A .few)
+  pub erasures-part : (es : List ℕ) → es ≡ take erasureBytes (drop 2 r) → take (countOf r) es ≡ erasuresOf r
+  erasures-part es e = ap (take (countOf r)) e ∙ take-take (countOf r) erasureBytes (drop 2 r) (A .few)

@@ -4,3 +4,4 @@ pub mod Recording
 pub mod Checking
 pub mod Writing
 pub mod Lines
+pub mod Bounds

@@ -1,50 +1,29 @@
--- Listing record by record, and a listing in parts: the lines and the totals of j + k records are those of j records and then those of k
--- more. Assumes nothing.
+-- Listing record by record, and a listing in parts: the lines and the progress of two parts are those of the first and then those of the
+-- second. Assumes nothing.
 use borrow.Author.Tests.{lt-ltb, le-ltb}
 use mathlib.Core.Path.{_≡_, refl, sym, ap, ap₂, _∙_}
+use mathlib.Core.Bool.{Bool, cond}
 use mathlib.Core.List.{List, [], _++_, append-assoc, append-nil}
 use Prim.Native.Nat.{ℕ, zero, suc, _+_, _*_, _≤_, _<_}
-use native.Mathlib.Nat.{zero-add, add-zero, suc-add, min-eq-left, min-eq-right}
+use native.Mathlib.Nat.{add-zero, add-suc}
+use native.Mathlib.Numerals.{add-one}
 use native.Mathlib.Omega.{arith}
 use lib.ListN.{length, getD, take, drop, length-append, length-take, length-drop}
-use lib.Seq.{drop-drop, take-append-le, drop-append-le, drop-at}
+use lib.Seq.{take-all, take-at, take-append-le, drop-append-le, drop-append-add}
 use Rattle.field.specs.Question.{Outcome}
 use Rattle.card.specs.declared.Totals.{Totals}
+use Rattle.card.specs.declared.Progress.{Progress}
 use Rattle.card.specs.declared.text.Listed.{Listed}
 use Rattle.card.specs.Record.{recordSize, recordOf}
-use Rattle.card.specs.Card.{recordCount}
-use Rattle.card.specs.Listing.{lineText, refusalOf, changesOf, recordLine, counted, linesOf, totalsOf}
-use Rattle.card.specs.Listing.{totalLine, moreLine, mostRecords, noTotals, listedCount, listing}
-use Rattle.card.specs.Batch.{Lists}
+use Rattle.card.specs.Card.{recordCount, recordAt}
+use Rattle.card.specs.Listing.{lineText, refusalOf, changesOf, recordLine, counted, linesOf, totalsOf, progressAt, partLines, partProgress}
+use Rattle.card.specs.Listing.{totalLine, moreLine, mostRecords, start, listing}
+use Rattle.card.specs.Batch.{advanced, Lists}
 use Rattle.card.proofs.Writing.{writes-none, writes-on}
 
--- the bytes behind the first record, and then behind j more
-behind : (j : ℕ) (bytes : List ℕ) → drop (j * recordSize) (drop recordSize bytes) ≡ drop (suc j * recordSize) bytes
-behind j bytes =
-    let more : recordSize + j * recordSize ≡ suc j * recordSize = omega arith in
-    drop-drop (j * recordSize) recordSize bytes ∙ ap (λ (n : ℕ). drop n bytes) more
-
-pub lines-add : (n j k : ℕ) (bytes : List ℕ)
-    → linesOf n (j + k) bytes ≡ linesOf n j bytes ++ linesOf (n + j) k (drop (j * recordSize) bytes)
-unfolding linesOf
-lines-add n zero k bytes = simp (zero-add, add-zero)
-lines-add n (suc j) k bytes =
-    ap (λ (i : ℕ). linesOf n i bytes) (suc-add j k)
-    ∙ ap (λ (l : List ℕ). recordLine n (take recordSize bytes) ++ l)
-    (lines-add (n + 1) j k (drop recordSize bytes)
-    ∙ ap₂ (λ (i : ℕ) (l : List ℕ). linesOf (n + 1) j (drop recordSize bytes) ++ linesOf i k l) (omega arith) (behind j bytes))
-    ∙ sym
-    (append-assoc (recordLine n (take recordSize bytes)) (linesOf (n + 1) j (drop recordSize bytes))
-    (linesOf (n + suc j) k (drop (suc j * recordSize) bytes)))
-
-pub totals-add : (t : Totals) (j k : ℕ) (bytes : List ℕ)
-    → totalsOf t (j + k) bytes ≡ totalsOf (totalsOf t j bytes) k (drop (j * recordSize) bytes)
-unfolding totalsOf
-totals-add t zero k bytes = simp zero-add
-totals-add t (suc j) k bytes =
-    ap (λ (i : ℕ). totalsOf t i bytes) (suc-add j k)
-    ∙ totals-add (counted t (recordOf (take recordSize bytes))) j k (drop recordSize bytes)
-    ∙ ap (λ (l : List ℕ). totalsOf (totalsOf t (suc j) bytes) k l) (behind j bytes)
+-- the progress with this next number and these totals
+abbrev at : ℕ → Totals → Progress
+at n t = record { next = n; totals = t }
 
 -- ---- listing record by record
 
@@ -54,110 +33,110 @@ pub line-answered : (n : ℕ) (bytes : List ℕ) {o : Outcome} {r k : ℕ} → o
 line-answered n bytes e p q = ap₂ (lineText n (getD bytes 0 0)) (p ∙ ap refusalOf e) (q ∙ ap changesOf e)
 
 -- a record of a batch has a byte
-pub piece-some : (batch bytes : List ℕ) (i : ℕ) → bytes ≡ take recordSize (drop (i * recordSize) batch) → i < recordCount (length batch)
-    → 0 < length bytes
+pub piece-some : (batch bytes : List ℕ) (i : ℕ) → bytes ≡ recordAt batch i → i < recordCount (length batch) → 0 < length bytes
 piece-some batch bytes i e h = rw e (simp (length-take, length-drop) (omega arith))
 
-pub lists-none : (t : Totals) (used n : ℕ) (batch out : List ℕ) → used ≤ length out
-    → Lists 0 (linesOf n 0 batch) (totalsOf t 0 batch) (record { used = used; totals = t }) out (record { used = used; totals = t }) out
-unfolding linesOf totalsOf
-lists-none t used n batch out h =
-    record {
-      text = writes-none out used h;
-      totals = refl;
-      short = omega arith;
-      grown = omega arith;
-    }
+module _ (s : Progress) (batch : List ℕ) where
+  pub lists-none : (out : List ℕ)
+      → Lists 0 (linesOf (s .next) batch 0) (progressAt s batch 0) out (record { used = 0; progress = s }) out
+  unfolding linesOf totalsOf
+  lists-none out = record { text = writes-none out 0 (omega arith); progress = ap (λ (n : ℕ). at n (s .totals)) (sym (add-zero (s .next))) }
 
-module _ (n i : ℕ) (t : Totals) (batch bytes : List ℕ) (e : bytes ≡ take recordSize (drop (i * recordSize) batch)) where
-  lines-more : linesOf n (i + 1) batch ≡ linesOf n i batch ++ recordLine (n + i) bytes
-  unfolding linesOf
-  lines-more =
-      lines-add n i 1 batch
-      ∙ ap (λ (l : List ℕ). linesOf n i batch ++ l)
-      (ap (λ (r : List ℕ). recordLine (n + i) r ++ []) (sym e) ∙ append-nil (recordLine (n + i) bytes))
-
-  totals-more : totalsOf t (i + 1) batch ≡ counted (totalsOf t i batch) (recordOf bytes)
+  progress-more : (i : ℕ) → advanced (progressAt s batch i) (recordOf (recordAt batch i)) ≡ progressAt s batch (i + 1)
   unfolding totalsOf
-  totals-more = totals-add t i 1 batch ∙ ap (λ (l : List ℕ). counted (totalsOf t i batch) (recordOf l)) (sym e)
+  progress-more i =
+      let number : s .next + i + 1 ≡ s .next + suc i = omega arith in
+      rw (add-one i) (ap (λ (n : ℕ). at n (totalsOf (s .totals) batch (suc i))) number)
 
-  pub lists-more : {start done next : Listed} {a b c : List ℕ}
-      → Lists i (linesOf n i batch) (totalsOf t i batch) start a done b
-      → Lists 1 (recordLine (n + i) bytes) (counted (done .totals) (recordOf bytes)) done b next c
-      → Lists (i + 1) (linesOf n (i + 1) batch) (totalsOf t (i + 1) batch) start a next c
-  lists-more w v =
+  pub lists-more : (i : ℕ) (bytes : List ℕ) → bytes ≡ recordAt batch i → {done next : Listed} {a b c : List ℕ}
+      → Lists 0 (linesOf (s .next) batch i) (progressAt s batch i) a done b
+      → Lists (done .used) (recordLine (done .progress .next) bytes) (advanced (done .progress) (recordOf bytes)) b next c
+      → Lists 0 (linesOf (s .next) batch (i + 1)) (progressAt s batch (i + 1)) a next c
+  unfolding linesOf
+  lists-more i bytes e {done} w v =
+      let number : done .progress .next ≡ s .next + i = ap (λ (u : Progress). u .next) (w .progress) in
       record {
-        text = rw lines-more (writes-on (w .text) (v .text));
-        totals = v .totals ∙ ap (λ (u : Totals). counted u (recordOf bytes)) (w .totals) ∙ sym totals-more;
-        short = omega arith;
-        grown = omega arith;
+        text = rw (add-one i, ← e, ← number) (writes-on (w .text) (v .text));
+        progress = v .progress
+            ∙ ap₂ (λ (u : Progress) (r : List ℕ). advanced u (recordOf r)) (w .progress) e
+            ∙ progress-more i;
       }
 
--- ---- a card cut behind j whole records
+-- ---- two parts, the first of j whole records
 
--- the first j records stand in the part a alone
-module _ (b : List ℕ) where
-  lines-front : (n j : ℕ) (a : List ℕ) → j * recordSize ≤ length a → linesOf n j (a ++ b) ≡ linesOf n j a
+module _ (a b : List ℕ) where
+  record-front : (i j : ℕ) → i < j → j * recordSize ≤ length a → recordAt (a ++ b) i ≡ recordAt a i
+  record-front i j l h =
+      ap (take recordSize) (drop-append-le (i * recordSize) a b (omega arith))
+      ∙ take-append-le recordSize (drop (i * recordSize) a) b (simp length-drop (omega arith))
+
+  record-behind : (i j : ℕ) → length a ≡ j * recordSize → recordAt (a ++ b) (j + i) ≡ recordAt b i
+  record-behind i j h =
+      let place : (j + i) * recordSize ≡ length a + i * recordSize = omega arith in
+      ap (λ (n : ℕ). take recordSize (drop n (a ++ b))) place ∙ ap (take recordSize) (drop-append-add a b (i * recordSize))
+
+  -- the first records stand in the first part alone
+  lines-front : (n j : ℕ) → j * recordSize ≤ length a → linesOf n (a ++ b) j ≡ linesOf n a j
   unfolding linesOf
-  lines-front n zero a h = refl
-  lines-front n (suc j) a h =
-      ap₂ (λ (r l : List ℕ). recordLine n r ++ linesOf (n + 1) j l) (take-append-le recordSize a b (omega arith))
-      (drop-append-le recordSize a b (omega arith))
-      ∙ ap (λ (l : List ℕ). recordLine n (take recordSize a) ++ l)
-      (lines-front (n + 1) j (drop recordSize a) (simp length-drop (omega arith)))
+  lines-front n zero h = refl
+  lines-front n (suc j) h =
+      ap₂ (λ (l r : List ℕ). l ++ recordLine (n + j) r) (lines-front n j (omega arith)) (record-front j (suc j) (omega arith) h)
 
-  totals-front : (t : Totals) (j : ℕ) (a : List ℕ) → j * recordSize ≤ length a → totalsOf t j (a ++ b) ≡ totalsOf t j a
+  totals-front : (t : Totals) (j : ℕ) → j * recordSize ≤ length a → totalsOf t (a ++ b) j ≡ totalsOf t a j
   unfolding totalsOf
-  totals-front t zero a h = refl
-  totals-front t (suc j) a h =
-      ap₂ (λ (r l : List ℕ). totalsOf (counted t (recordOf r)) j l) (take-append-le recordSize a b (omega arith))
-      (drop-append-le recordSize a b (omega arith))
-      ∙ totals-front (counted t (recordOf (take recordSize a))) j (drop recordSize a) (simp length-drop (omega arith))
+  totals-front t zero h = refl
+  totals-front t (suc j) h =
+      ap₂ (λ (u : Totals) (r : List ℕ). counted u (recordOf r)) (totals-front t j (omega arith)) (record-front j (suc j) (omega arith) h)
 
-module _ (j : ℕ) (a b : List ℕ) (whole : length a ≡ j * recordSize) where
-  pub lines-batches : (n k : ℕ) → linesOf n (j + k) (a ++ b) ≡ linesOf n j a ++ linesOf (n + j) k b
-  lines-batches n k =
-      lines-add n j k (a ++ b)
-      ∙ ap₂ (λ (l r : List ℕ). l ++ linesOf (n + j) k r) (lines-front b n j a (omega arith)) (drop-at a b (j * recordSize) whole)
+  module _ (j : ℕ) (whole : length a ≡ j * recordSize) where
+    lines-two : (n k : ℕ) → linesOf n (a ++ b) (j + k) ≡ linesOf n a j ++ linesOf (n + j) b k
+    unfolding linesOf
+    lines-two n zero = rw (add-zero j) (lines-front n j (omega arith) ∙ sym (append-nil (linesOf n a j)))
+    lines-two n (suc k) =
+        let number : n + (j + k) ≡ n + j + k = omega arith in
+        rw (add-suc j k)
+        (ap₂ _++_ (lines-two n k) (ap₂ recordLine number (record-behind k j whole))
+        ∙ append-assoc (linesOf n a j) (linesOf (n + j) b k) (recordLine (n + j + k) (recordAt b k)))
 
-  pub totals-batches : (t : Totals) (k : ℕ) → totalsOf t (j + k) (a ++ b) ≡ totalsOf (totalsOf t j a) k b
-  totals-batches t k =
-      totals-add t j k (a ++ b)
-      ∙ ap₂ (λ (u : Totals) (r : List ℕ). totalsOf u k r) (totals-front b t j a (omega arith)) (drop-at a b (j * recordSize) whole)
+    totals-two : (t : Totals) (k : ℕ) → totalsOf t (a ++ b) (j + k) ≡ totalsOf (totalsOf t a j) b k
+    unfolding totalsOf
+    totals-two t zero = rw (add-zero j) (totals-front t j (omega arith))
+    totals-two t (suc k) =
+        rw (add-suc j k) (ap₂ (λ (u : Totals) (r : List ℕ). counted u (recordOf r)) (totals-two t k) (record-behind k j whole))
 
-  pub count-front : recordCount (length a) ≡ j
-  count-front = omega arith
+    count-first : recordCount (length a) ≡ j
+    count-first = omega arith
 
-  pub count-batches : recordCount (length (a ++ b)) ≡ j + recordCount (length b)
-  count-batches = simp length-append (omega arith)
+    count-two : recordCount (length (a ++ b)) ≡ j + recordCount (length b)
+    count-two = simp length-append (omega arith)
 
-  -- The listing of the two parts is that of the front part, and behind it that of the rest, with the numbers and totals that the front part
-  -- ends with.
-  pub listing-batches : (n : ℕ) (t : Totals)
-      → (linesOf n (recordCount (length (a ++ b))) (a ++ b)
-      ≡ linesOf n (recordCount (length a)) a ++ linesOf (n + recordCount (length a)) (recordCount (length b)) b)
-      × (totalsOf t (recordCount (length (a ++ b))) (a ++ b) ≡ totalsOf (totalsOf t (recordCount (length a)) a) (recordCount (length b)) b)
-  listing-batches n t =
-      rw (count-batches, count-front) (lines-batches n (recordCount (length b)), totals-batches t (recordCount (length b)))
+    -- The listing of two parts is that of the first, and behind it that of the second from where the first has come to.
+    pub listing-batches : (s : Progress)
+        → (partLines s (a ++ b) ≡ partLines s a ++ partLines (partProgress s a) b)
+        × (partProgress s (a ++ b) ≡ partProgress (partProgress s a) b)
+    listing-batches s =
+        let k = recordCount (length b) in
+        let number : s .next + (j + k) ≡ s .next + j + k = omega arith in
+        rw (count-two, count-first) (lines-two (s .next) k, ap₂ at number (totals-two (s .totals) k))
 
 -- ---- the whole listing
 
+-- the text for a card of which this part is listed, and that goes on or does not
+abbrev whole-text : List ℕ → Bool → List ℕ
+whole-text part more = partLines start part ++ (cond more moreLine [] ++ totalLine (partProgress start part .totals))
+
 -- of a card that is listed to its end
 pub listing-short : (card : List ℕ) → length card ≤ mostRecords * recordSize
-    → listing card ≡ linesOf 1 (recordCount (length card)) card ++ totalLine (totalsOf noTotals (recordCount (length card)) card)
+    → listing card ≡ partLines start card ++ totalLine (partProgress start card .totals)
 unfolding listing
 listing-short card h =
-    let all : listedCount (length card) ≡ recordCount (length card) = min-eq-left (omega arith) in
-    rw (le-ltb (mostRecords * recordSize) (length card) h, all)
+    let most = mostRecords * recordSize in
+    ap₂ whole-text (take-all most card h) (le-ltb most (length card) h)
 
--- of a card that goes on with b behind the records listed, which stand in the part a
+-- of a card that goes on with b behind the part a, which is listed
 pub listing-long : (a b : List ℕ) → length a ≡ mostRecords * recordSize → 0 < length b
-    → listing (a ++ b)
-    ≡ linesOf 1 (recordCount (length a)) a ++ (moreLine ++ totalLine (totalsOf noTotals (recordCount (length a)) a))
+    → listing (a ++ b) ≡ partLines start a ++ (moreLine ++ totalLine (partProgress start a .totals))
 unfolding listing
 listing-long a b whole some =
     let more : mostRecords * recordSize < length (a ++ b) = simp length-append (omega arith) in
-    let most : listedCount (length (a ++ b)) ≡ mostRecords = min-eq-right (omega arith) in
-    rw (lt-ltb (mostRecords * recordSize) (length (a ++ b)) more, most, count-front mostRecords a b whole)
-    (ap₂ (λ (l : List ℕ) (t : Totals). l ++ (moreLine ++ totalLine t))
-    (lines-front b 1 mostRecords a (omega arith)) (totals-front b noTotals mostRecords a (omega arith)))
+    ap₂ whole-text (take-at a b (mostRecords * recordSize) whole) (lt-ltb (mostRecords * recordSize) (length (a ++ b)) more)

@@ -6,18 +6,17 @@ use native.Mathlib.Omega.{arith}
 use lib.ListN.{length, take, drop, replicate, take-append-drop, length-drop}
 use lib.Seq.{drop-at, drop-drop, length-take-le}
 use Rattle.field.specs.Question.{Outcome, accepted, refused, refusal, after}
-use Rattle.field.specs.Answer.{orderOf}
 use Rattle.field.specs.declared.Question.{Question}
 use Rattle.field.specs.declared.Question.the-variants.{Length}
 use Rattle.field.specs.declared.Verdict.{Verdict}
 use Rattle.field.specs.declared.Verdict.the-variants.{Passed, Refused as RefusedBy}
-use Rattle.field.proofs.Widths.{order-small}
-use Rattle.code.specs.Word.{places, longest}
+use Rattle.code.specs.Word.{places, longest, wordLength}
 use Rattle.code.specs.Call.{restoreOf, restoreWritten, repair, Restores}
 use Rattle.code.specs.declared.Repair.{Repair}
 use Rattle.code.specs.declared.Repair.the-variants.{Restored, Refused}
+use Rattle.code.proofs.Lengths.{places-most}
 use Rattle.code.proofs.Demands.{accepts, refused-unchanged}
-use Rattle.card.specs.Record.{slots, headerSize, recordSize, widthOf, countOf, wordOf, tailOf, erasuresOf}
+use Rattle.card.specs.Record.{erasureBytes, headerSize, recordSize, widthOf, countOf, wordOf, tailOf, erasuresOf}
 use Rattle.card.specs.Record.{recordAsked, recordOf, clearRecord, onAccept, recordWritten, RestoresRecord}
 use Rattle.card.proofs.Layouts.{Asked, asked, all-replicate, length-no, word-part, erasures-part}
 
@@ -37,13 +36,13 @@ restores-refused r v q e p new h =
           ∙ ap (λ (x : Outcome). onAccept x r (clearRecord (widthOf r) (restoreWritten (widthOf r) (wordOf r) (erasuresOf r)))) o;
     }
 
--- what the restorer did with the parts of the record, q the order of its width and es its erasure bytes
-pub restores-parts : (r : List ℕ) (A : Asked r) (q : ℕ) (eq : q ≡ orderOf (widthOf r)) (es : List ℕ) → es ≡ take slots (drop 2 r)
+-- what the restorer did with the parts of the record, n the length of its word and es its erasure bytes
+pub restores-parts : (r : List ℕ) (A : Asked r) (n : ℕ) (en : n ≡ wordLength (widthOf r)) (es : List ℕ) → es ≡ take erasureBytes (drop 2 r)
     → (x : Repair) (new : List ℕ)
-    → Restores (widthOf r) (take (headerSize + (q + 4) - headerSize) (drop headerSize r)) (take (countOf r) es) x new
+    → Restores (widthOf r) (take (headerSize + n - headerSize) (drop headerSize r)) (take (countOf r) es) x new
     → Restores (widthOf r) (wordOf r) (erasuresOf r) x new
-restores-parts r A q eq es e x new R =
-    subst₂ (λ (w ls : List ℕ). Restores (widthOf r) w ls x new) (word-part r A q eq) (erasures-part r A q eq es e) R
+restores-parts r A n en es e x new R =
+    subst₂ (λ (w ls : List ℕ). Restores (widthOf r) w ls x new) (word-part r A n en) (erasures-part r A n en es e) R
 
 -- they were answered yes; R is what the restorer did with the word
 module _ (r : List ℕ) (P : recordAsked r ≡ Passed) (x : Repair) (new : List ℕ)
@@ -80,14 +79,14 @@ module _ (r : List ℕ) (P : recordAsked r ≡ Passed) (x : Repair) (new : List 
     rest = drop-drop n headerSize r ∙ ap (λ (k : ℕ). drop (headerSize + k) r) en
 
     pub word-restored : (k : ℕ) → x ≡ Restored k → (final : List ℕ)
-        → final ≡ (widthOf r ∷ 0 ∷ replicate slots 255) ++ drop headerSize (take headerSize r ++ (new ++ drop n (drop headerSize r)))
+        → final ≡ (widthOf r ∷ 0 ∷ replicate erasureBytes 255) ++ drop headerSize (take headerSize r ++ (new ++ drop n (drop headerSize r)))
         → RestoresRecord r (Restored k) final
     unfolding recordWritten
     word-restored k e final f =
         record {
           answer = o;
           content = f
-              ∙ ap (λ (u : List ℕ). (widthOf r ∷ 0 ∷ replicate slots 255) ++ u)
+              ∙ ap (λ (u : List ℕ). (widthOf r ∷ 0 ∷ replicate erasureBytes 255) ++ u)
               (drop-at (take headerSize r) (new ++ drop n (drop headerSize r)) headerSize
               (length-take-le headerSize r (omega (arith, A .size)))
               ∙ ap₂ _++_ (R .word) (rest ∙ all-replicate 0 (tailOf r) (A .tail) ∙ ap (λ (i : ℕ). replicate i 0) long))
@@ -103,7 +102,7 @@ module _ (r : List ℕ) (P : recordAsked r ≡ Passed) (x : Repair) (new : List 
             (sym (R .answer) ∙ ap repair e, refl) .1 .near .codeword .size
 
         long : length (tailOf r) ≡ longest - length (restoreWritten (widthOf r) (wordOf r) (erasuresOf r))
-        long = length-drop (headerSize + places (widthOf r)) r ∙ omega (arith, A .size, size, order-small (widthOf r) (A .width))
+        long = length-drop (headerSize + places (widthOf r)) r ∙ omega (arith, A .size, size, places-most (widthOf r) (A .width))
 
 -- ---- a record of another length
 

@@ -1,13 +1,14 @@
 -- The text of a listing of a card. Assumes nothing.
 use mathlib.Core.Bool.{cond}
 use mathlib.Core.List.{List, [], _∷_, _++_}
-use Prim.Native.Nat.{ℕ, zero, suc, _+_, _/_, _%_, _*_, min}
+use Prim.Native.Nat.{ℕ, zero, suc, _+_, _/_, _%_, _*_}
 use lib.Dec.{ltb}
-use lib.ListN.{length, take, drop, getD}
+use lib.ListN.{length, take, getD}
 use Rattle.field.specs.Question.{Outcome, accepted, refused}
 use Rattle.card.specs.declared.Totals.{Totals}
+use Rattle.card.specs.declared.Progress.{Progress}
 use Rattle.card.specs.Record.{recordSize, recordOf}
-use Rattle.card.specs.Card.{recordCount}
+use Rattle.card.specs.Card.{recordCount, recordAt}
 
 -- the decimal digits of n as text, without leading zeros; the first argument bounds their number
 unfoldable pub digitsFrom : ℕ → ℕ → List ℕ
@@ -48,15 +49,31 @@ abbrev pub counted : Totals → Outcome → Totals
 counted t (accepted k) = record { accepted = t .accepted + 1; refused = t .refused; changed = t .changed + k }
 counted t (refused n) = record { accepted = t .accepted; refused = t .refused + 1; changed = t .changed }
 
--- the lines of k records from the bytes on, the first with the number n
-unfoldable pub linesOf : ℕ → ℕ → List ℕ → List ℕ
-linesOf n zero bytes = []
-linesOf n (suc k) bytes = recordLine n (take recordSize bytes) ++ linesOf (n + 1) k (drop recordSize bytes)
+-- ---- part by part: a part of a card is a row of records, the last of which may be shorter
 
--- the totals t after k records more, from the bytes on
-unfoldable pub totalsOf : Totals → ℕ → List ℕ → Totals
-totalsOf t zero bytes = t
-totalsOf t (suc k) bytes = totalsOf (counted t (recordOf (take recordSize bytes))) k (drop recordSize bytes)
+-- the lines of the first k records of the part, the first with the number n
+unfoldable pub linesOf : ℕ → List ℕ → ℕ → List ℕ
+linesOf n part zero = []
+linesOf n part (suc k) = linesOf n part k ++ recordLine (n + k) (recordAt part k)
+
+-- the totals t, with the first k records of the part
+unfoldable pub totalsOf : Totals → List ℕ → ℕ → Totals
+totalsOf t part zero = t
+totalsOf t part (suc k) = counted (totalsOf t part k) (recordOf (recordAt part k))
+
+-- how far the listing has come behind the first k records of the part: the number of the next record, and the totals
+abbrev pub progressAt : Progress → List ℕ → ℕ → Progress
+progressAt s part k = record { next = s .next + k; totals = totalsOf (s .totals) part k }
+
+-- the lines of all records of the part, where the listing has come to s before it
+abbrev pub partLines : Progress → List ℕ → List ℕ
+partLines s part = linesOf (s .next) part (recordCount (length part))
+
+-- and how far it has come behind them
+abbrev pub partProgress : Progress → List ℕ → Progress
+partProgress s part = progressAt s part (recordCount (length part))
+
+-- ---- the whole listing
 
 -- the five letters total
 abbrev pub totalWord : List ℕ
@@ -75,17 +92,17 @@ moreLine = 109 ∷ 111 ∷ 114 ∷ 101 ∷ newline ∷ []
 abbrev pub mostRecords : ℕ
 mostRecords = 1000000
 
--- the totals before the first record
-abbrev pub noTotals : Totals
-noTotals = record { accepted = 0; refused = 0; changed = 0 }
+-- the part of a card that is listed
+abbrev pub listedPart : List ℕ → List ℕ
+listedPart card = take (mostRecords * recordSize) card
 
--- the number of records listed of a card of n bytes
-abbrev pub listedCount : ℕ → ℕ
-listedCount n = min (recordCount n) mostRecords
+-- before the first record
+abbrev pub start : Progress
+start = record { next = 1; totals = record { accepted = 0; refused = 0; changed = 0 } }
 
 -- the whole listing: the lines, the line "more" where a byte follows the last record listed, and the last line
 unfoldable pub listing : List ℕ → List ℕ
 listing card =
-    linesOf 1 (listedCount (length card)) card
+    partLines start (listedPart card)
     ++ (cond (ltb (mostRecords * recordSize) (length card)) moreLine []
-    ++ totalLine (totalsOf noTotals (listedCount (length card)) card))
+    ++ totalLine (partProgress start (listedPart card) .totals))

@@ -16,12 +16,12 @@ use Rattle.code.specs.declared.Repair.{Repair}
 -- ---- the layout
 
 -- the number of erasure bytes, document 01's mark bytes
-abbrev pub slots : ℕ
-slots = 4
+abbrev pub erasureBytes : ℕ
+erasureBytes = 4
 
 -- byte 0 is the width, byte 1 the number of erasures; then come the erasure bytes, and at this byte the symbols start
 abbrev pub headerSize : ℕ
-headerSize = 2 + slots
+headerSize = 2 + erasureBytes
 
 -- the number of bytes of a record
 abbrev pub recordSize : ℕ
@@ -41,7 +41,7 @@ erasuresOf r = take (countOf r) (drop 2 r)
 
 -- the erasure bytes that are not used
 abbrev pub unusedOf : List ℕ → List ℕ
-unusedOf r = take (slots - countOf r) (drop (2 + countOf r) r)
+unusedOf r = take (erasureBytes - countOf r) (drop (2 + countOf r) r)
 
 -- the symbols
 abbrev pub wordOf : List ℕ → List ℕ
@@ -70,9 +70,13 @@ recordAsked r =
 unfoldable pub recordOf : List ℕ → Outcome
 recordOf r = after (recordAsked r) (restoreOf (widthOf r) (wordOf r) (erasuresOf r))
 
+-- no more places of a record are changed
+abbrev pub mostChanges : ℕ
+mostChanges = 2
+
 -- a record of the width m that holds the codeword c and has no erasures
 abbrev pub clearRecord : ℕ → List ℕ → List ℕ
-clearRecord m c = (m ∷ 0 ∷ replicate slots 255) ++ (c ++ replicate (longest - length c) 0)
+clearRecord m c = (m ∷ 0 ∷ replicate erasureBytes 255) ++ (c ++ replicate (longest - length c) 0)
 
 -- what is written where the record is accepted; a refused one stays as it was
 abbrev pub onAccept : Outcome → List ℕ → List ℕ → List ℕ

@@ -10,7 +10,7 @@ use crate::records::probe;
 use code::Repair;
 
 // The record of the card that begins at byte `at`; the last may be shorter.
-pub fn record_from(card: &[u8], at: usize) -> &[u8]
+pub(crate) fn record_from(card: &[u8], at: usize) -> &[u8]
     requires { ⌜ at ≤ length (now card) ⌝ }
     ensures { λ r. ⌜ now r ≡ take recordSize (drop at (now (card .entry))) ⌝ }
 {

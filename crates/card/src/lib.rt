@@ -9,9 +9,15 @@ pub enum CardCheck {
     Refused(usize),
 }
 
-// What a listing has counted so far: accepted records, refused records, changed places.
+// What a listing has counted: accepted records, refused records, changed places.
 pub struct Totals {
     pub accepted: u64,
     pub refused: u64,
     pub changed: u64,
+}
+
+// How far a listing has come: the number of the next record, and the totals.
+pub struct Progress {
+    pub next: u64,
+    pub totals: Totals,
 }

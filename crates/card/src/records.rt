@@ -6,19 +6,19 @@ ghost use Prim.Native.Nat.{_+_, _-_, _≤_};
 ghost use lib.ListN.{length, take, drop, replicate};
 ghost use Rattle.field.specs.declared.Verdict.the-variants.{Passed};
 ghost use Rattle.code.specs.Call.{repair};
-ghost use Rattle.card.specs.Record.{slots, headerSize, recordSize, allAre, recordAsked, recordOf, RestoresRecord};
+ghost use Rattle.card.specs.Record.{erasureBytes, headerSize, recordSize, allAre, recordAsked, recordOf, RestoresRecord};
 use code::Repair;
 use code::slice::copy;
+use code::word_length;
 use field::Question;
 use field::Verdict;
-use field::arithmetic::order_of;
 
 // The layout of a record.
-const SLOTS: usize = 4;
+const ERASURE_BYTES: usize = 4;
 
-const HEADER: usize = 2 + SLOTS;
+const HEADER: usize = 2 + ERASURE_BYTES;
 
-pub const RECORD: usize = HEADER + 132;
+pub(crate) const RECORD: usize = HEADER + 132;
 
 // Is every byte x?
 fn all_are(xs: &[u8], x: u8) -> bool
@@ -36,11 +36,11 @@ fn all_are(xs: &[u8], x: u8) -> bool
 
 // Question 4: are the unused erasure bytes 255, and is the tail, from byte `end` on, 0?
 fn padded(bytes: &[u8], count: usize, end: usize) -> bool
-    requires { ⌜ (length (now bytes) ≡ recordSize) × (count ≤ slots) × (end ≤ recordSize) ⌝ }
+    requires { ⌜ (length (now bytes) ≡ recordSize) × (count ≤ erasureBytes) × (end ≤ recordSize) ⌝ }
     ensures { λ r.
         ⌜
         r
-        ≡ (allAre 255 (take (slots - count) (drop (2 + count) (now (bytes .entry)))) && allAre 0 (drop end (now (bytes .entry))))
+        ≡ (allAre 255 (take (erasureBytes - count) (drop (2 + count) (now (bytes .entry)))) && allAre 0 (drop end (now (bytes .entry))))
         ⌝ }
 {
     let from = 2 + count;
@@ -59,15 +59,15 @@ fn ask_record(bytes: &[u8]) -> Verdict
     if bytes.len() != RECORD {
         return Verdict::Refused(Question::Length);
     }
-    let q = order_of(bytes[0]) as usize;
-    if q == 0 {
+    let n = word_length(bytes[0]);
+    if n == 0 {
         return Verdict::Refused(Question::Width);
     }
     let count = bytes[1] as usize;
     if 4 < count {
         return Verdict::Refused(Question::ErasureCount);
     }
-    if padded(bytes, count, HEADER + (q + 4)) {
+    if padded(bytes, count, HEADER + n) {
         Verdict::Passed
     } else {
         Verdict::Refused(Question::Padding)
@@ -75,9 +75,9 @@ fn ask_record(bytes: &[u8]) -> Verdict
 }
 
 // The erasure bytes.
-fn erasure_bytes(bytes: &[u8]) -> [u8; SLOTS]
+fn erasure_row(bytes: &[u8]) -> [u8; ERASURE_BYTES]
     requires { ⌜ headerSize ≤ length (now bytes) ⌝ }
-    ensures { λ r. ⌜ r ≡ take slots (drop 2 (now (bytes .entry))) ⌝ }
+    ensures { λ r. ⌜ r ≡ take erasureBytes (drop 2 (now (bytes .entry))) ⌝ }
 {
     [bytes[2], bytes[3], bytes[4], bytes[5]]
 }
@@ -85,7 +85,7 @@ fn erasure_bytes(bytes: &[u8]) -> [u8; SLOTS]
 // No erasures: the header of a restored record.
 fn clear_header(bytes: &mut [u8], width: u8)
     requires { ⌜ headerSize ≤ length (now bytes) ⌝ }
-    ensures { λ r. ⌜ now (bytes .exit) ≡ (width ∷ 0 ∷ replicate slots 255) ++ drop headerSize (now (bytes .entry)) ⌝ }
+    ensures { λ r. ⌜ now (bytes .exit) ≡ (width ∷ 0 ∷ replicate erasureBytes 255) ++ drop headerSize (now (bytes .entry)) ⌝ }
 {
     let header = [width, 0, 255, 255, 255, 255];
     copy(&mut bytes[..6], &header);
@@ -98,8 +98,8 @@ fn restore_asked(bytes: &mut [u8]) -> Repair
 {
     let width = bytes[0];
     let count = bytes[1] as usize;
-    let erasures = erasure_bytes(bytes);
-    let end = HEADER + (order_of(width) as usize + 4);
+    let erasures = erasure_row(bytes);
+    let end = HEADER + word_length(width);
     let from = HEADER;
     match code::restore(width, &mut bytes[from..end], &erasures[..count]) {
         Repair::Restored(k) => {
@@ -131,7 +131,7 @@ fn copied(bytes: &[u8]) -> [u8; RECORD]
 }
 
 // What restoring the record would answer; the record stays as it is.
-pub fn probe(bytes: &[u8]) -> Repair
+pub(crate) fn probe(bytes: &[u8]) -> Repair
     ensures { λ r. ⌜ repair r ≡ recordOf (now (bytes .entry)) ⌝ }
 {
     if bytes.len() != RECORD {

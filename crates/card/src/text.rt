@@ -3,12 +3,13 @@ ghost use mathlib.Core.Path.{_≡_};
 ghost use mathlib.Core.List.{[], _∷_, _++_};
 ghost use Prim.Native.Nat.{_+_, _*_, _^_, _≤_, _<_};
 ghost use lib.ListN.{length};
-ghost use Rattle.card.specs.Listing.{decimal, lineText, totalLine, moreLine, recordLine, refusalOf, changesOf, counted, mostRecords};
+ghost use Rattle.card.specs.Listing.{decimal, lineText, totalLine, moreLine, recordLine, refusalOf, changesOf};
+ghost use Rattle.card.specs.Listing.{partLines, partProgress};
 ghost use Rattle.code.specs.Call.{repair};
 ghost use Rattle.card.specs.Record.{recordOf};
-ghost use Rattle.card.specs.Batch.{Within, Grows, Lists, ListsAll};
-ghost use Rattle.card.specs.Batch.{longestField, longestLine, longestTotal, mostChanges, batchRecords, batchSize};
+ghost use Rattle.card.specs.Batch.{longestField, longestLine, longestTotal, batchRecords, batchSize, Within, advanced, Lists};
 ghost use Rattle.card.specs.Placed.{Writes};
+use crate::Progress;
 use crate::Totals;
 use crate::cards::record_from;
 use crate::records::RECORD;
@@ -16,14 +17,14 @@ use crate::records::probe;
 use code::Repair;
 use field::refusal_number;
 
-// How many bytes of the buffer are used, and what has been counted.
+// How many bytes of the buffer are used, and how far the listing has come.
 pub struct Listed {
     pub used: usize,
-    pub totals: Totals,
+    pub progress: Progress,
 }
 
 // Writes one byte. Each function that puts something answers the place behind it.
-pub fn put_byte(out: &mut [u8], at: usize, b: u8) -> usize
+fn put_byte(out: &mut [u8], at: usize, b: u8) -> usize
     requires { ⌜ at < length (now out) ⌝ }
     ensures { λ r. ⌜ Writes (now (out .entry)) at (b ∷ []) (now (out .exit)) r ⌝ }
 {
@@ -32,7 +33,7 @@ pub fn put_byte(out: &mut [u8], at: usize, b: u8) -> usize
 }
 
 // Writes the bytes of a text.
-pub fn put_bytes(out: &mut [u8], at: usize, text: &[u8]) -> usize
+fn put_bytes(out: &mut [u8], at: usize, text: &[u8]) -> usize
     requires { ⌜ at + length (now text) ≤ length (now out) ⌝ }
     ensures { λ r. ⌜ Writes (now (out .entry)) at (now (text .entry)) (now (out .exit)) r ⌝ }
 {
@@ -46,7 +47,7 @@ pub fn put_bytes(out: &mut [u8], at: usize, text: &[u8]) -> usize
 }
 
 // Writes n's decimal digits.
-pub fn put_decimal(out: &mut [u8], at: usize, n: u64) -> usize
+fn put_decimal(out: &mut [u8], at: usize, n: u64) -> usize
     requires { ⌜ at + length (decimal n) ≤ length (now out) ⌝ }
     ensures { λ r. ⌜ Writes (now (out .entry)) at (decimal n) (now (out .exit)) r ⌝ }
 {
@@ -69,17 +70,9 @@ fn put_field(out: &mut [u8], at: usize, n: u64, end: u8) -> usize
 }
 
 // Writes the line of a record: its number, its byte 0, the refusal number and the number of changed places.
-pub fn put_line(
-    out: &mut [u8],
-    at: usize,
-    number: u64,
-    width: u8,
-    refusal: u8,
-    changed: u8,
-) -> usize
+fn put_line(out: &mut [u8], at: usize, number: u64, width: u8, refusal: u8, changed: u8) -> usize
     requires { ⌜ at + longestLine ≤ length (now out) ⌝ }
     ensures { λ r. ⌜ Writes (now (out .entry)) at (lineText number width refusal changed) (now (out .exit)) r ⌝ }
-    ensures { λ r. ⌜ r ≤ at + longestLine ⌝ }
 {
     let a = put_field(out, at, number, b' ');
     let b = put_field(out, a, width as u64, b' ');
@@ -126,63 +119,75 @@ fn changes_of(answer: Repair) -> u8
     }
 }
 
-// Counts one more record.
-fn count(t: Totals, answer: Repair) -> Totals
-    requires { ⌜ Within (2 ^ 63) t ⌝ }
-    ensures { λ r. ⌜ r ≡ counted t (repair answer) ⌝ }
-    ensures { λ r. ⌜ Grows mostChanges t r ⌝ }
+// One record further: the next number, and the record counted.
+fn advance(s: Progress, answer: Repair) -> Progress
+    requires { ⌜ Within (2 ^ 63) s ⌝ }
+    ensures { λ r. ⌜ r ≡ advanced s (repair answer) ⌝ }
 {
+    let next = s.next + 1;
+    let t = s.totals;
     match answer {
-        Repair::Restored(changed) => Totals {
-            accepted: t.accepted + 1,
-            refused: t.refused,
-            changed: t.changed + changed as u64,
+        Repair::Restored(changed) => Progress {
+            next,
+            totals: Totals {
+                accepted: t.accepted + 1,
+                refused: t.refused,
+                changed: t.changed + changed as u64,
+            },
         },
-        Repair::Refused(_) => Totals {
-            accepted: t.accepted,
-            refused: t.refused + 1,
-            changed: t.changed,
+        Repair::Refused(_) => Progress {
+            next,
+            totals: Totals {
+                accepted: t.accepted,
+                refused: t.refused + 1,
+                changed: t.changed,
+            },
         },
     }
 }
 
 // Lists one record, of which there is at least one byte.
-fn list_record(bytes: &[u8], number: u64, done: Listed, out: &mut [u8]) -> Listed
-    requires { ⌜ (0 < length (now bytes)) × (done .used + longestLine ≤ length (now out)) × Within (2 ^ 63) (done .totals) ⌝ }
+fn list_record(bytes: &[u8], done: Listed, out: &mut [u8]) -> Listed
+    requires { ⌜ (0 < length (now bytes)) × (done .used + longestLine ≤ length (now out)) × Within (2 ^ 63) (done .progress) ⌝ }
     ensures { λ r.
         ⌜
-        Lists 1 (recordLine number (now (bytes .entry))) (counted (done .totals) (recordOf (now (bytes .entry)))) done (now (out .entry)) r
-        (now (out .exit))
+        Lists (done .used) (recordLine (done .progress .next) (now (bytes .entry)))
+        (advanced (done .progress) (recordOf (now (bytes .entry)))) (now (out .entry)) r (now (out .exit))
         ⌝ }
 {
     let answer = probe(bytes);
+    let s = done.progress;
     let used = put_line(
         out,
         done.used,
-        number,
+        s.next,
         bytes[0],
         refusal_of(answer),
         changes_of(answer),
     );
     Listed {
-        used: used,
-        totals: count(done.totals, answer),
+        used,
+        progress: advance(s, answer),
     }
 }
 
-// Lists the records of a batch: whole records, and a shorter last piece. The bounds on the numbers keep every sum within 64 bits, and the
-// totals grow by at most 255 for each record.
-pub fn list_records(batch: &[u8], first: u64, t: Totals, out: &mut [u8]) -> Listed
-    requires { ⌜ (length (now batch) ≤ batchSize) × (batchRecords * longestLine ≤ length (now out)) ⌝ }
-    requires { ⌜ (first ≤ mostRecords) × Within (2 ^ 62) t ⌝ }
+// Lists the records of a batch, whole ones and a shorter last piece, where the listing has come to s before it. The bound on the numbers
+// keeps every sum within 64 bits.
+pub fn list_records(batch: &[u8], s: Progress, out: &mut [u8]) -> Listed
+    requires { ⌜ (length (now batch) ≤ batchSize) × (batchRecords * longestLine ≤ length (now out)) × Within (2 ^ 62) s ⌝ }
     ensures { λ r.
-        ⌜ ListsAll first (now (batch .entry)) t (now (out .entry)) r (now (out .exit)) ⌝ }
+        ⌜
+        Lists 0 (partLines s (now (batch .entry))) (partProgress s (now (batch .entry))) (now (out .entry)) r (now (out .exit))
+        ⌝ }
 {
     let n = (batch.len() + (RECORD - 1)) / RECORD;
-    let mut done = Listed { used: 0, totals: t };
+    let mut done = Listed {
+        used: 0,
+        progress: s,
+    };
     let mut i = 0;
     while i < n {
-        done = list_record(record_from(batch, i * RECORD), first + i as u64, done, out);
+        done = list_record(record_from(batch, i * RECORD), done, out);
         i += 1;
     }
     done

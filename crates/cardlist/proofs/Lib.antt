@@ -1,2 +1,2 @@
 -- What the proofs of several functions use. Assumes nothing.
-pub mod Bounds
+pub mod Batches

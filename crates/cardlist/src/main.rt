@@ -1,10 +1,12 @@
 // Lists the records of the card on standard input: a line for each, up to 1,000,000, then the totals. The text is the card crate's; here
 // it is read, called and written.
 ghost use mathlib.Core.Path.{_≡_};
-ghost use Prim.Native.Nat.{_*_, _≤_};
+ghost use Prim.Native.Nat.{_*_, _^_, _≤_};
 ghost use lib.ListN.{length};
-ghost use Rattle.card.specs.Batch.{Within, Grows, batchRecords, mostChanges};
-ghost use Rattle.card.specs.Listing.{mostRecords};
+ghost use Rattle.card.specs.Record.{recordSize};
+ghost use Rattle.card.specs.Listing.{mostRecords, start};
+ghost use Rattle.card.specs.Batch.{batchSize, Within, Continues};
+use card::Progress;
 use card::Totals;
 use card::text::list_records;
 use card::text::put_more;
@@ -19,10 +21,11 @@ pub struct Input {
     pub failed: bool,
 }
 
-// The totals after a batch, and whether the input may go on.
+// How far the listing has come, whether the card may go on, and whether all of the text was written.
 pub struct Turn {
-    pub totals: Totals,
+    pub progress: Progress,
     pub going: bool,
+    pub written: bool,
 }
 
 // Reads until the buffer is full, the input ends or a read fails.
@@ -54,17 +57,25 @@ fn read_batch(buf: &mut [u8]) -> Input
 }
 
 // Says that a read failed.
-fn report_failure() {
+fn report_read() {
     io::write_all(
         STDERR_FILENO,
         b"cardlist: a read failed; the card is taken to end there\n",
     );
 }
 
-// Lists a batch of at most 400 records, the first of them with the given number.
-fn list_batch(first: u64, t: Totals) -> Turn
-    requires { ⌜ (first ≤ mostRecords) × Within 1000000000 t ⌝ }
-    ensures { λ r. ⌜ Grows (batchRecords * mostChanges) t (r .totals) ⌝ }
+// Says that a write failed.
+fn report_write() {
+    io::write_all(
+        STDERR_FILENO,
+        b"cardlist: a write failed; the listing is cut short\n",
+    );
+}
+
+// Lists a batch of at most 400 records, where the listing has come to s before it.
+fn list_batch(s: Progress) -> Turn
+    requires { ⌜ Within (2 ^ 62) s ⌝ }
+    ensures { λ r. ⌜ Continues batchSize s (r .progress) (r .going) ⌝ }
 {
     let mut batch = [0u8; 55200];
     let mut out = [0u8; 33600];
@@ -72,42 +83,51 @@ fn list_batch(first: u64, t: Totals) -> Turn
     let n = input.count;
     let failed = input.failed;
     if failed {
-        report_failure();
+        report_read();
     }
-    let listed = list_records(&batch[..n], first, t, &mut out);
+    let listed = list_records(&batch[..n], s, &mut out);
     let used = listed.used;
-    io::write_all(STDOUT_FILENO, &out[..used]);
-    let totals = listed.totals;
+    let written = io::write_all(STDOUT_FILENO, &out[..used]);
+    let progress = listed.progress;
     Turn {
-        totals,
+        progress,
         going: n == 55200,
+        written,
     }
 }
 
-// Lists batch after batch until the input ends, or 1,000,000 records are listed.
-fn list_batches() -> Turn {
-    let mut t = Totals {
-        accepted: 0,
-        refused: 0,
-        changed: 0,
+// Lists batch after batch until the input ends, a write fails, or 1,000,000 records are listed.
+fn list_batches() -> Turn
+    ensures { λ r. ⌜ Continues (mostRecords * recordSize) start (r .progress) (r .going) ⌝ }
+{
+    let mut s = Progress {
+        next: 1,
+        totals: Totals {
+            accepted: 0,
+            refused: 0,
+            changed: 0,
+        },
     };
     let mut i: u64 = 0;
     while i < 2500 {
-        let turn = list_batch(i * 400 + 1, t);
+        let turn = list_batch(s);
+        let progress = turn.progress;
         let going = turn.going;
-        let totals = turn.totals;
-        t = totals;
-        if !going {
+        let written = turn.written;
+        s = progress;
+        if !going || !written {
             return Turn {
-                totals: t,
+                progress: s,
                 going: false,
+                written,
             };
         }
         i += 1;
     }
     Turn {
-        totals: t,
+        progress: s,
         going: true,
+        written: true,
     }
 }
 
@@ -118,35 +138,48 @@ fn is_more() -> bool {
     let n = input.count;
     let failed = input.failed;
     if failed {
-        report_failure();
+        report_read();
     }
     0 < n
 }
 
-// Writes the line that says that the card goes on behind the records listed.
-fn write_more() {
+// Writes the line that says that the card goes on behind the records listed, and answers whether it was written.
+fn write_more() -> bool {
     let mut out = [0u8; 8];
     let used = put_more(&mut out, 0);
-    io::write_all(STDOUT_FILENO, &out[..used]);
+    io::write_all(STDOUT_FILENO, &out[..used])
 }
 
-// Writes the last line.
-fn write_total(t: Totals) {
+// Writes the last line, and answers whether it was written.
+fn write_total(t: Totals) -> bool {
     let mut out = [0u8; 80];
     let used = put_total(&mut out, 0, t);
-    io::write_all(STDOUT_FILENO, &out[..used]);
+    io::write_all(STDOUT_FILENO, &out[..used])
 }
 
-// Lists the card: its records, the line "more" where the card goes on, and the totals.
-fn main() {
-    let end = list_batches();
-    let totals = end.totals;
-    let going = end.going;
+// Ends a listing: the line "more" where the card goes on, and the totals. Answers whether both were written.
+fn finish(t: Totals, going: bool) -> bool {
     if going {
-        let more = is_more();
-        if more {
-            write_more();
+        if is_more() {
+            if !write_more() {
+                return false;
+            }
         }
     }
-    write_total(totals);
+    write_total(t)
+}
+
+// Lists the card. Where a write fails, the listing ends there, without a total line.
+fn main() {
+    let end = list_batches();
+    let progress = end.progress;
+    let totals = progress.totals;
+    let going = end.going;
+    let written = end.written;
+    if written {
+        if finish(totals, going) {
+            return;
+        }
+    }
+    report_write();
 }

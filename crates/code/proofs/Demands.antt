@@ -1,26 +1,61 @@
 -- The demands of specs/Demands.antt, each under its name in small letters. Assumes nothing.
-use mathlib.Core.Path.{ap}
+use mathlib.Core.Path.{_≡_, refl, sym, ap, _∙_, subst}
+use mathlib.Core.Logic.{_↔_}
+use mathlib.Core.Bool.{Bool, true, false, cond, true≢false}
+use mathlib.Core.List.{List}
+use Prim.Native.Nat.{ℕ}
+use native.Mathlib.Omega.{arith}
+use lib.ListN.{length}
+use Rattle.field.specs.Question.{Outcome, accepted, after, isWidth}
 use Rattle.field.specs.declared.Verdict.{Verdict}
 use Rattle.field.proofs.Widths.{field-of}
-use Rattle.code.specs.Word.{dataOf}
-use Rattle.code.specs.Call.{written, done}
-use Rattle.code.specs.Demands.{EncoderMakes, EncoderMade, ReadBack, NeverTwo, Accepts, RefusesSeven, RefusedUnchanged, SameRestored}
+use Rattle.code.specs.Word.{places, Codeword, encode, dataOf}
+use Rattle.code.specs.Call.{written, done, restoreWritten, zeroSyndromes, encodeOf, encodeWritten, testOf}
+use Rattle.code.specs.Demands.{Data, EncoderMakes, EncoderMade, ReadBack, TestsCodeword, NeverTwo, Accepts, RefusesSeven, RefusedUnchanged, FewChanged, SameRestored}
 use Rattle.code.proofs.Encoding.{encode-codeword, encode-data, codeword-data, codeword-encode}
-use Rattle.code.proofs.Passing.{read-passes}
+use Rattle.code.proofs.Passing.{encode-passes, read-passes, test-codeword, zero-syndromes}
 use Rattle.code.proofs.Restoring as Restoring
 
 -- ---- demand 2
 
+-- the encoder writes its word for the data
+encoded : (m : ℕ) → isWidth m ≡ true → (ds out : List ℕ) → Data m ds → length out ≡ places m
+    → (encodeOf m ds out ≡ accepted 0) × (encodeWritten m ds out ≡ encode m ds)
+encoded m h ds out D e =
+    let p = encode-passes m h ds out D e in
+    (ap done p, ap (λ (v : Verdict). written v out (encode m ds)) p)
+
 pub encoder-makes : EncoderMakes
-encoder-makes m h ds D = (encode-codeword (field-of m h) D, encode-data m ds)
+encoder-makes m h ds out D e =
+    let w = encoded m h ds out D e in
+    (w .0, subst (Codeword m) (sym (w .1)) (encode-codeword (field-of m h) D), ap dataOf (w .1) ∙ encode-data m ds)
 
 pub encoder-made : EncoderMade
-encoder-made m h w C = (codeword-data (field-of m h) C, codeword-encode (field-of m h) C)
+encoder-made m h w out C e =
+    let v = encoded m h (dataOf w) out (codeword-data (field-of m h) C) e in
+    (v .0, v .1 ∙ codeword-encode (field-of m h) C)
 
 pub read-back : ReadBack
 read-back m h w out C e =
     let p = read-passes m h w out C e in
     (ap done p, ap (λ (v : Verdict). written v out (dataOf w)) p)
+
+-- a test that answers b, which is true just where C holds
+judged : {C : Type 0} (b : Bool) (o : Outcome) → o ≡ accepted (cond b 1 0) → (b ≡ true) ↔ C
+    → ((o ≡ accepted 1) ↔ C) × ((o ≡ accepted 0) ↔ (C → ⊥))
+judged true o e i = (
+  (λ h. i .0 refl, λ c. e),
+  (λ h. absurd (let z : _≡_ {A = ℕ} 0 1 = cc in omega arith), λ n. absurd (n (i .0 refl))),
+)
+judged false o e i = (
+  (λ h. absurd (let z : _≡_ {A = ℕ} 0 1 = cc in omega arith), λ c. absurd (true≢false (sym (i .1 c)))),
+  (λ h c. true≢false (sym (i .1 c)), λ n. e),
+)
+
+pub tests-codeword : TestsCodeword
+tests-codeword m w p = judged (zeroSyndromes m w) (testOf m w)
+    (ap (λ (v : Verdict). after v (accepted (cond (zeroSyndromes m w) 1 0))) p)
+    (test-codeword m w p, λ C. zero-syndromes m w (C .zero-syndromes))
 
 -- ---- demand 3
 
@@ -35,6 +70,11 @@ refuses-seven = Restoring.refuses-seven
 
 pub refused-unchanged : RefusedUnchanged
 refused-unchanged = Restoring.refused-unchanged
+
+pub few-changed : FewChanged
+few-changed m w es k e =
+    let nearest = accepts m w es k (restoreWritten m w es) .0 (e, refl) .1 in
+    (omega (arith, nearest .count, nearest .near .few), omega arith)
 
 pub same-restored : SameRestored
 same-restored = Restoring.same-restored

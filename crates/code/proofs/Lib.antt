@@ -5,6 +5,7 @@ pub mod Algebra
 pub mod Sums
 pub mod Loops
 pub mod Questions
+pub mod Lengths
 pub mod Members
 -- the code: distance, encoder, columns
 pub mod Points

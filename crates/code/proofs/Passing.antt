@@ -15,7 +15,7 @@ use Rattle.field.specs.declared.Verdict.the-variants.{Passed}
 use Rattle.field.proofs.Ask.{ask-yes, ask-next}
 use Rattle.code.specs.Word.{checks, places, items, five, at, syndrome, Codeword}
 use Rattle.code.specs.Erasure.{distinct, symbolsFrom}
-use Rattle.code.specs.Call.{allZero, zeroSyndromes, encodeAsked, maxErasures, readAsked, restoreAsked}
+use Rattle.code.specs.Call.{allZero, zeroSyndromes, encodeAsked, testAsked, maxErasures, readAsked, restoreAsked}
 use Rattle.code.specs.Demands.{Data, Passes}
 use Rattle.code.proofs.Questions.{allBelow-means, allBelow-holds, allZero-below, symbols-means}
 use Rattle.code.proofs.Horner.{five-at}
@@ -36,7 +36,7 @@ module _ (m : ℕ) (w : List ℕ) where
   unfolding zeroSyndromes
   syndromes-zero = five-zero (syndrome m (at w))
 
-  zero-syndromes : ((k : ℕ) → k < checks → syndrome m (at w) k ≡ 0) → zeroSyndromes m w ≡ true
+  pub zero-syndromes : ((k : ℕ) → k < checks → syndrome m (at w) k ≡ 0) → zeroSyndromes m w ≡ true
   unfolding zeroSyndromes
   zero-syndromes = zero-five (syndrome m (at w))
 
@@ -60,6 +60,19 @@ read-passes m h w out C e = rw (
   allBelow-holds (order m) w (λ i l. C .symbols i (omega arith)),
   zero-syndromes m w (C .zero-syndromes),
 )
+
+-- a word that passes the test's questions and has zero syndromes is a codeword
+pub test-codeword : (m : ℕ) (w : List ℕ) → testAsked m w ≡ Passed → zeroSyndromes m w ≡ true → Codeword m w
+unfolding testAsked
+test-codeword m w p1 z =
+    let p2 = ask-next (isWidth m) Width _ p1 in
+    let p3 = ask-next (eqb (length w) (places m)) Length _ p2 in
+    let size : length w ≡ places m = eqb-true _ _ (ask-yes (eqb (length w) (places m)) Length _ p2) in
+    record {
+      size = size;
+      symbols = λ p h. allBelow-means (order m) w (ask-yes (allBelow (order m) w) Symbol Passed p3) p (omega arith);
+      zero-syndromes = syndromes-zero m w z;
+    }
 
 -- ---- the restorer's questions before question 8
 

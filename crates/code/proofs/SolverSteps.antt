@@ -10,7 +10,9 @@ use lib.Seq.{getD-set-same, getD-set-other}
 use Rattle.field.specs.Field.{inverse}
 use Rattle.field.specs.Question.{isWidth}
 use Rattle.field.specs.Answer.{Operand}
+use Rattle.field.specs.Bytes.{inverted}
 use Rattle.field.proofs.Widths.{field-of}
+use Rattle.field.proofs.Bytes.{inverted-inverse}
 use Rattle.code.specs.declared.solver.Solutions.the-variants.{None, One, Dependent}
 use Rattle.code.specs.Matrix.{rows, unknowns, columns, entry, Matrix, Operands, rowAdd, scale}
 use Rattle.code.specs.Matrix.{unitRow, Cleared, swapped, Pivot, columnOf, Means}
@@ -55,18 +57,18 @@ Clearing m a c p =
 
 -- k is the inverse of the pivot, and unit is k times its row
 module _ (m : ℕ) (a : List (List ℕ)) (c p : ℕ) (hc : c < columns) (hp : p < rows) (k : ℕ) (unit : List ℕ)
-    (ek : Operand m (entry a p c) → k ≡ inverse m (entry a p c)) (eu : Operand m k → Operands m (getD a p []) → unit ≡ scale m k (getD a p [])) where
+    (ek : k ≡ inverted m (entry a p c)) (eu : Operand m k → Operands m (getD a p []) → unit ≡ scale m k (getD a p [])) where
   module _ (w : isWidth m ≡ true) (M : Matrix m a) where
     operand : (i j : ℕ) → i < rows → j < columns → Operand m (entry a i j)
     operand i j h l = record { width = w; symbol = M .symbols i j h l }
 
-    inverted : k ≡ inverse m (entry a p c)
-    inverted = ek (operand p c hp hc)
+    k-is : k ≡ inverse m (entry a p c)
+    k-is = ek ∙ inverted-inverse (operand p c hp hc)
 
     unit-is : unit ≡ unitRow m a c p
     unit-is =
-        eu (record { width = w; symbol = rw inverted (field-of m w .inverse-lt _) }) (λ j l. operand p j hp l)
-        ∙ ap (λ (n : ℕ). scale m n (getD a p [])) inverted
+        eu (record { width = w; symbol = rw k-is (field-of m w .inverse-lt _) }) (λ j l. operand p j hp l)
+        ∙ ap (λ (n : ℕ). scale m n (getD a p [])) k-is
 
     unit-operands : Operands m unit
     unit-operands j l =

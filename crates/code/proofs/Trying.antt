@@ -1,29 +1,30 @@
--- Trials with extra places: a trial extended by a place is a trial, and searches with at most two extra places find every codeword that is
+-- Trials with extra places: a trial extended by a place is a trial, and a search with at most r extra places finds every codeword that is
 -- near. Assumes nothing.
 use mathlib.Core.Path.{_≡_, sym, ap, ap₂, _∙_, subst}
 use mathlib.Core.Bool.{Bool, true, false}
 use mathlib.Core.List.{List, [], _∷_, _++_, append-assoc}
-use Prim.Native.Nat.{ℕ, suc, _≤_, _<_}
-use native.Mathlib.Nat.{le-trans}
+use Prim.Native.Nat.{ℕ, zero, suc, _+_, _-_, _≤_, _<_}
+use native.Mathlib.Nat.{le-refl, le-trans}
 use native.Mathlib.Omega.{arith}
 use lib.Dec.{eqb}
-use lib.ListN.{length-append}
+use lib.ListN.{length, length-append}
 use Rattle.field.specs.Polynomial.{add}
 use Rattle.field.specs.Field.{order, product}
+use Rattle.field.specs.Question.{allBelow}
 use Rattle.field.proofs.Widths.{field-of}
 use Rattle.code.specs.declared.restorer.Trial.{Trial}
 use Rattle.code.specs.declared.restorer.Correction.{Correction}
 use Rattle.code.specs.Word.{five, places, at}
 use Rattle.code.specs.Place.{column}
-use Rattle.code.specs.Erasure.{member, maskedSyndrome}
+use Rattle.code.specs.Erasure.{member, distinct, maskedSyndrome}
 use Rattle.code.specs.Correction.{Agrees, Lent, tried, Ready, corrected, Corrects}
-use Rattle.code.specs.Correction.{NoneAt, NoneBeside, NoneBesideTwo, Searched, NoneWithin}
+use Rattle.code.specs.Correction.{NoneAt, NoneFrom, Searched, NoneWithin}
 use Rattle.code.proofs.Horner.{five-at, five-cong}
 use Rattle.code.proofs.Questions.{or-false-right, both-ways}
-use Rattle.code.proofs.Members.{distinct-head, distinct-tail, distinct-cons, below-cons}
+use Rattle.code.proofs.Members.{distinct-head, distinct-tail, distinct-cons, below-head, below-tail, below-cons}
 use Rattle.code.proofs.Columns.{masked-more}
 use Rattle.code.proofs.Filling.{masked-lt}
-use Rattle.code.proofs.Extra.{Beside, within-beside, wrong}
+use Rattle.code.proofs.Extra.{Falling, Beside, within-beside, wrong}
 
 -- ---- one more place
 
@@ -59,11 +60,6 @@ module _ (m : ℕ) (w : List ℕ) (t u : Trial) (p x : ℕ) (R : Ready m w t) (h
 pub searched-none : {m : ℕ} {w ls : List ℕ} {n : ℕ} {Far : Type 0} {c : Correction} → c .found ≡ false → Far → Searched m w ls n Far c
 searched-none f x = record { yes = λ g. absurd (both-ways g f); no = λ g. x }
 
--- nothing is to be found with a place that is tried already
-pub searched-listed : {m : ℕ} {w ls : List ℕ} {n : ℕ} {Far : Type 0} {c : Correction} (p : ℕ) (b : Bool) → b ≡ member p ls → b ≡ true
-    → c .found ≡ false → Searched m w ls n (member p ls ≡ false → Far) c
-searched-listed p b e t f = searched-none f (λ o. absurd (both-ways (sym e ∙ t) o))
-
 corrects-more : {m : ℕ} {w ls : List ℕ} {n r : ℕ} {c : Correction} → n ≤ r → Corrects m w ls n c → Corrects m w ls r c
 corrects-more h C =
     record { below = C .below; codeword = C .codeword; extra = C .extra; few = le-trans (C .few) h; agrees = C .agrees }
@@ -72,11 +68,6 @@ corrects-more h C =
 pub searched-found : {m : ℕ} {w ls : List ℕ} {n r : ℕ} {Far : Type 0} {c : Correction} → n ≤ r → c .found ≡ true → Corrects m w ls n c
     → Searched m w ls r Far c
 searched-found h f C = record { yes = λ g. corrects-more h C; no = λ g. absurd (both-ways f g) }
-
--- a search is the last of a wider one
-pub searched-last : {m : ℕ} {w ls : List ℕ} {n r : ℕ} {Far Other : Type 0} {c : Correction} → n ≤ r → (Far → Other) → Searched m w ls n Far c
-    → Searched m w ls r Other c
-searched-last h o S = record { yes = λ g. corrects-more h (S .yes g); no = λ g. o (S .no g) }
 
 -- a search with the trial u, which has the place p beside those of t, is one from t with one extra place more
 pub searched-place : (m : ℕ) (w : List ℕ) (t u : Trial) (n : ℕ) (Far : List ℕ → Type 0) (c : Correction) (p : ℕ)
@@ -97,18 +88,54 @@ searched-place m w t u n Far c p E S = record {
     T : Searched m w (p ∷ tried t) n (Far (p ∷ tried t)) c
     T = subst (λ (ls : List ℕ). Searched m w ls n (Far ls) c) (E .0) (S (E .1))
 
--- ---- no more than r places
+-- ---- no more than n extra places
 
--- a codeword within r places agrees outside the erasures and at most r extra places, the highest first
-pub none-within : (m : ℕ) (w es : List ℕ) → Lent m w es → (r : ℕ) → r ≤ 2
-    → NoneAt m w es → (1 ≤ r → NoneBeside m w es 0) → (2 ≤ r → NoneBesideTwo m w es) → NoneWithin m w es r
-none-within m w es W r h n0 n1 n2 c C few = go (wrong es w c (places m)) (within-beside W (record { codeword = C; few = few }))
-  where
-    go : (extra : List ℕ) → Beside m es w r c extra → ⊥
-    go [] B = n0 c C (B .agrees)
-    go (p ∷ []) B = n1 (B .few) p (omega arith) (B .falling .0) (distinct-head p es (B .lent .distinct)) c C (B .agrees)
-    go (p ∷ q ∷ []) B =
-        n2 (B .few) q (le-trans (B .falling .1 .0) (le-trans (omega arith) (B .falling .0)))
-        (distinct-head q es (distinct-tail p (q ∷ es) (B .lent .distinct)))
-        p (omega (arith, B .falling .1 .0)) (B .falling .0) (distinct-head p (q ∷ es) (B .lent .distinct)) c C (B .agrees)
-    go (p ∷ q ∷ s ∷ ps) B = omega (arith, B .few)
+module _ (m : ℕ) (w : List ℕ) where
+  -- nothing is there with no extra place, nor with one of those from `from` on and at most n - 1 more
+  pub none-from : (ls : List ℕ) (from n : ℕ) → 0 < n → NoneAt m w ls
+      → ((p : ℕ) → from ≤ p → p < places m → member p ls ≡ false → NoneFrom m w (p ∷ ls) (p + 1) (n - 1)) → NoneFrom m w ls from n
+  unfolding NoneFrom
+  none-from ls from zero h N f = absurd (omega arith)
+  none-from ls from (suc n) h N f =
+      let e : suc n - 1 ≡ n = omega arith in
+      (N, λ p a b o. subst (NoneFrom m w (p ∷ ls) (p + 1)) e (f p a b o))
+
+  pub none-exact : (ls : List ℕ) (from n : ℕ) → n ≡ 0 → NoneAt m w ls → NoneFrom m w ls from n
+  unfolding NoneFrom
+  none-exact ls from zero e N = N
+  none-exact ls from (suc n) e N = absurd (omega arith)
+
+  none-first : (ls : List ℕ) (from n : ℕ) → NoneFrom m w ls from n → NoneAt m w ls
+  unfolding NoneFrom
+  none-first ls from zero N = N
+  none-first ls from (suc n) N = N .0
+
+  none-later : (ls : List ℕ) (from to n : ℕ) → from ≤ to → NoneFrom m w ls from n → NoneFrom m w ls to n
+  unfolding NoneFrom
+  none-later ls from to zero h N = N
+  none-later ls from to (suc n) h N = (N .0, λ p l. N .1 p (le-trans h l))
+
+  -- the extra places are named from the lowest on
+  none-beside : (es extra : List ℕ) (top n : ℕ) → Falling top extra → distinct (extra ++ es) ≡ true → allBelow (places m) (extra ++ es) ≡ true
+      → NoneFrom m w es 0 (length extra + n) → NoneFrom m w (extra ++ es) top n
+  unfolding NoneFrom
+  none-beside es [] top n f d b N =
+      let e : 0 + n ≡ n = omega arith in
+      none-later es 0 top n (omega arith) (subst (NoneFrom m w es 0) e N)
+  none-beside es (p ∷ ps) top n f d b N =
+      let e : length (p ∷ ps) + n ≡ length ps + suc n = omega arith in
+      let M = none-beside es ps p (suc n) (f .1) (distinct-tail p (ps ++ es) d) (below-tail p (ps ++ es) (places m) b)
+      (subst (NoneFrom m w es 0) e N) in
+      none-later (p ∷ (ps ++ es)) (p + 1) top n (omega (arith, f .0))
+      (M .1 p (le-refl p) (below-head p (ps ++ es) (places m) b) (distinct-head p (ps ++ es) d))
+
+  -- a codeword within r places agrees outside the erasures and at most r extra places
+  pub none-within : (es : List ℕ) → Lent m w es → (r : ℕ) → NoneFrom m w es 0 r → NoneWithin m w es r
+  none-within es W r N c C few =
+      let extra = wrong es w c (places m) in
+      let B = within-beside W (record { codeword = C; few = few }) in
+      let e : r ≡ length extra + (r - length extra) = omega (arith, B .few) in
+      none-first (extra ++ es) (places m) (r - length extra)
+      (none-beside es extra (places m) (r - length extra) (B .falling) (B .lent .distinct) (B .lent .below)
+      (subst (NoneFrom m w es 0) e N))
+      c C (B .agrees)

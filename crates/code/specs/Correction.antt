@@ -3,7 +3,7 @@
 use mathlib.Core.Path.{_≡_}
 use mathlib.Core.Bool.{true, false, cond}
 use mathlib.Core.List.{List, [], _∷_, _++_}
-use Prim.Native.Nat.{ℕ, _+_, _-_, _≤_, _<_}
+use Prim.Native.Nat.{ℕ, zero, suc, _+_, _-_, _≤_, _<_}
 use lib.Dec.{eqb, leb}
 use lib.ListN.{length, getD, set, take}
 use Rattle.field.specs.Field.{order}
@@ -77,13 +77,11 @@ pub record Corrects (m : ℕ) (w ls : List ℕ) (n : ℕ) (c : Correction) : Typ
 abbrev pub NoneAt : ℕ → List ℕ → List ℕ → Type 0
 NoneAt m w ls = (c : List ℕ) → Codeword m c → Agrees m ls w c → ⊥
 
--- nor outside them and one extra place, the place `from` or a later one
-abbrev pub NoneBeside : ℕ → List ℕ → List ℕ → ℕ → Type 0
-NoneBeside m w ls from = (p : ℕ) → from ≤ p → p < places m → member p ls ≡ false → NoneAt m w (p ∷ ls)
-
--- nor outside them and two extra places
-abbrev pub NoneBesideTwo : ℕ → List ℕ → List ℕ → Type 0
-NoneBesideTwo m w ls = (p : ℕ) → p < places m → member p ls ≡ false → NoneBeside m w (p ∷ ls) (p + 1)
+-- nor outside them and at most n extra places, in rising order, the first of them the place `from` or a later one
+unfoldable pub NoneFrom : ℕ → List ℕ → List ℕ → ℕ → ℕ → Type 0
+NoneFrom m w ls from zero = NoneAt m w ls
+NoneFrom m w ls from (suc n) =
+    NoneAt m w ls × ((p : ℕ) → from ≤ p → p < places m → member p ls ≡ false → NoneFrom m w (p ∷ ls) (p + 1) n)
 
 -- a search for a correction with at most n extra places: one is found, or Far holds
 pub record Searched (m : ℕ) (w ls : List ℕ) (n : ℕ) (Far : Type 0) (c : Correction) : Type 0 where

@@ -10,10 +10,10 @@ use lib.ListN.{length}
 use Rattle.field.specs.Field.{order}
 use Rattle.field.specs.Question.{accepted, refused, isWidth}
 use Rattle.field.specs.declared.Verdict.the-variants.{Passed}
-use Rattle.code.specs.Word.{items, at, Codeword, encode, dataOf}
+use Rattle.code.specs.Word.{places, items, at, Codeword, dataOf}
 use Rattle.code.specs.Erasure.{member, changes}
 use Rattle.code.specs.Near.{radius}
-use Rattle.code.specs.Call.{readOf, readWritten, restoreAsked, restoreOf, restoreWritten}
+use Rattle.code.specs.Call.{encodeOf, encodeWritten, testAsked, testOf, readOf, readWritten, restoreAsked, restoreOf, restoreWritten}
 
 -- ---- demand 2
 
@@ -24,17 +24,27 @@ pub record Data (m : ℕ) (ds : List ℕ) : Type 0 where
 
 -- the encoder makes, from any data symbols, the word that holds them and has all five syndromes zero
 abbrev pub EncoderMakes : Type 0
-EncoderMakes = (m : ℕ) → isWidth m ≡ true → (ds : List ℕ) → Data m ds → Codeword m (encode m ds) × (dataOf (encode m ds) ≡ ds)
+EncoderMakes =
+    (m : ℕ) → isWidth m ≡ true → (ds out : List ℕ) → Data m ds → length out ≡ places m
+    → (encodeOf m ds out ≡ accepted 0) × Codeword m (encodeWritten m ds out) × (dataOf (encodeWritten m ds out) ≡ ds)
 
 -- every word with five zero syndromes is the one that the encoder makes from its own data symbols
 abbrev pub EncoderMade : Type 0
-EncoderMade = (m : ℕ) → isWidth m ≡ true → (w : List ℕ) → Codeword m w → Data m (dataOf w) × (encode m (dataOf w) ≡ w)
+EncoderMade =
+    (m : ℕ) → isWidth m ≡ true → (w out : List ℕ) → Codeword m w → length out ≡ places m
+    → (encodeOf m (dataOf w) out ≡ accepted 0) × (encodeWritten m (dataOf w) out ≡ w)
 
 -- and that data is read back from it
 abbrev pub ReadBack : Type 0
 ReadBack =
     (m : ℕ) → isWidth m ≡ true → (w out : List ℕ) → Codeword m w → length out ≡ items m
     → (readOf m w out ≡ accepted 0) × (readWritten m w out ≡ dataOf w)
+
+-- of a word that passes its questions the codeword test says yes exactly when it is a codeword, and else no
+abbrev pub TestsCodeword : Type 0
+TestsCodeword =
+    (m : ℕ) (w : List ℕ) → testAsked m w ≡ Passed
+    → ((testOf m w ≡ accepted 1) ↔ Codeword m w) × ((testOf m w ≡ accepted 0) ↔ (Codeword m w → ⊥))
 
 -- ---- demand 3
 
@@ -71,6 +81,11 @@ RefusesSeven =
 -- what is refused stays as it was
 abbrev pub RefusedUnchanged : Type 0
 RefusedUnchanged = (m : ℕ) (w es : List ℕ) (n : ℕ) → restoreOf m w es ≡ refused n → restoreWritten m w es ≡ w
+
+-- an accepted word has at most r changed places, and r is at most two
+abbrev pub FewChanged : Type 0
+FewChanged =
+    (m : ℕ) (w es : List ℕ) (k : ℕ) → restoreOf m w es ≡ accepted k → (k ≤ radius m (length es)) × (radius m (length es) ≤ 2)
 
 -- how often the number stands in the list
 unfoldable pub occurs : ℕ → List ℕ → ℕ

@@ -1,5 +1,6 @@
 -- The codewords near a word, and its restoration. The lists here are far too long to be computed; they say what is meant, and the proofs
--- reason about them. Assumes nothing.
+-- reason about them. Nobody has to believe the lists: `NeverTwo`, `Accepts`, `RefusesSeven` and `RefusedUnchanged` of Demands.antt say what
+-- the restorer does, on every input, without them. Assumes nothing.
 use mathlib.Core.Bool.{Bool, cond}
 use mathlib.Core.List.{List, [], _∷_, _++_, map}
 use Prim.Native.Nat.{ℕ, zero, suc, _-_, _/_}

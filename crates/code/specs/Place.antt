@@ -12,6 +12,10 @@ use Rattle.code.specs.Word.{checks}
 abbrev pub exponentOf : Place → Exponent
 exponentOf p = record { 0 = p .0 - checks }
 
+-- k times an exponent
+abbrev pub multipleOf : ℕ → Exponent → Exponent
+multipleOf k e = record { 0 = k * e .0 }
+
 -- row k of the column at place p: a unit column at a check place, α^(k·i) at the place 5 + i
 unfoldable pub column : ℕ → ℕ → ℕ → ℕ
 column m p k = cond (ltb p checks) (cond (eqb p k) 1 0) (power m α (k * (p - checks)))

@@ -10,17 +10,17 @@ ghost use Rattle.field.specs.Question.{ask, isWidth, allBelow};
 ghost use Rattle.field.specs.Answer.{orderOf};
 ghost use Rattle.field.specs.declared.Question.the-variants.{Symbol};
 ghost use Rattle.field.specs.declared.Verdict.the-variants.{Passed};
-ghost use Rattle.code.specs.Word.{checks, places, longest, items, encode as encodeM};
+ghost use Rattle.code.specs.Word.{checks, places, longest, wordLength, items, encode as encodeM};
 ghost use Rattle.code.specs.Call.{zeroSyndromes, wordAsked, dataAsked, Encodes, testAsked, testOf, membership, readAsked, Reads};
 ghost use Rattle.code.specs.Call.{erasuresAsked, restoreAsked, Restores};
 ghost use Rattle.code.specs.Demands.{Passes};
 
-pub mod place;
+mod place;
 pub mod question;
-pub mod restorer;
+mod restorer;
 pub mod slice;
-pub mod solver;
-pub mod syndrome;
+mod solver;
+mod syndrome;
 
 use field::Question;
 use field::Verdict;
@@ -29,8 +29,8 @@ use question::all_different;
 use question::all_zero;
 use question::below;
 use question::symbols_below;
-use restorer::find;
 use restorer::is_clean;
+use restorer::search;
 use restorer::started;
 use restorer::write;
 use slice::copy;
@@ -42,6 +42,14 @@ pub enum Membership {
     Codeword,
     Other,
     Refused(Question),
+}
+
+// The length of a word of the width, or 0 where the field has no such width.
+pub fn word_length(width: u8) -> usize
+    ensures { λ r. ⌜ r ≡ wordLength width ⌝ }
+{
+    let q = order_of(width);
+    if q == 0 { 0 } else { q as usize + 4 }
 }
 
 // Questions 1 and 2, put to a word of n bytes.
@@ -125,8 +133,8 @@ fn ask_test(width: u8, word: &[u8]) -> Verdict
     }
 }
 
-// Are the five syndromes of a word zero? No entry point: it is right for symbols of a width of the field.
-pub fn zero_syndromes(width: u8, word: &[u8]) -> bool
+// Are the five syndromes of a word zero? It is right for symbols of a width of the field.
+fn zero_syndromes(width: u8, word: &[u8]) -> bool
     requires { ⌜ checks ≤ length (now word) ⌝ }
     ensures { λ r.
         ⌜
@@ -236,8 +244,8 @@ fn correct(width: u8, word: &mut [u8], erasures: &[u8]) -> Repair
     if is_clean(t) {
         return Repair::Restored(0);
     }
-    let reach = (4 - erasures.len()) / 2;
-    let c = find(width, word, t, reach);
+    let radius = (4 - erasures.len()) / 2;
+    let c = search(width, word, t, 0, radius);
     let found = c.found;
     if found {
         Repair::Restored(write(word, erasures, c))

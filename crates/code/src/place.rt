@@ -1,9 +1,9 @@
 // A place of a word, and the one conversion from places to exponents of α.
 ghost use mathlib.Core.Path.{_≡_};
-ghost use Prim.Native.Nat.{_≤_};
+ghost use Prim.Native.Nat.{_*_, _≤_, _<_};
 ghost use mathlib.Core.Bool.{true};
 ghost use Rattle.field.specs.Question.{isWidth};
-ghost use Rattle.code.specs.Place.{exponentOf, column as columnM};
+ghost use Rattle.code.specs.Place.{exponentOf, multipleOf, column as columnM};
 use field::Exponent;
 use field::arithmetic::raise;
 
@@ -19,6 +19,15 @@ pub fn exponent_of(p: Place) -> Exponent
     Exponent((i - 5) as u16)
 }
 
+// The exponent k times e.
+fn multiple(k: u8, e: Exponent) -> Exponent
+    requires { ⌜ k * e .0 < 65536 ⌝ }
+    ensures { λ r. ⌜ r ≡ multipleOf k e ⌝ }
+{
+    let i = e.0;
+    Exponent(k as u16 * i)
+}
+
 // Row k of the column at place p.
 pub fn column(width: u8, p: Place, k: u8) -> u8
     ensures { λ r. ⌜ (isWidth width ≡ true → r ≡ columnM width (p .0) k) ⌝ }
@@ -30,6 +39,5 @@ pub fn column(width: u8, p: Place, k: u8) -> u8
         }
         return 0;
     }
-    let i = exponent_of(p).0;
-    raise(width, 2, k as u16 * i)
+    raise(width, 2, multiple(k, exponent_of(p)))
 }

@@ -1,4 +1,4 @@
-// Questions that go over a list of bytes.
+// Questions that go over a list of bytes. `below` and `all_zero` serve the crates above too.
 ghost use mathlib.Core.Path.{_≡_};
 ghost use Rattle.field.specs.Question.{allBelow};
 ghost use Rattle.code.specs.Call.{allZero};
@@ -29,7 +29,7 @@ pub fn all_zero(xs: &[u8]) -> bool
 }
 
 // Is a one of the numbers?
-pub fn contains(xs: &[u8], a: u8) -> bool
+pub(crate) fn contains(xs: &[u8], a: u8) -> bool
     ensures { λ r. ⌜ r ≡ member a (now (xs .entry)) ⌝ }
 {
     let mut i = 0;
@@ -43,7 +43,7 @@ pub fn contains(xs: &[u8], a: u8) -> bool
 }
 
 // Are the numbers all different?
-pub fn all_different(xs: &[u8]) -> bool
+pub(crate) fn all_different(xs: &[u8]) -> bool
     ensures { λ r. ⌜ r ≡ distinct (now (xs .entry)) ⌝ }
 {
     let mut i = 0;
@@ -59,7 +59,7 @@ pub fn all_different(xs: &[u8]) -> bool
 }
 
 // Is every symbol outside the erasures below q?
-pub fn symbols_below(word: &[u8], erasures: &[u8], q: u8) -> bool
+pub(crate) fn symbols_below(word: &[u8], erasures: &[u8], q: u8) -> bool
     requires { ⌜ length (now word) ≤ 256 ⌝ }
     ensures { λ r. ⌜ r ≡ symbolsFrom q (now (erasures .entry)) 0 (now (word .entry)) ⌝ }
 {

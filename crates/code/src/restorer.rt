@@ -1,4 +1,4 @@
-// The restorer by trials: the erasures, and one or two extra places, are taken as erased, and the linear system of their columns is
+// The restorer by trials: the erasures, and a few extra places, are taken as erased, and the linear system of their columns is
 // solved. These functions are no entry points.
 ghost use mathlib.Core.Path.{_≡_};
 ghost use mathlib.Core.Bool.{true, false, cond};
@@ -14,20 +14,21 @@ ghost use Rattle.code.specs.Erasure.{member, differ, changesBelow, maske
 ghost use Rattle.code.specs.Call.{allZero};
 ghost use Rattle.code.specs.Matrix.{unknowns};
 ghost use Rattle.code.specs.Correction.{fill, Lent, tried, Ready, systemEntry, SystemRow, SystemMatrix, corrected};
-ghost use Rattle.code.specs.Correction.{NoneAt, NoneBeside, NoneBesideTwo, Searched, NoneWithin, Workable};
+ghost use Rattle.code.specs.Correction.{NoneAt, NoneFrom, Searched, Workable};
 use crate::place::Place;
 use crate::place::column;
 use crate::question::all_zero;
 use crate::question::contains;
 use crate::slice::copy;
 use crate::solver::Solutions;
+use crate::solver::UNKNOWNS;
 use crate::solver::solve;
 use crate::syndrome::syndromes;
 use field::arithmetic::multiply;
 
 // Places taken as erased, the first `count` of them, and the five syndromes of the other places.
 pub struct Trial {
-    pub places: [u8; 4],
+    pub places: [u8; UNKNOWNS],
     pub count: usize,
     pub sums: [u8; 5],
 }
@@ -36,12 +37,12 @@ pub struct Trial {
 pub struct Correction {
     pub found: bool,
     pub count: usize,
-    pub places: [u8; 4],
-    pub values: [u8; 4],
+    pub places: [u8; UNKNOWNS],
+    pub values: [u8; UNKNOWNS],
 }
 
 // The entry in row k and column j of the system of a trial.
-fn entry_of(width: u8, places: [u8; 4], count: usize, sum: u8, k: u8, j: usize) -> u8
+fn entry_of(width: u8, places: [u8; UNKNOWNS], count: usize, sum: u8, k: u8, j: usize) -> u8
     requires { ⌜ count ≤ unknowns ⌝ }
     ensures { λ r. ⌜ (isWidth width ≡ true → r ≡ systemEntry width (take count places) sum k j) ⌝ }
 {
@@ -55,7 +56,7 @@ fn entry_of(width: u8, places: [u8; 4], count: usize, sum: u8, k: u8, j: usize) 
 }
 
 // Row k of the system of a trial.
-fn row_of(width: u8, places: [u8; 4], count: usize, sum: u8, k: u8) -> [u8; 5]
+fn row_of(width: u8, places: [u8; UNKNOWNS], count: usize, sum: u8, k: u8) -> [u8; 5]
     requires { ⌜ count ≤ unknowns ⌝ }
     ensures { λ r. ⌜ SystemRow width (take count places) sum k r ⌝ }
 {
@@ -69,7 +70,7 @@ fn row_of(width: u8, places: [u8; 4], count: usize, sum: u8, k: u8) -> [u8; 5]
 }
 
 // The system of a trial: the columns at its places, and its syndromes on the right.
-fn matrix_of(width: u8, places: [u8; 4], count: usize, sums: [u8; 5]) -> [[u8; 5]; 5]
+fn matrix_of(width: u8, places: [u8; UNKNOWNS], count: usize, sums: [u8; 5]) -> [[u8; 5]; 5]
     requires { ⌜ count ≤ unknowns ⌝ }
     ensures { λ r. ⌜ SystemMatrix width places count sums r ⌝ }
 {
@@ -114,24 +115,13 @@ pub fn attempt(width: u8, t: Trial) -> Correction
     }
 }
 
-// No correction.
-fn nothing() -> Correction
-    ensures { λ r. ⌜ (r .count ≤ unknowns) × (r .found ≡ false) ⌝ }
-{
-    Correction {
-        found: false,
-        count: 0,
-        places: [0; 4],
-        values: [0; 4],
-    }
-}
-
 // The first `count` places with p in front.
-fn prepended(places: [u8; 4], count: usize, p: u8) -> [u8; 4]
+fn prepended(places: [u8; UNKNOWNS], count: usize, p: Place) -> [u8; UNKNOWNS]
     requires { ⌜ count < unknowns ⌝ }
-    ensures { λ r. ⌜ take (count + 1) r ≡ p ∷ take count places ⌝ }
+    ensures { λ r. ⌜ take (count + 1) r ≡ p .0 ∷ take count places ⌝ }
 {
-    let mut out = [p; 4];
+    let first = p.0;
+    let mut out = [first; UNKNOWNS];
     let mut j = 0;
     while j < count {
         out[j + 1] = places[j];
@@ -141,19 +131,19 @@ fn prepended(places: [u8; 4], count: usize, p: u8) -> [u8; 4]
 }
 
 // Row k of the column at place p, times x.
-fn column_times(width: u8, p: u8, k: u8, x: u8) -> u8
-    ensures { λ r. ⌜ (isWidth width ≡ true → x < order width → r ≡ product width (columnM width p k) x) ⌝ }
+fn column_times(width: u8, p: Place, k: u8, x: u8) -> u8
+    ensures { λ r. ⌜ (isWidth width ≡ true → x < order width → r ≡ product width (columnM width (p .0) k) x) ⌝ }
 {
-    multiply(width, column(width, Place(p), k), x)
+    multiply(width, column(width, p, k), x)
 }
 
 // The syndromes without the symbol x at place p.
-fn masked(width: u8, sums: [u8; 5], p: u8, x: u8) -> [u8; 5]
+fn masked(width: u8, sums: [u8; 5], p: Place, x: u8) -> [u8; 5]
     ensures { λ r.
         ⌜
         (
         isWidth width ≡ true → x < order width
-        → r ≡ five (λ k. add (at sums k) (product width (columnM width p k) x))
+        → r ≡ five (λ k. add (at sums k) (product width (columnM width (p .0) k) x))
         )
         ⌝ }
 {
@@ -172,12 +162,12 @@ fn masked(width: u8, sums: [u8; 5], p: u8, x: u8) -> [u8; 5]
 }
 
 // The trial with one more place p, where the word holds x.
-fn extended(width: u8, t: Trial, p: u8, x: u8) -> Trial
+fn extended(width: u8, t: Trial, p: Place, x: u8) -> Trial
     requires { ⌜ t .count < unknowns ⌝ }
     ensures { λ r.
         ⌜
         (r .count ≡ t .count + 1)
-        × ((w : List ℕ) → Ready width w t → p < places width → member p (tried t) ≡ false → x ≡ at w p → (tried r ≡ p ∷ tried t) × Ready width w r)
+        × ((w : List ℕ) → Ready width w t → p .0 < places width → member (p .0) (tried t) ≡ false → x ≡ at w (p .0) → (tried r ≡ p .0 ∷ tried t) × Ready width w r)
         ⌝ }
 {
     let places = t.places;
@@ -191,104 +181,21 @@ fn extended(width: u8, t: Trial, p: u8, x: u8) -> Trial
 }
 
 // Is p one of the first `count` places?
-fn listed(places: [u8; 4], count: usize, p: u8) -> bool
+fn listed(places: [u8; UNKNOWNS], count: usize, p: Place) -> bool
     requires { ⌜ count ≤ unknowns ⌝ }
-    ensures { λ r. ⌜ r ≡ member p (take count places) ⌝ }
+    ensures { λ r. ⌜ r ≡ member (p .0) (take count places) ⌝ }
 {
-    contains(&places[..count], p)
+    contains(&places[..count], p.0)
 }
 
-// The trial with the extra place p.
-fn try_place(width: u8, word: &[u8], t: Trial, p: usize) -> Correction
-    requires { ⌜ (t .count < unknowns) × (p < length (now word)) × (length (now word) ≤ 256) ⌝ }
+// A correction with at most `left` extra places in rising order, the first of them the place `from` or a later one.
+pub fn search(width: u8, word: &[u8], t: Trial, from: usize, left: usize) -> Correction
+    requires { ⌜ (t .count + left ≤ unknowns) × (length (now word) ≤ 256) ⌝ }
     ensures { λ r.
         ⌜
         (r .count ≤ unknowns)
         × (Ready width (now (word .entry)) t
-        → Searched width (now (word .entry)) (tried t) 1 (member p (tried t) ≡ false → NoneAt width (now (word .entry)) (p ∷ tried t)) r)
-        ⌝ }
-{
-    let q = p as u8;
-    let places = t.places;
-    let count = t.count;
-    if listed(places, count, q) {
-        return nothing();
-    }
-    attempt(width, extended(width, t, q, word[p]))
-}
-
-// A correction with one extra place, the place `from` or a later one.
-pub fn try_one(width: u8, word: &[u8], t: Trial, from: usize) -> Correction
-    requires { ⌜ (t .count < unknowns) × (length (now word) ≤ 256) ⌝ }
-    ensures { λ r.
-        ⌜
-        (r .count ≤ unknowns)
-        × (Ready width (now (word .entry)) t
-        → Searched width (now (word .entry)) (tried t) 1 (NoneBeside width (now (word .entry)) (tried t) from) r)
-        ⌝ }
-{
-    let mut p = from;
-    while p < word.len() {
-        let c = try_place(width, word, t, p);
-        let found = c.found;
-        if found {
-            return c;
-        }
-        p += 1;
-    }
-    nothing()
-}
-
-// The trial with the extra place p and a later one.
-fn try_after(width: u8, word: &[u8], t: Trial, p: usize) -> Correction
-    requires { ⌜ (t .count + 1 < unknowns) × (p < length (now word)) × (length (now word) ≤ 256) ⌝ }
-    ensures { λ r.
-        ⌜
-        (r .count ≤ unknowns)
-        × (Ready width (now (word .entry)) t
-        → Searched width (now (word .entry)) (tried t) 2 (member p (tried t) ≡ false → NoneBeside width (now (word .entry)) (p ∷ tried t) (p + 1)) r)
-        ⌝ }
-{
-    let q = p as u8;
-    let places = t.places;
-    let count = t.count;
-    if listed(places, count, q) {
-        return nothing();
-    }
-    let u = extended(width, t, q, word[p]);
-    try_one(width, word, u, p + 1)
-}
-
-// A correction with two extra places.
-pub fn try_two(width: u8, word: &[u8], t: Trial) -> Correction
-    requires { ⌜ (t .count + 1 < unknowns) × (length (now word) ≤ 256) ⌝ }
-    ensures { λ r.
-        ⌜
-        (r .count ≤ unknowns)
-        × (Ready width (now (word .entry)) t
-        → Searched width (now (word .entry)) (tried t) 2 (NoneBesideTwo width (now (word .entry)) (tried t)) r)
-        ⌝ }
-{
-    let mut p = 0;
-    while p < word.len() {
-        let c = try_after(width, word, t, p);
-        let found = c.found;
-        if found {
-            return c;
-        }
-        p += 1;
-    }
-    nothing()
-}
-
-// A correction with at most `reach` extra places.
-pub fn find(width: u8, word: &[u8], t: Trial, reach: usize) -> Correction
-    requires { ⌜ (t .count + reach ≤ unknowns) × (reach ≤ 2) × (length (now word) ≤ 256) ⌝ }
-    ensures { λ r.
-        ⌜
-        (r .count ≤ unknowns)
-        × (Ready width (now (word .entry)) t
-        → Searched width (now (word .entry)) (tried t) reach (NoneWithin width (now (word .entry)) (tried t) reach) r)
+        → Searched width (now (word .entry)) (tried t) left (NoneFrom width (now (word .entry)) (tried t) from left) r)
         ⌝ }
 {
     let c = attempt(width, t);
@@ -296,18 +203,25 @@ pub fn find(width: u8, word: &[u8], t: Trial, reach: usize) -> Correction
     if exact {
         return c;
     }
-    if reach == 0 {
-        return nothing();
+    if left == 0 {
+        return c;
     }
-    let d = try_one(width, word, t, 0);
-    let beside = d.found;
-    if beside {
-        return d;
+    let places = t.places;
+    let count = t.count;
+    let mut p = from;
+    while p < word.len() {
+        let place = Place(p as u8);
+        if !listed(places, count, place) {
+            let u = extended(width, t, place, word[p]);
+            let d = search(width, word, u, p + 1, left - 1);
+            let found = d.found;
+            if found {
+                return d;
+            }
+        }
+        p += 1;
     }
-    if reach == 1 {
-        return nothing();
-    }
-    try_two(width, word, t)
+    c
 }
 
 // The word, copied to the front of an array that has room for the longest.
@@ -322,7 +236,13 @@ fn copied(word: &[u8]) -> [u8; 132]
 }
 
 // The values put in at the first `count` places of the row, whose first n bytes are the word.
-fn filled(row: [u8; 132], n: usize, places: [u8; 4], count: usize, values: [u8; 4]) -> [u8; 132]
+fn filled(
+    row: [u8; 132],
+    n: usize,
+    places: [u8; UNKNOWNS],
+    count: usize,
+    values: [u8; UNKNOWNS],
+) -> [u8; 132]
     requires { ⌜ (count ≤ unknowns) × (n ≤ longest) × (allBelow n (take count places) ≡ true) ⌝ }
     ensures { λ r. ⌜ take n r ≡ fill (take n row) (take count places) (take count values) ⌝ }
 {
@@ -337,7 +257,7 @@ fn filled(row: [u8; 132], n: usize, places: [u8; 4], count: usize, values: [u8; 
 }
 
 // The five syndromes of the word without the symbols at the first `count` places: zeros take their place.
-fn masked_sums(width: u8, word: &[u8], places: [u8; 4], count: usize) -> [u8; 5]
+fn masked_sums(width: u8, word: &[u8], places: [u8; UNKNOWNS], count: usize) -> [u8; 5]
     requires { ⌜
         (count ≤ unknowns) × (checks ≤ length (now word)) × (length (now word) ≤ longest)
         × (allBelow (length (now word)) (take count places) ≡ true)
@@ -351,16 +271,16 @@ fn masked_sums(width: u8, word: &[u8], places: [u8; 4], count: usize) -> [u8; 5]
         ⌝ }
 {
     let n = word.len();
-    let row = filled(copied(word), n, places, count, [0; 4]);
+    let row = filled(copied(word), n, places, count, [0; UNKNOWNS]);
     syndromes(width, &row[..n])
 }
 
 // The erasures, copied to the front of an array that has room for four.
-fn row_of_places(erasures: &[u8]) -> [u8; 4]
+fn row_of_places(erasures: &[u8]) -> [u8; UNKNOWNS]
     requires { ⌜ length (now erasures) ≤ unknowns ⌝ }
     ensures { λ r. ⌜ take (length (now (erasures .entry))) r ≡ now (erasures .entry) ⌝ }
 {
-    let mut out = [0u8; 4];
+    let mut out = [0u8; UNKNOWNS];
     let n = erasures.len();
     copy(&mut out[..n], erasures);
     out
@@ -407,13 +327,13 @@ pub fn is_clean(t: Trial) -> bool
 }
 
 // 1 where the symbols at place p differ and p is not erased, else 0.
-fn change_at(erasures: &[u8], p: u8, x: u8, y: u8) -> u8
-    ensures { λ r. ⌜ r ≡ cond (member p (now (erasures .entry))) 0 (differ x y) ⌝ }
+fn change_at(erasures: &[u8], p: Place, x: u8, y: u8) -> u8
+    ensures { λ r. ⌜ r ≡ cond (member (p .0) (now (erasures .entry))) 0 (differ x y) ⌝ }
 {
     if x == y {
         return 0;
     }
-    if contains(erasures, p) {
+    if contains(erasures, p.0) {
         return 0;
     }
     1
@@ -427,7 +347,7 @@ pub fn count_changes(word: &[u8], other: &[u8], erasures: &[u8]) -> u8
     let mut k: u8 = 0;
     let mut p = 0;
     while p < word.len() {
-        k += change_at(erasures, p as u8, word[p], other[p]);
+        k += change_at(erasures, Place(p as u8), word[p], other[p]);
         p += 1;
     }
     k

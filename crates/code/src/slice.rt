@@ -1,4 +1,5 @@
-// Copying between lent slices of the same length. No entry point: the calls above come here with lengths that agree.
+// Copying between lent slices of the same length: a helper that this crate publishes for those above it. No entry point: its callers come
+// here with lengths that agree.
 ghost use mathlib.Core.Path.{_≡_};
 ghost use lib.ListN.{length};
 

@@ -13,7 +13,7 @@ use field::arithmetic::multiply;
 // The shape of a matrix: a row for each equation, with the right-hand side in column 0 and then a column for each unknown.
 const ROWS: usize = 5;
 
-const UNKNOWNS: usize = 4;
+pub const UNKNOWNS: usize = 4;
 
 const COLUMNS: usize = UNKNOWNS + 1;
 

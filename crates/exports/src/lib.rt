@@ -13,6 +13,7 @@ use card::records::restore_record;
 use code::Membership;
 use code::Repair;
 use field::Answer;
+use field::Exponent;
 use field::Verdict;
 
 fn wide(x: u8) -> u32
@@ -80,7 +81,7 @@ pub extern "C" fn xrs_product(width: u8, a: u8, b: u8) -> u32
 pub extern "C" fn xrs_power(width: u8, a: u8, e: u16) -> u32
     ensures { λ r. ⌜ r ≡ packed (powerOf width a e) ⌝ }
 {
-    pack(field::power(width, a, e))
+    pack(field::power(width, a, Exponent(e)))
 }
 
 #[no_mangle]

@@ -1,10 +1,13 @@
+-- The laws that the crates above use.
 pub mod Check
-pub mod Polynomial
-pub mod Ring
-pub mod Powers
 pub mod Laws
 pub mod Widths
-pub mod PowerTable
-pub mod Shifts
-pub mod Steps
 pub mod Ask
+pub mod Bytes
+-- the way to them, and the lemmas of the functions' proofs
+mod Polynomial
+mod Ring
+mod Powers
+mod PowerTable
+mod Shifts
+mod Steps

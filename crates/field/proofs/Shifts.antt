@@ -8,7 +8,6 @@ use lib.Dec.{T, eqb, leb, eqb→eq, eqb-refl, le→leb, T-not}
 use Rattle.field.specs.Polynomial.{add}
 use Rattle.field.specs.Field.{order, polynomial, product, power, α, arithmetic}
 use Rattle.field.specs.Question.{isWidth}
-use Rattle.field.specs.Answer.{Operand}
 use Rattle.field.proofs.Widths.{Width, Width.three, Width.five, Width.seven, width-of, field-of, doubles, doubles-power}
 use Rattle.field.proofs.Check.{or-right, and-both, all, all-at}
 
@@ -63,9 +62,3 @@ module _ (m : ℕ) (w : isWidth m ≡ true) where
       let F = field-of m w in
       es ∙ ap (product m (power m α (k - 2))) er ∙ sym (F .product-assoc (power m α (k - 2)) (power m α 2) a)
       ∙ ap (λ (x : ℕ). product m x a) (sym (F .power-add α (k - 2) 2) ∙ ap (power m α) (omega arith))
-
--- what is known at a width, where the width has its value
-pub shift-at-width : (m n a k r : ℕ) → m ≡ n → (Operand n a → r ≡ product n (power n α k) a)
-    → Operand m a → r ≡ product m (power m α k) a
-shift-at-width m n a k r e f o =
-    subst (λ (x : ℕ). r ≡ product x (power x α k) a) (sym e) (f (subst (λ (x : ℕ). Operand x a) e o))

@@ -128,14 +128,6 @@ width-of m h = go (eqb m 3) (eqb m 5) (eqb m 7) refl refl refl h
     go false false true x y z h = subst Width (sym (eqb-true m 7 z)) seven
     go false false false x y z h = absurd (false≢true h)
 
-pub width-seven : (m : ℕ) → isWidth m ≡ true → m ≢ 3 → m ≢ 5 → m ≡ 7
-width-seven m h a b = last (width-of m h) a b
-  where
-    last : {m : ℕ} → Width m → m ≢ 3 → m ≢ 5 → m ≡ 7
-    last three a b = absurd (a refl)
-    last five a b = absurd (b refl)
-    last seven a b = refl
-
 pub field-of : (m : ℕ) → isWidth m ≡ true → IsField m
 field-of m h = fieldAt (width-of m h)
 

@@ -2,3 +2,4 @@ pub mod Polynomial
 pub mod Field
 pub mod Question
 pub mod Answer
+pub mod Bytes

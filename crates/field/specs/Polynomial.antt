@@ -17,6 +17,7 @@ module _ (f : ℕ → ℕ → ℕ) where
   unfoldable pub digits : ℕ → ℕ
   digits n = digitsFrom n n
 
--- product, with no carry: the sum of b shifted to each digit of a
+-- product, with no carry: the sum of b shifted to each digit of a. Two laws of proofs/Polynomial.antt say it without the bound, which so
+-- need not be believed: `carryless-zero-l`, carryless 0 b ≡ 0, and `carryless-step`, carryless a b ≡ add (carryless (a / 2) b * 2) (a % 2 * b).
 unfoldable pub carryless : ℕ → ℕ → ℕ
 carryless a b = digits (λ n r. add (r * 2) (n % 2 * b)) a

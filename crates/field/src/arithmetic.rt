@@ -1,11 +1,12 @@
-// Arithmetic below the questions: plain bytes in and out. These functions are no entry points: each is safe on all bytes, and says what
-// it gives for a symbol at a width of the field.
+// Arithmetic below the questions: plain bytes in and out. These functions are no entry points: they ask nothing, and their contracts say
+// what they give on every byte. A byte that is no width stands for width 7, and one that is no symbol for its lowest digits.
 ghost use mathlib.Core.Path.{_≡_};
 ghost use mathlib.Core.Bool.{true};
-ghost use Prim.Native.Nat.{ℕ, _<_};
-ghost use Rattle.field.specs.Field.{order, polynomial, double as doubleM, product as productM, power as powerM, inverse as inverseM};
+ghost use Prim.Native.Nat.{ℕ, _%_, _<_};
+ghost use Rattle.field.specs.Field.{order, polynomial, double as doubleM, product as productM, power as powerM};
 ghost use Rattle.field.specs.Question.{isWidth};
 ghost use Rattle.field.specs.Answer.{Operand, orderOf};
+ghost use Rattle.field.specs.Bytes.{Small, multiplied, raised, inverted};
 use crate::Exponent;
 use crate::table::logarithm;
 use crate::table::power_of_alpha;
@@ -22,13 +23,23 @@ pub fn order_of(width: u8) -> u8
     }
 }
 
-fn polynomial_of(width: u8) -> u8
-    ensures { λ r. ⌜ (isWidth width ≡ true → r ≡ polynomial width) ⌝ }
+// The number of symbols at width 3 or 5.
+fn small_order(width: u8) -> u8
+    ensures { λ r. ⌜ (0 < r) × (Small width → r ≡ order width) ⌝ }
+{
+    match width {
+        3 => 8,
+        _ => 32,
+    }
+}
+
+// The polynomial of width 3 or 5.
+fn small_polynomial(width: u8) -> u8
+    ensures { λ r. ⌜ (Small width → r ≡ polynomial width) ⌝ }
 {
     match width {
         3 => 11,
-        5 => 37,
-        _ => 137,
+        _ => 37,
     }
 }
 
@@ -40,30 +51,15 @@ fn double(q: u8, p: u8, a: u8) -> u8
     if d < q { d } else { d ^ p }
 }
 
-// The product at width 7: the exponents of α add up.
-fn multiply7(a: u8, b: u8) -> u8
-    ensures { λ r. ⌜ (a < 128 → b < 128 → r ≡ productM 7 a b) ⌝ }
-{
-    if a == 0 {
-        return 0;
-    }
-    if b == 0 {
-        return 0;
-    }
-    let i = logarithm(a).0;
-    let j = logarithm(b).0;
-    power_of_alpha(Exponent(i + j))
-}
-
-// The product at any width: a is added for each digit of b, doubled in between.
+// The product at width 3 or 5: b is added for each digit of a, doubled in between.
 fn multiply_by_digits(width: u8, a: u8, b: u8) -> u8
-    ensures { λ r. ⌜ (Operand width a → r ≡ productM width b a) ⌝ }
+    ensures { λ r. ⌜ (Small width → r ≡ multiplied width a b) ⌝ }
 {
-    let q = order_of(width);
-    let p = polynomial_of(width);
+    let q = small_order(width);
+    let p = small_polynomial(width);
     let mut r: u8 = 0;
-    let mut x = a;
-    let mut y = b;
+    let mut x = b % q;
+    let mut y = a % q;
     while 0 < y {
         if y % 2 == 1 {
             r = r ^ x;
@@ -74,38 +70,53 @@ fn multiply_by_digits(width: u8, a: u8, b: u8) -> u8
     r
 }
 
-pub fn multiply(width: u8, a: u8, b: u8) -> u8
-    ensures { λ r. ⌜ (Operand width a → Operand width b → r ≡ productM width a b) ⌝ }
+// The product at width 7: the exponents of α add up.
+fn multiply7(a: u8, b: u8) -> u8
+    ensures { λ r. ⌜ r ≡ productM 7 (a % 128) (b % 128) ⌝ }
 {
-    if width == 7 {
-        multiply7(a, b)
-    } else {
-        multiply_by_digits(width, b, a)
+    if a % 128 == 0 {
+        return 0;
+    }
+    if b % 128 == 0 {
+        return 0;
+    }
+    let i = logarithm(a).0;
+    let j = logarithm(b).0;
+    power_of_alpha(Exponent(i + j))
+}
+
+pub fn multiply(width: u8, a: u8, b: u8) -> u8
+    ensures { λ r. ⌜ r ≡ multiplied width a b ⌝ }
+{
+    match width {
+        3 | 5 => multiply_by_digits(width, a, b),
+        _ => multiply7(a, b),
     }
 }
 
 // A power at width 7: the exponent of α is multiplied, and counts modulo 127.
-fn raise7(a: u8, e: u16) -> u8
-    ensures { λ r. ⌜ (a < 128 → r ≡ powerM 7 a e) ⌝ }
+fn raise7(a: u8, e: Exponent) -> u8
+    ensures { λ r. ⌜ r ≡ powerM 7 (a % 128) (e .0) ⌝ }
 {
-    if e == 0 {
+    let n = e.0;
+    if n == 0 {
         return 1;
     }
-    if a == 0 {
+    if a % 128 == 0 {
         return 0;
     }
     let i = logarithm(a).0 as u32;
-    let k = i * (e as u32) % 127;
+    let k = i * (n as u32) % 127;
     power_of_alpha(Exponent(k as u16))
 }
 
 // A power at any width, by squares.
-fn raise_by_squares(width: u8, a: u8, e: u16) -> u8
-    ensures { λ r. ⌜ (Operand width a → r ≡ powerM width a e) ⌝ }
+fn raise_by_squares(width: u8, a: u8, e: Exponent) -> u8
+    ensures { λ r. ⌜ (Operand width a → r ≡ powerM width a (e .0)) ⌝ }
 {
     let mut r: u8 = 1;
     let mut x = a;
-    let mut n = e;
+    let mut n = e.0;
     while 0 < n {
         if n % 2 == 1 {
             r = multiply(width, r, x);
@@ -116,23 +127,23 @@ fn raise_by_squares(width: u8, a: u8, e: u16) -> u8
     r
 }
 
-pub fn raise(width: u8, a: u8, e: u16) -> u8
-    ensures { λ r. ⌜ (Operand width a → r ≡ powerM width a e) ⌝ }
+pub fn raise(width: u8, a: u8, e: Exponent) -> u8
+    ensures { λ r. ⌜ r ≡ raised width a (e .0) ⌝ }
 {
-    if width == 7 {
-        raise7(a, e)
-    } else {
-        raise_by_squares(width, a, e)
+    match width {
+        3 => raise_by_squares(3, a % 8, e),
+        5 => raise_by_squares(5, a % 32, e),
+        _ => raise7(a, e),
     }
 }
 
-// The inverse of a symbol other than 0: its power q-2.
+// The power q-2: the inverse of a symbol other than 0.
 pub fn invert(width: u8, a: u8) -> u8
-    ensures { λ r. ⌜ (Operand width a → r ≡ inverseM width a) ⌝ }
+    ensures { λ r. ⌜ r ≡ inverted width a ⌝ }
 {
-    let q = order_of(width);
-    if q < 2 {
-        return 0;
+    match width {
+        3 => raise(3, a, Exponent(8 - 2)),
+        5 => raise(5, a, Exponent(32 - 2)),
+        _ => raise(7, a, Exponent(128 - 2)),
     }
-    raise(width, a, (q - 2) as u16)
 }

@@ -6,7 +6,7 @@ ghost use Rattle.field.specs.Answer.{operands, outcome, sumOf, productOf
 
 pub mod arithmetic;
 pub mod shift;
-pub mod table;
+mod table;
 
 use arithmetic::multiply;
 use arithmetic::order_of;
@@ -48,7 +48,7 @@ pub enum Answer {
     Refused(Question),
 }
 
-// An exponent of α. A place of a word is a type of its own.
+// An exponent. A place of a word is a type of its own.
 pub struct Exponent(pub u16);
 
 // The number by which document 01 names the refusal.
@@ -112,8 +112,8 @@ pub fn product(width: u8, a: u8, b: u8) -> Answer
     }
 }
 
-pub fn power(width: u8, a: u8, e: u16) -> Answer
-    ensures { λ r. ⌜ outcome r ≡ powerOf width a e ⌝ }
+pub fn power(width: u8, a: u8, e: Exponent) -> Answer
+    ensures { λ r. ⌜ outcome r ≡ powerOf width a (e .0) ⌝ }
 {
     match ask_symbol(width, a) {
         Verdict::Passed => Answer::Value(raise(width, a, e)),

@@ -5,6 +5,7 @@ ghost use mathlib.Core.Path.{_≡_};
 ghost use Prim.Native.Nat.{_+_, _^_, _≤_};
 ghost use Rattle.field.specs.Field.{order, polynomial, product as productM, power as powerM, α};
 ghost use Rattle.field.specs.Answer.{Operand};
+ghost use Rattle.field.specs.Bytes.{shifted};
 
 // a times the power k of α, where the digits that come back stay below x^width.
 fn wrap(width: u8, middle: u8, a: u8, k: u8) -> u8
@@ -40,11 +41,11 @@ fn shift_at(width: u8, middle: u8, a: u8, k: u8) -> u8
 // a times the power k of α.
 pub fn shift(width: u8, a: u8, k: u8) -> u8
     requires { ⌜ k ≤ 4 ⌝ }
-    ensures { λ r. ⌜ (Operand width a → r ≡ productM width (powerM width α k) a) ⌝ }
+    ensures { λ r. ⌜ r ≡ shifted width a k ⌝ }
 {
     match width {
-        3 => shift_at(3, 1, a, k),
-        5 => shift_at(5, 2, a, k),
-        _ => shift_at(7, 3, a, k),
+        3 => shift_at(3, 1, a % 8, k),
+        5 => shift_at(5, 2, a % 32, k),
+        _ => shift_at(7, 3, a % 128, k),
     }
 }

@@ -1,7 +1,7 @@
 // The tables of width 7: the powers of α, and the logarithms to the base α.
 ghost use mathlib.Core.Path.{_≡_};
 ghost use mathlib.Core.Logic.{_≢_};
-ghost use Prim.Native.Nat.{_<_};
+ghost use Prim.Native.Nat.{_%_, _<_};
 ghost use Rattle.field.specs.Field.{power as powerM, α};
 use crate::Exponent;
 
@@ -412,9 +412,9 @@ fn logarithm_at(a: usize) -> u8
     LOGARITHMS[a]
 }
 
-// The exponent of α at which its power at width 7 is a, for a symbol other than 0.
+// The exponent of α at which its power at width 7 is the symbol of a, where that is not 0.
 pub fn logarithm(a: u8) -> Exponent
-    ensures { λ r. ⌜ (r .0 < 127) × (a ≢ 0 → a < 128 → powerM 7 α (r .0) ≡ a) ⌝ }
+    ensures { λ r. ⌜ (r .0 < 127) × (a % 128 ≢ 0 → powerM 7 α (r .0) ≡ a % 128) ⌝ }
 {
     Exponent(logarithm_at((a % 128) as usize) as u16)
 }

@@ -3,6 +3,7 @@
 use code::Membership;
 use code::Repair;
 use field::Answer;
+use field::Exponent;
 use field::Verdict;
 
 fn wide(x: u8) -> u64 {
@@ -100,16 +101,16 @@ fn field_calls() {
     show_answer(b"product 2 5", field::product(3, 2, 5));
     show_answer(b"product at width 4", field::product(4, 2, 5));
     show_answer(b"product 0 8", field::product(3, 0, 8));
-    show_answer(b"power 0", field::power(3, 2, 0));
-    show_answer(b"power 1", field::power(3, 2, 1));
-    show_answer(b"power 2", field::power(3, 2, 2));
-    show_answer(b"power 3", field::power(3, 2, 3));
-    show_answer(b"power 4", field::power(3, 2, 4));
-    show_answer(b"power 5", field::power(3, 2, 5));
-    show_answer(b"power 6", field::power(3, 2, 6));
-    show_answer(b"power 0 of 0", field::power(3, 0, 0));
-    show_answer(b"power at width 4", field::power(4, 2, 0));
-    show_answer(b"power 0 of 8", field::power(3, 8, 0));
+    show_answer(b"power 0", field::power(3, 2, Exponent(0)));
+    show_answer(b"power 1", field::power(3, 2, Exponent(1)));
+    show_answer(b"power 2", field::power(3, 2, Exponent(2)));
+    show_answer(b"power 3", field::power(3, 2, Exponent(3)));
+    show_answer(b"power 4", field::power(3, 2, Exponent(4)));
+    show_answer(b"power 5", field::power(3, 2, Exponent(5)));
+    show_answer(b"power 6", field::power(3, 2, Exponent(6)));
+    show_answer(b"power 0 of 0", field::power(3, 0, Exponent(0)));
+    show_answer(b"power at width 4", field::power(4, 2, Exponent(0)));
+    show_answer(b"power 0 of 8", field::power(3, 8, Exponent(0)));
     show_answer(b"inverse of 2", field::inverse(3, 2));
     show_answer(b"inverse of 0", field::inverse(3, 0));
     show_answer(b"inverse at width 4", field::inverse(4, 0));

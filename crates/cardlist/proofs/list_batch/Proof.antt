@@ -1,13 +1,11 @@
 -- `cardlist::list_batch` meets its contract. Assumes nothing.
 use borrow.Author.Needs.{needs}
 use mathlib.Core.Path.{sym}
-use Prim.Native.Nat.{_^_}
 use native.Mathlib.Omega.{arith}
-use lib.Dec.{lit≤}
-use lib.ListN.{length, take}
+use lib.ListN.{take}
 use lib.Seq.{length-take-le}
 use Rattle.card.proofs.Writing.{writes-fits}
-use Rattle.cardlist.proofs.Bounds.{within-more, batch-grows}
+use Rattle.cardlist.proofs.Batches.{continues-batch}
 use Rattle.cardlist.proofs.list_batch.Statement.{statement}
 use Rattle.cardlist.proofs.list_batch.Tie as tie
 
@@ -17,8 +15,8 @@ slice-aggregate-read-batch c = search needs
 read-batch-requires : tie.Need-read-batch-requires
 read-batch-requires c κs = search needs
 
-report-failure-requires : tie.Need-report-failure-requires
-report-failure-requires c κs = search needs
+report-read-requires : tie.Need-report-read-requires
+report-read-requires c κs = search needs
 
 array-share-prefix-batch : tie.Need-array-share-prefix-batch
 array-share-prefix-batch c = search needs
@@ -36,8 +34,7 @@ list-records-requires c κs =
     let x = c .before .before .before .before .read-batch in
     let s = c .before .before .before .before .before .before in
     let l = length-take-le (x .result .count) (x .last .0) (x .ensures .0) in
-    let few = within-more 1000000000 (2 ^ 62) (s .args .t) (lit≤ tt) (s .pre .1) in
-    ((omega (arith, l, x .ensures .0, x .ensures .1), search needs), (s .pre .0, few))
+    (omega (arith, l, x .ensures .0, x .ensures .1), search needs, s .pre)
 
 array-share-prefix-out : tie.Need-array-share-prefix-out
 array-share-prefix-out c = search needs
@@ -56,8 +53,8 @@ returns c =
     let x = c .before .before .before .before .before .before .before .before .before .read-batch in
     let s = c .before .before .before .before .before .before .before .before .before .before .before in
     let l = length-take-le (x .result .count) (x .last .0) (x .ensures .0) in
-    batch-grows (length (take (x .result .count) (x .last .0))) (s .args .t) (y .result .totals)
-    (omega (arith, l, x .ensures .0, x .ensures .1)) (y .ensures .grown)
+    continues-batch (s .args .s) (y .result .progress) (take (x .result .count) (x .last .0)) (x .result .count) (y .ensures .progress) l
+    (omega (arith, x .ensures .0, x .ensures .1))
 
 pub list-batch-spec : {M : Type 1} → statement M
 list-batch-spec =
@@ -65,7 +62,7 @@ list-batch-spec =
     (tie.spec
     slice-aggregate-read-batch
     read-batch-requires
-    report-failure-requires
+    report-read-requires
     array-share-prefix-batch
     slice-aggregate-list-records
     slice-aggregate-list-records-2

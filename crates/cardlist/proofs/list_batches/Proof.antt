@@ -1,34 +1,34 @@
--- `cardlist::list_batches` meets its contract. Assumes nothing.
+-- `cardlist::list_batches` meets its contract. Before turn i the listing has come over i whole batches. Assumes nothing.
 use borrow.Author.Needs.{needs}
-use Prim.Native.Nat.{_+_, _-_, _*_, _≤_}
+use mathlib.Core.Path.{_≡_, subst}
+use mathlib.Core.Bool.{true}
+use Prim.Native.Nat.{ℕ, _-_, _*_, _≤_}
 use native.Mathlib.Omega.{arith}
-use Rattle.card.specs.Batch.{Within}
-use Rattle.cardlist.proofs.Bounds.{within-more, within-grows, within-start}
+use Rattle.card.specs.Listing.{start}
+use Rattle.card.specs.Batch.{batchSize, Continues}
+use Rattle.cardlist.proofs.Batches.{continues-start, continues-within, continues-on, continues-end}
 use Rattle.cardlist.proofs.list_batches.Statement.{statement}
 use Rattle.cardlist.proofs.list_batches.Tie as tie
 
 abbrev Inv-loop : tie.InvT-loop
-Inv-loop t₀ i₀ t i = (i ≤ 2500) × Within (i * 102000) t
+Inv-loop s₀ i₀ s i = (i ≤ 2500) × Continues (i * batchSize) start s true
 
 abbrev μ-loop : tie.MeasureT-loop
-μ-loop t₀ i₀ t i = 2500 - i
+μ-loop s₀ i₀ s i = 2500 - i
 
 loop-holds : tie.Need-loop-holds Inv-loop μ-loop
-loop-holds c = (search needs, within-start)
-
-mul-list-batch : tie.Need-mul-list-batch Inv-loop μ-loop
-mul-list-batch c = search needs
-
-add-list-batch : tie.Need-add-list-batch Inv-loop μ-loop
-add-list-batch c = search needs
+loop-holds c = (search needs, continues-start)
 
 list-batch-requires : tie.Need-list-batch-requires Inv-loop μ-loop
 list-batch-requires c κs =
-    let l = c .before .loop in
-    (omega arith, within-more (l .i * 102000) 1000000000 (l .t) (omega (arith, l .inv .0)) (l .inv .1))
+    let turn = c .before .loop in
+    continues-within (turn .i) (turn .s) (turn .inv .1) (turn .inv .0)
 
 returns : tie.Need-returns Inv-loop μ-loop
-returns c = search needs
+returns c =
+    let called = c .before .before in
+    let turn = called .before .before .loop in
+    continues-end (turn .i) (turn .s) (turn .inv .1) _ _ (called .list-batch .ensures) (called .before .loop-test .taken)
 
 add-i : tie.Need-add-i Inv-loop μ-loop
 add-i c = search needs
@@ -38,12 +38,15 @@ loop-less c = search needs
 
 loop-again : tie.Need-loop-again Inv-loop μ-loop
 loop-again c =
-    let l = c .before .before .before .before .loop in
-    let grown = within-grows (l .i * 102000) 102000 (l .t) _ (l .inv .1) (c .before .before .list-batch .ensures) in
-    (omega arith, within-more (l .i * 102000 + 102000) ((l .i + 1) * 102000) _ (omega arith) grown)
+    let called = c .before .before .before in
+    let turn = called .before .before .loop in
+    (omega arith, continues-on (turn .i) (turn .s) (turn .inv .1) _ _ (called .list-batch .ensures) (c .before .if1 .left))
 
 returns-2 : tie.Need-returns-2 Inv-loop μ-loop
-returns-2 c = search needs
+returns-2 c =
+    let turn = c .before .loop in
+    let all : turn .i ≡ 2500 = omega arith in
+    subst (λ (i : ℕ). Continues (i * batchSize) start (turn .s) true) all (turn .inv .1)
 
 pub list-batches-spec : {M : Type 1} → statement M
 list-batches-spec =
@@ -52,8 +55,6 @@ list-batches-spec =
     Inv-loop
     μ-loop
     loop-holds
-    mul-list-batch
-    add-list-batch
     list-batch-requires
     returns
     add-i

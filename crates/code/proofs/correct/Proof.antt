@@ -8,8 +8,9 @@ use lib.ListN.{length, take}
 use native.Mathlib.Omega.{arith}
 use Rattle.field.specs.Question.{allBelow}
 use Rattle.code.specs.Near.{radius}
-use Rattle.code.specs.Correction.{Ready, Workable, Corrects, NoneWithin}
+use Rattle.code.specs.Correction.{tried, Ready, Workable, Corrects, NoneWithin}
 use Rattle.code.proofs.Passing.{given}
+use Rattle.code.proofs.Trying.{none-within}
 use Rattle.code.proofs.Repairing.{workable, restores-clean, restores-found, restores-none}
 use Rattle.code.proofs.correct.Statement.{statement}
 use Rattle.code.proofs.correct.Tie as tie
@@ -45,17 +46,17 @@ returns c =
     let z = c .before .is-clean .ensures (c .if1 .taken) in
     restores-clean (a .width) (a .word .now) (a .erasures .now) (start s .pre) (s .started .result) (e .1) (ready s) (sym (e .0) ∙ z .0) (z .1) _ refl
 
-sub-reach : tie.Need-sub-reach
-sub-reach c = omega (arith, work (c .before .before .before .before .before .before) .few)
+sub-radius : tie.Need-sub-radius
+sub-radius c = omega (arith, work (c .before .before .before .before .before .before) .few)
 
-find-requires : tie.Need-find-requires
-find-requires c κs =
+search-requires : tie.Need-search-requires
+search-requires c κs =
     let s = c .before .before .before in
-    (omega (arith, work (start s) .few, s .started .ensures .0), omega (arith, work (start s) .few), omega (arith, work (start s) .short))
+    (omega (arith, work (start s) .few, s .started .ensures .0), omega (arith, work (start s) .short))
 
 write-requires : tie.Need-write-requires
 write-requires c κs =
-    let x = c .before .before .find in
+    let x = c .before .before .search in
     let s = c .before .before .before .before .before .before in
     let C = x .ensures .1 (ready s) .yes (c .before .if2 .taken) in (
       x .ensures .0,
@@ -70,7 +71,7 @@ returns-2 : tie.Need-returns-2
 returns-2 c =
     let w = c .before .before .write in
     let then = c .before .before .before .before in
-    let x = then .before .find in
+    let x = then .before .search in
     let s = then .before .before .before .before .before in
     let a = start s .args in
     restores-found (a .width) (a .word .now) (a .erasures .now) (start s .pre) (x .result) (w .result) _
@@ -85,9 +86,11 @@ returns-3 : tie.Need-returns-3
 returns-3 c =
     let s = c .before .before .before .before .before in
     let a = start s .args in
+    let t = s .started .result in
     restores-none (a .width) (a .word .now) (a .erasures .now) (start s .pre)
     (subst (λ (ls : List ℕ). NoneWithin (a .width) (a .word .now) ls (radius (a .width) (length (a .erasures .now))))
-    (s .started .ensures .1) (c .before .find .ensures .1 (ready s) .no (c .if2 .left)))
+    (s .started .ensures .1)
+    (none-within (a .width) (a .word .now) (tried t) (ready s .lent) _ (c .before .search .ensures .1 (ready s) .no (c .if2 .left))))
     _ refl
 
 pub correct-spec : {M : Type 1} → statement M
@@ -98,8 +101,8 @@ correct-spec =
     is-clean-requires
     same-length
     returns
-    sub-reach
-    find-requires
+    sub-radius
+    search-requires
     write-requires
     same-length-2
     returns-2

@@ -3,6 +3,7 @@ use borrow.Author.Needs.{needs}
 use mathlib.Core.Path.{ap, _∙_}
 use Rattle.field.specs.Question.{accepted}
 use Rattle.field.proofs.Ask.{after-passed, after-refused, ask-zero, ask-nonzero, operand-first}
+use Rattle.field.proofs.Bytes.{inverted-inverse}
 use Rattle.field.proofs.inverse.Statement.{statement}
 use Rattle.field.proofs.inverse.Tie as tie
 
@@ -28,7 +29,7 @@ returns-2 : tie.Need-returns-2
 returns-2 c =
     let s = c .before .before .before .before in
     let v = s .ask-symbol in
-    ap accepted (c .invert .ensures (operand-first (s .before .args .width) (s .before .args .a) _ (v .result) (v .ensures) (search needs)))
+    ap accepted (c .invert .ensures ∙ inverted-inverse (operand-first (s .before .args .width) (s .before .args .a) _ (v .result) (v .ensures) (search needs)))
     ∙ ask-nonzero (s .before .args .a) _ (c .before .if1 .left)
     ∙ after-passed (v .result) _ _ (v .ensures) (search needs)
 

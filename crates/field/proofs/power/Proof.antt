@@ -3,6 +3,7 @@ use borrow.Author.Needs.{needs}
 use mathlib.Core.Path.{ap, _∙_}
 use Rattle.field.specs.Question.{accepted}
 use Rattle.field.proofs.Ask.{after-passed, after-refused, operand-first}
+use Rattle.field.proofs.Bytes.{raised-power}
 use Rattle.field.proofs.power.Statement.{statement}
 use Rattle.field.proofs.power.Tie as tie
 
@@ -22,7 +23,7 @@ returns : tie.Need-returns
 returns c =
     let s = c .before .before .before in
     let v = s .ask-symbol in
-    ap accepted (c .raise .ensures (operand-first (s .before .args .width) (s .before .args .a) _ (v .result) (v .ensures) (search needs)))
+    ap accepted (c .raise .ensures ∙ raised-power (operand-first (s .before .args .width) (s .before .args .a) _ (v .result) (v .ensures) (search needs)) _)
     ∙ after-passed (v .result) _ _ (v .ensures) (search needs)
 
 returns-2 : tie.Need-returns-2

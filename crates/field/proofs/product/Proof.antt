@@ -3,6 +3,7 @@ use borrow.Author.Needs.{needs}
 use mathlib.Core.Path.{ap, _∙_}
 use Rattle.field.specs.Question.{accepted}
 use Rattle.field.proofs.Ask.{after-passed, after-refused, operand-first, operand-second}
+use Rattle.field.proofs.Bytes.{multiplied-product}
 use Rattle.field.proofs.product.Statement.{statement}
 use Rattle.field.proofs.product.Tie as tie
 
@@ -25,7 +26,7 @@ returns c =
     let a = s .before .args .a in
     let b = s .before .args .b in
     let v = s .ask-symbols in
-    ap accepted (c .multiply .ensures (operand-first m a _ (v .result) (v .ensures) (search needs)) (operand-second m a b (v .result) (v .ensures) (search needs)))
+    ap accepted (c .multiply .ensures ∙ multiplied-product (operand-first m a _ (v .result) (v .ensures) (search needs)) (operand-second m a b (v .result) (v .ensures) (search needs)))
     ∙ after-passed (v .result) _ _ (v .ensures) (search needs)
 
 returns-2 : tie.Need-returns-2

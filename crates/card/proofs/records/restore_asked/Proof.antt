@@ -4,7 +4,8 @@ use mathlib.Core.Path.{_≡_, sym}
 use native.Mathlib.Omega.{arith}
 use lib.ListN.{length}
 use lib.Seq.{length-take-le}
-use Rattle.card.specs.Record.{countOf}
+use Rattle.code.proofs.Lengths.{length-most}
+use Rattle.card.specs.Record.{widthOf, countOf}
 use Rattle.card.proofs.Layouts.{asked, word-fits, word-long}
 use Rattle.card.proofs.Recording.{restores-parts, word-refused, word-restored}
 use Rattle.card.proofs.records.restore_asked.Statement.{statement}
@@ -19,22 +20,18 @@ slice-read-count c = omega (arith, (asked (c .before .before .before .args .byte
 cast-count : tie.Need-cast-count
 cast-count c = omega (arith, c .slice-known3 .given 1)
 
-erasure-bytes-requires : tie.Need-erasure-bytes-requires
-erasure-bytes-requires c κs =
+erasure-row-requires : tie.Need-erasure-row-requires
+erasure-row-requires c κs =
     let s = c .before .before .before .before in
     omega (arith, asked (s .args .bytes .now) (s .pre) .size)
 
-order-of-requires : tie.Need-order-of-requires
-order-of-requires c κs = search needs
-
-cast-end : tie.Need-cast-end
-cast-end c = search needs
+word-length-requires : tie.Need-word-length-requires
+word-length-requires c κs = search needs
 
 add-end : tie.Need-add-end
-add-end c = search needs
-
-add-end-2 : tie.Need-add-end-2
-add-end-2 c = search needs
+add-end c =
+    let s = c .before .before .before .before .before .before in
+    omega (arith, length-most (widthOf (s .args .bytes .now)) (c .word-length .result) (c .word-length .ensures))
 
 sub-restore : tie.Need-sub-restore
 sub-restore c = search needs
@@ -46,18 +43,18 @@ part-restore-end : tie.Need-part-restore-end
 part-restore-end c =
     let s = c .before .before .before .before .before .before in
     let r = s .args .bytes .now in
-    omega (arith, word-fits r (asked r (s .pre)) (c .order-of .result) (c .order-of .ensures))
+    omega (arith, word-fits r (asked r (s .pre)) (c .word-length .result) (c .word-length .ensures))
 
 array-share-prefix-erasures : tie.Need-array-share-prefix-erasures
 array-share-prefix-erasures c =
     let s = c .before .before .before .before .before .before .before in
-    let l : 4 ≡ length (c .before .before .erasure-bytes .result) = search needs in
+    let l : 4 ≡ length (c .before .before .erasure-row .result) = search needs in
     omega (arith, asked (s .args .bytes .now) (s .pre) .few)
 
 slice-aggregate-restore : tie.Need-slice-aggregate-restore
 slice-aggregate-restore c =
     let s = c .before .before .before .before .before .before .before .before in
-    let e = c .before .before .before .erasure-bytes .result in
+    let e = c .before .before .before .erasure-row .result in
     let l : 4 ≡ length e = search needs in
     sym (length-take-le (countOf (s .args .bytes .now)) e (omega (arith, asked (s .args .bytes .now) (s .pre) .few)))
 
@@ -81,15 +78,15 @@ same-length c = search needs
 returns : tie.Need-returns
 returns c =
     let called = c .before .before .before .before .before .before .before .before .before in
-    let ordered = called .before .before .before in
-    let s = ordered .before .before .before .before .before .before in
+    let measured = called .before .before .before in
+    let s = measured .before .before .before .before .before .before in
     let r = s .args .bytes .now in
     let a = asked r (s .pre) in
-    let e = ordered .before .erasure-bytes in
-    let q = ordered .order-of in
+    let e = measured .before .erasure-row in
+    let n = measured .word-length in
     let x = called .restore in
-    let R = restores-parts r a (q .result) (q .ensures) (e .result) (e .ensures) (x .result) _ (x .ensures) in
-    word-restored r (s .pre) (x .result) _ R _ (word-long r a (q .result) (q .ensures)) _ (search needs) _
+    let R = restores-parts r a (n .result) (n .ensures) (e .result) (e .ensures) (x .result) _ (x .ensures) in
+    word-restored r (s .pre) (x .result) _ R _ (word-long r a (n .result) (n .ensures)) _ (search needs) _
     (c .before .before .clear-header .ensures)
 
 same-length-2 : tie.Need-same-length-2
@@ -98,15 +95,15 @@ same-length-2 c = search needs
 returns-2 : tie.Need-returns-2
 returns-2 c =
     let called = c .before .before .before .before .before in
-    let ordered = called .before .before .before in
-    let s = ordered .before .before .before .before .before .before in
+    let measured = called .before .before .before in
+    let s = measured .before .before .before .before .before .before in
     let r = s .args .bytes .now in
     let a = asked r (s .pre) in
-    let e = ordered .before .erasure-bytes in
-    let q = ordered .order-of in
+    let e = measured .before .erasure-row in
+    let n = measured .word-length in
     let x = called .restore in
-    let R = restores-parts r a (q .result) (q .ensures) (e .result) (e .ensures) (x .result) _ (x .ensures) in
-    word-refused r (s .pre) (x .result) _ R _ (word-long r a (q .result) (q .ensures)) _ (search needs)
+    let R = restores-parts r a (n .result) (n .ensures) (e .result) (e .ensures) (x .result) _ (x .ensures) in
+    word-refused r (s .pre) (x .result) _ R _ (word-long r a (n .result) (n .ensures)) _ (search needs)
 
 pub restore-asked-spec : {M : Type 1} → statement M
 restore-asked-spec =
@@ -115,11 +112,9 @@ restore-asked-spec =
     slice-read-width
     slice-read-count
     cast-count
-    erasure-bytes-requires
-    order-of-requires
-    cast-end
+    erasure-row-requires
+    word-length-requires
     add-end
-    add-end-2
     sub-restore
     part-restore-start
     part-restore-end

@@ -1,7 +1,7 @@
 -- `card::text::list_record` meets its contract: its calls say what is written and counted. Assumes nothing.
 use borrow.Author.Needs.{needs}
 use mathlib.Core.Path.{_∙_, ap}
-use Rattle.card.specs.Listing.{counted}
+use Rattle.card.specs.Batch.{advanced}
 use Rattle.card.proofs.Lines.{line-answered}
 use Rattle.card.proofs.text.list_record.Statement.{statement}
 use Rattle.card.proofs.text.list_record.Tie as tie
@@ -21,24 +21,23 @@ changes-of-requires c κs = search needs
 put-line-requires : tie.Need-put-line-requires
 put-line-requires c κs = search needs
 
-count-requires : tie.Need-count-requires
-count-requires c κs = search needs
+advance-requires : tie.Need-advance-requires
+advance-requires c κs = search needs
 
 same-length : tie.Need-same-length
 same-length c = search needs
 
 returns : tie.Need-returns
 returns c =
-    let asked = c .before .before .before .before in
-    let probed = asked .before .before .before .before in
-    let start = probed .before .before .before in
-    let line = line-answered (start .args .number) (start .args .bytes .now) (probed .probe .ensures)
+    let written = c .before .before .before in
+    let asked = written .before in
+    let probed = asked .before .before .before .before .before in
+    let s = probed .before .before .before in
+    let line = line-answered (s .args .done .progress .next) (s .args .bytes .now) (probed .probe .ensures)
     (asked .before .refusal-of .ensures) (asked .changes-of .ensures) in
     record {
-      text = rw line at (c .before .before .before .put-line .ensures .0);
-      totals = c .count .ensures .0 ∙ ap (counted (start .args .done .totals)) (probed .probe .ensures);
-      short = c .before .before .before .put-line .ensures .1;
-      grown = c .count .ensures .1;
+      text = rw line at (written .put-line .ensures);
+      progress = c .advance .ensures ∙ ap (advanced (s .args .done .progress)) (probed .probe .ensures);
     }
 
 pub list-record-spec : {M : Type 1} → statement M
@@ -50,6 +49,6 @@ list-record-spec =
     refusal-of-requires
     changes-of-requires
     put-line-requires
-    count-requires
+    advance-requires
     same-length
     returns)

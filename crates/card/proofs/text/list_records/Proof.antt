@@ -1,22 +1,26 @@
--- `card::text::list_records` meets its contract. Before turn i the lines of the first i records are written and counted. Assumes nothing.
+-- `card::text::list_records` meets its contract. Before turn i the lines of the first i records are written, and the listing has come to the
+-- next one. Assumes nothing.
 use borrow.Author.Needs.{needs}
 use mathlib.Core.Path.{_≡_}
-use Prim.Native.Nat.{_-_, _≤_}
+use Prim.Native.Nat.{_-_, _^_, _≤_}
 use native.Mathlib.Omega.{arith}
 use lib.ListN.{length}
 use Rattle.card.specs.Card.{recordCount}
-use Rattle.card.specs.Listing.{linesOf, totalsOf}
+use Rattle.card.specs.Listing.{linesOf, progressAt}
 use Rattle.card.specs.Batch.{Lists}
 use Rattle.card.proofs.Lines.{piece-some, lists-none, lists-more}
+use Rattle.card.proofs.Bounds.{lines-short, progress-within}
 use Rattle.card.proofs.text.list_records.Statement.{statement}
 use Rattle.card.proofs.text.list_records.Tie as tie
 
 abbrev Inv-loop : tie.InvT-loop
-Inv-loop batch first out₀ n done₀ i₀ out done i =
-    (i ≤ n) × (length out ≡ length out₀) × Lists i (linesOf first i batch) (totalsOf (done₀ .totals) i batch) done₀ out₀ done out
+Inv-loop batch out₀ n done₀ i₀ out done i =
+    (i ≤ n)
+    × (length out ≡ length out₀)
+    × Lists 0 (linesOf (done₀ .progress .next) batch i) (progressAt (done₀ .progress) batch i) out₀ done out
 
 abbrev μ-loop : tie.MeasureT-loop
-μ-loop batch first out₀ n done₀ i₀ out done i = n - i
+μ-loop batch out₀ n done₀ i₀ out done i = n - i
 
 sub-n : tie.Need-sub-n Inv-loop μ-loop
 sub-n c = search needs
@@ -25,7 +29,7 @@ add-n : tie.Need-add-n Inv-loop μ-loop
 add-n c = search needs
 
 loop-holds : tie.Need-loop-holds Inv-loop μ-loop
-loop-holds c = (omega arith, search needs, lists-none _ _ _ _ _ (omega arith))
+loop-holds c = (omega arith, search needs, lists-none _ _ _)
 
 mul-record-from : tie.Need-mul-record-from Inv-loop μ-loop
 mul-record-from c = search needs
@@ -33,15 +37,17 @@ mul-record-from c = search needs
 record-from-requires : tie.Need-record-from-requires Inv-loop μ-loop
 record-from-requires c κs = search needs
 
-add-list-record : tie.Need-add-list-record Inv-loop μ-loop
-add-list-record c = search needs
-
 list-record-requires : tie.Need-list-record-requires Inv-loop μ-loop
 list-record-requires c κs =
     let turn = c .before .before .before in
-    let start = turn .before .before .before in
-    let some = piece-some (start .args .batch .now) _ (turn .loop .i) (c .before .record-from .ensures) (omega arith) in
-    (some, omega arith, omega arith)
+    let s = turn .before .before .before in
+    let batch = s .args .batch .now in
+    let i = turn .loop .i in
+    let done = turn .loop .inv .2 in (
+      piece-some batch _ i (c .before .record-from .ensures) (omega arith),
+      omega (arith, done .text .behind, lines-short (s .args .s .next) batch i),
+      progress-within (2 ^ 62) (2 ^ 63) (s .args .s) _ batch i (done .progress) (s .pre .2) (omega arith),
+    )
 
 add-i : tie.Need-add-i Inv-loop μ-loop
 add-i c = search needs
@@ -52,11 +58,11 @@ loop-less c = search needs
 loop-again : tie.Need-loop-again Inv-loop μ-loop
 loop-again c =
     let turn = c .before .before .before .before .before .before in
-    let start = turn .before .before .before in (
+    let s = turn .before .before .before in (
       omega arith,
       omega arith,
-      lists-more (start .args .first) (turn .loop .i) (start .args .t) (start .args .batch .now) _
-          (c .before .before .before .before .record-from .ensures) (turn .loop .inv .2) (c .before .before .list-record .ensures),
+      lists-more (s .args .s) (s .args .batch .now) (turn .loop .i) _ (c .before .before .before .before .record-from .ensures)
+          (turn .loop .inv .2) (c .before .before .list-record .ensures),
     )
 
 same-length : tie.Need-same-length Inv-loop μ-loop
@@ -78,7 +84,6 @@ list-records-spec =
     loop-holds
     mul-record-from
     record-from-requires
-    add-list-record
     list-record-requires
     add-i
     loop-less

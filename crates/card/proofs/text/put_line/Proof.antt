@@ -27,7 +27,7 @@ returns c =
     let first = second .before .before .before .before in
     let two = writes-on (first .put-field .ensures .0) (second .put-field2 .ensures .0) in
     let three = writes-on two (third .put-field3 .ensures .0) in
-    (simp append-assoc at (writes-on three (c .before .before .put-field4 .ensures .0)), search needs)
+    simp append-assoc at (writes-on three (c .before .before .put-field4 .ensures .0))
 
 pub put-line-spec : {M : Type 1} → statement M
 put-line-spec =

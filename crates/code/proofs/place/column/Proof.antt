@@ -1,14 +1,15 @@
 -- `code::place::column` meets its contract. Assumes nothing.
 use borrow.Author.Needs.{needs}
 use mathlib.Core.Path.{sym, ap, _∙_}
-use Prim.Native.Nat.{ℕ, _*_, _≤_}
+use Prim.Native.Nat.{ℕ, _≤_}
 use native.Mathlib.Omega.{arith}
 use native.Mathlib.Nat.{mul-le-mul, lt-of-le-of-lt}
 use lib.Dec.{lit<}
 use Rattle.field.specs.Field.{power, α}
 use Rattle.field.proofs.Widths.{field-of}
+use Rattle.field.proofs.Bytes.{raised-power}
 use Rattle.field.specs.declared.Exponent.{Exponent}
-use Rattle.code.specs.Place.{column}
+use Rattle.code.specs.Place.{multipleOf, column}
 use Rattle.code.proofs.Columns.{column-unit, column-none, column-power}
 use Rattle.code.proofs.place.column.Statement.{statement}
 use Rattle.code.proofs.place.column.Tie as tie
@@ -26,23 +27,24 @@ returns-2 c = λ w.
 exponent-of-requires : tie.Need-exponent-of-requires
 exponent-of-requires c κs = search needs
 
-mul-raise : tie.Need-mul-raise
-mul-raise c =
+multiple-requires : tie.Need-multiple-requires
+multiple-requires c κs =
     let i : c .exponent-of .result .0 ≤ 255 = omega (arith, ap (λ (e : Exponent). e .0) (c .exponent-of .ensures)) in
     let k : c .before .before .args .k ≤ 255 = omega arith in
-    record { fits = lt-of-le-of-lt (mul-le-mul k i) (lit< tt) }
+    lt-of-le-of-lt (mul-le-mul k i) (lit< tt)
 
 raise-requires : tie.Need-raise-requires
 raise-requires c κs = search needs
 
 returns-3 : tie.Need-returns-3
 returns-3 c = λ w.
-    (let a = c .before .before .before .args in
+    (let a = c .before .before .before .before .args in
     let m = a .width in
-    c .raise .ensures (record { width = w; symbol = field-of m w .α-lt })
-    ∙ ap (λ (i : ℕ). power m α (a .k * i)) (ap (λ (e : Exponent). e .0) (c .before .exponent-of .ensures))
-    ∙ sym (column-power m (a .p .0) (a .k) (c .before .before .if1 .left)))
+    c .raise .ensures
+    ∙ raised-power (record { width = w; symbol = field-of m w .α-lt }) _
+    ∙ ap (λ (e : Exponent). power m α (e .0)) (c .before .multiple .ensures ∙ ap (multipleOf (a .k)) (c .before .before .exponent-of .ensures))
+    ∙ sym (column-power m (a .p .0) (a .k) (c .before .before .before .if1 .left)))
 
 pub column-spec : {M : Type 1} → statement M
 column-spec =
-    tie.close (tie.spec returns returns-2 exponent-of-requires mul-raise raise-requires returns-3)
+    tie.close (tie.spec returns returns-2 exponent-of-requires multiple-requires raise-requires returns-3)

@@ -8,7 +8,7 @@ use Rattle.code.proofs.restorer.change_at.Tie as tie
 returns : tie.Need-returns
 returns c =
     let a = c .before .before .args in
-    change-same (member (a .p) (a .erasures .now)) (a .x) (a .y) (c .if1 .taken)
+    change-same (member (a .p .0) (a .erasures .now)) (a .x) (a .y) (c .if1 .taken)
 
 contains-requires : tie.Need-contains-requires
 contains-requires c κs = search needs

@@ -5,6 +5,7 @@ use Prim.Native.Nat.{ℕ}
 use Rattle.field.specs.Field.{product}
 use Rattle.field.proofs.Widths.{field-of}
 use Rattle.field.proofs.Ask.{operand-of}
+use Rattle.field.proofs.Bytes.{multiplied-product}
 use Rattle.code.proofs.Columns.{column-lt}
 use Rattle.code.proofs.restorer.column_times.Statement.{statement}
 use Rattle.code.proofs.restorer.column_times.Tie as tie
@@ -20,7 +21,8 @@ returns c = λ w h.
     (let a = c .before .before .args in
     let m = a .width in
     let e = c .before .column .ensures w in
-    c .multiply .ensures (operand-of m _ _ w e (column-lt (field-of m w) (a .p) (a .k))) (record { width = w; symbol = h })
+    c .multiply .ensures
+    ∙ multiplied-product (operand-of m _ _ w e (column-lt (field-of m w) (a .p .0) (a .k))) (record { width = w; symbol = h })
     ∙ ap (λ (y : ℕ). product m y (a .x)) e)
 
 pub column-times-spec : {M : Type 1} → statement M

@@ -20,8 +20,8 @@ loop-holds c =
     let a = c .before .before .before .args in
     (omega arith, changes-none (a .erasures .now) (a .word .now) (a .other .now))
 
-cast-change-at : tie.Need-cast-change-at Inv-loop μ-loop
-cast-change-at c = search needs
+cast-t9 : tie.Need-cast-t9 Inv-loop μ-loop
+cast-t9 c = search needs
 
 shared-slice-read-change-at : tie.Need-shared-slice-read-change-at Inv-loop μ-loop
 shared-slice-read-change-at c = search needs
@@ -70,7 +70,7 @@ count-changes-spec =
     Inv-loop
     μ-loop
     loop-holds
-    cast-change-at
+    cast-t9
     shared-slice-read-change-at
     shared-slice-read-change-at-2
     change-at-requires

@@ -21,8 +21,8 @@ returns c =
       refl,
       λ w R h o ex. (
         e,
-        extended-ready (a .width) w (a .t) _ (a .p) (a .x) R h o ex e
-            (c .masked .ensures (R .width) (extended-symbol (a .width) w (a .t) (a .t) (a .p) (a .x) R h o ex)),
+        extended-ready (a .width) w (a .t) _ (a .p .0) (a .x) R h o ex e
+            (c .masked .ensures (R .width) (extended-symbol (a .width) w (a .t) (a .t) (a .p .0) (a .x) R h o ex)),
       ),
     )
 

@@ -5,15 +5,16 @@ use mathlib.Core.List.{_∷_}
 use Prim.Native.Nat.{ℕ, _+_, _-_, _≤_}
 use native.Mathlib.Omega.{arith}
 use lib.ListN.{length, take, length-set}
+use Rattle.code.specs.Matrix.{unknowns}
 use Rattle.code.proofs.Loops.{prepend-on}
 use Rattle.code.proofs.restorer.prepended.Statement.{statement}
 use Rattle.code.proofs.restorer.prepended.Tie as tie
 
 abbrev Inv-loop : tie.InvT-loop
-Inv-loop count p places out₀ j₀ out j = (length out ≡ 4) × (j ≤ count) × (take (j + 1) out ≡ p ∷ take j places)
+Inv-loop count places first out₀ j₀ out j = (length out ≡ unknowns) × (j ≤ count) × (take (j + 1) out ≡ first ∷ take j places)
 
 abbrev μ-loop : tie.MeasureT-loop
-μ-loop count p places out₀ j₀ out j = count - j
+μ-loop count places first out₀ j₀ out j = count - j
 
 loop-holds : tie.Need-loop-holds Inv-loop μ-loop
 loop-holds c = (refl, omega arith, refl)
@@ -40,14 +41,14 @@ loop-again c =
     let four : 4 ≡ length (a .t1) = search needs in (
       simp length-set (search needs),
       omega arith,
-      prepend-on (a .p) (a .t1) (l .loop .out) (l .loop .j) (l .loop .inv .2) (omega (arith, l .loop .inv .0)) (omega arith),
+      prepend-on (a .p .0) (a .t1) (l .loop .out) (l .loop .j) (l .loop .inv .2) (omega (arith, l .loop .inv .0)) (omega arith),
     )
 
 returns : tie.Need-returns Inv-loop μ-loop
 returns c =
     let l = c .before in
     let e : l .loop .j ≡ l .before .args .count = omega arith in
-    ap (λ (n : ℕ). take (n + 1) (l .loop .out)) (sym e) ∙ l .loop .inv .2 ∙ ap (λ (n : ℕ). l .before .args .p ∷ take n (l .before .args .t1)) e
+    ap (λ (n : ℕ). take (n + 1) (l .loop .out)) (sym e) ∙ l .loop .inv .2 ∙ ap (λ (n : ℕ). l .before .args .p .0 ∷ take n (l .before .args .t1)) e
 
 pub prepended-spec : {M : Type 1} → statement M
 prepended-spec =

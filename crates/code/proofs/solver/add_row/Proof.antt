@@ -1,4 +1,4 @@
--- `code::solver::add_row` meets its contract. The loop fills the row; the sum is `add` by its definition. Assumes nothing.
+-- `code::solver::add_row` meets its contract. The loop fills the row; `^` is the sum. Assumes nothing.
 use borrow.Author.Needs.{needs}
 use native.Mathlib.Omega.{arith}
 use Prim.Native.Nat.{ℕ, _-_}
@@ -7,6 +7,7 @@ use lib.ListN.{length, getD}
 use Rattle.field.specs.Polynomial.{add}
 use Rattle.field.specs.Field.{product}
 use Rattle.field.specs.Answer.{Operand}
+use Rattle.field.proofs.Bytes.{xor-add, multiplied-product}
 use Rattle.code.specs.Matrix.{columns, Operands}
 use Rattle.code.proofs.RowLaws.{length-rowAdd, getD-rowAdd}
 use Rattle.code.proofs.Loops.{Filled, filled-start, filled-on, filled-end}
@@ -42,10 +43,10 @@ loop-less : tie.Need-loop-less Inv-loop μ-loop
 loop-less c = search needs
 
 loop-again : tie.Need-loop-again Inv-loop μ-loop
-unfolding add
 loop-again c =
+    let x = getD (c .before .before .before .args .t2) (c .before .before .loop .j) 0 in
     filled-on (c .before .before .loop .inv) (omega arith)
-    (λ h. ap (add (getD (c .before .before .before .args .t2) (c .before .before .loop .j) 0)) (c .multiply .ensures (h .0) (h .1 _ (omega arith))))
+    (λ h. xor-add x (c .multiply .result) ∙ ap (add x) (c .multiply .ensures ∙ multiplied-product (h .0) (h .1 _ (omega arith))))
 
 returns : tie.Need-returns Inv-loop μ-loop
 returns c =

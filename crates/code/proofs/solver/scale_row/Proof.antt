@@ -2,10 +2,11 @@
 use borrow.Author.Needs.{needs}
 use native.Mathlib.Omega.{arith}
 use Prim.Native.Nat.{ℕ, _-_}
-use mathlib.Core.Path.{_≡_}
+use mathlib.Core.Path.{_≡_, _∙_}
 use lib.ListN.{length, getD, length-map}
 use Rattle.field.specs.Field.{product}
 use Rattle.field.specs.Answer.{Operand}
+use Rattle.field.proofs.Bytes.{multiplied-product}
 use Rattle.code.specs.Matrix.{columns, Operands}
 use Rattle.code.proofs.RowLaws.{getD-scale}
 use Rattle.code.proofs.Loops.{Filled, filled-start, filled-on, filled-end}
@@ -38,7 +39,7 @@ loop-less c = search needs
 
 loop-again : tie.Need-loop-again Inv-loop μ-loop
 loop-again c =
-    filled-on (c .before .before .loop .inv) (omega arith) (λ h. c .multiply .ensures (h .0) (h .1 _ (omega arith)))
+    filled-on (c .before .before .loop .inv) (omega arith) (λ h. c .multiply .ensures ∙ multiplied-product (h .0) (h .1 _ (omega arith)))
 
 returns : tie.Need-returns Inv-loop μ-loop
 returns c =

@@ -1,10 +1,11 @@
 -- `code::syndrome::step` meets its contract. Assumes nothing.
 use borrow.Author.Needs.{needs}
-use mathlib.Core.Path.{ap}
+use mathlib.Core.Path.{ap, _∙_}
 use Prim.Native.Nat.{ℕ}
 use lib.Dec.{lit<}
 use Rattle.field.specs.Polynomial.{add}
 use Rattle.field.specs.Field.{product, power, α}
+use Rattle.field.proofs.Bytes.{xor-add, shifted-product}
 use Rattle.code.specs.Word.{at}
 use Rattle.code.proofs.Horner.{five-of, first-shift}
 use Rattle.code.proofs.syndrome.step.Statement.{statement}
@@ -38,7 +39,6 @@ array-read-t11 : tie.Need-array-read-t11
 array-read-t11 c = search needs
 
 returns : tie.Need-returns
-unfolding add
 returns c = λ w h.
     (let l3 = c .before in
     let l2 = l3 .before in
@@ -47,11 +47,11 @@ returns c = λ w h.
     let m = a .width in
     let plus : (x : ℕ) → ℕ = λ x. add x (a .c) in
     five-of (λ k. add (product m (power m α k) (at (a .t2) k)) (a .c)) _ _ _ _ _
-    (ap plus (first-shift m _ w (h 0 (lit< tt))))
-    (ap plus (l1 .shift .ensures (record { width = w; symbol = h 1 (lit< tt) })))
-    (ap plus (l2 .shift2 .ensures (record { width = w; symbol = h 2 (lit< tt) })))
-    (ap plus (l3 .shift3 .ensures (record { width = w; symbol = h 3 (lit< tt) })))
-    (ap plus (c .shift4 .ensures (record { width = w; symbol = h 4 (lit< tt) }))))
+    (xor-add _ _ ∙ ap plus (first-shift m _ w (h 0 (lit< tt))))
+    (xor-add _ _ ∙ ap plus (l1 .shift .ensures ∙ shifted-product (record { width = w; symbol = h 1 (lit< tt) }) 1))
+    (xor-add _ _ ∙ ap plus (l2 .shift2 .ensures ∙ shifted-product (record { width = w; symbol = h 2 (lit< tt) }) 2))
+    (xor-add _ _ ∙ ap plus (l3 .shift3 .ensures ∙ shifted-product (record { width = w; symbol = h 3 (lit< tt) }) 3))
+    (xor-add _ _ ∙ ap plus (c .shift4 .ensures ∙ shifted-product (record { width = w; symbol = h 4 (lit< tt) }) 4)))
 
 pub step-spec : {M : Type 1} → statement M
 step-spec =

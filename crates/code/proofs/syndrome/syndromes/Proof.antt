@@ -1,9 +1,10 @@
 -- `code::syndrome::syndromes` meets its contract. Assumes nothing.
 use borrow.Author.Needs.{needs}
-use mathlib.Core.Path.{_≡_}
+use mathlib.Core.Path.{_≡_, _∙_}
 use Prim.Native.Nat.{ℕ, _<_}
 use lib.Dec.{lit<}
 use Rattle.field.specs.Polynomial.{add}
+use Rattle.field.proofs.Bytes.{xor-add}
 use Rattle.code.specs.Word.{checks, at, syndrome}
 use Rattle.code.proofs.Horner.{five-of, syndromes-of}
 use Rattle.code.proofs.syndrome.syndromes.Statement.{statement}
@@ -52,7 +53,6 @@ array-read-t37 : tie.Need-array-read-t37
 array-read-t37 c = search needs
 
 returns : tie.Need-returns
-unfolding add
 returns c = λ w size b.
     (let p = c .before .before .before .before .before in
     let a = p .before .before .before .args in
@@ -60,7 +60,12 @@ returns c = λ w size b.
     let word = a .word .now in
     let s : (k : ℕ) → k < checks → add (at word k) (at (p .parities .result) k) ≡ syndrome m (at word) k =
     syndromes-of m word (p .parities .result) size b (λ d. p .parities .ensures w d) in
-    five-of (syndrome m (at word)) _ _ _ _ _ (s 0 (lit< tt)) (s 1 (lit< tt)) (s 2 (lit< tt)) (s 3 (lit< tt)) (s 4 (lit< tt)))
+    five-of (syndrome m (at word)) _ _ _ _ _
+    (xor-add _ _ ∙ s 0 (lit< tt))
+    (xor-add _ _ ∙ s 1 (lit< tt))
+    (xor-add _ _ ∙ s 2 (lit< tt))
+    (xor-add _ _ ∙ s 3 (lit< tt))
+    (xor-add _ _ ∙ s 4 (lit< tt)))
 
 pub syndromes-spec : {M : Type 1} → statement M
 syndromes-spec =

@@ -2,33 +2,47 @@
 use borrow.Author.Needs.{needs}
 use mathlib.Core.Path.{_≡_, sym, ap, _∙_, subst}
 use mathlib.Core.Logic.{⊎-elim}
-use Prim.Native.Nat.{ℕ, _/_, _<_}
+use Prim.Native.Nat.{ℕ, _/_, _%_, _<_}
+use native.Mathlib.Nat.{mod-lt}
 use native.Mathlib.Omega.{arith}
+use lib.Pow.{pow-pos}
 use Rattle.field.specs.Polynomial.{add}
 use Rattle.field.specs.Field.{order, double, product}
-use Rattle.field.specs.Answer.{Operand}
+use Rattle.field.specs.Bytes.{multiplied, Small}
 use Rattle.field.proofs.Polynomial.{add-zero-l}
 use Rattle.field.proofs.Ring.{double-lt}
 use Rattle.field.proofs.Widths.{field-of}
-use Rattle.field.proofs.Ask.{order-is}
+use Rattle.field.proofs.Bytes.{width-own, small-width, multiplied-at}
 use Rattle.field.proofs.Steps.{product-odd, product-even, product-end}
 use Rattle.field.proofs.arithmetic.multiply_by_digits.Statement.{statement}
 use Rattle.field.proofs.arithmetic.multiply_by_digits.Tie as tie
 
 abbrev Inv-loop : tie.InvT-loop
-Inv-loop width a b q p r₀ x₀ y₀ r x y = Operand width a → (x < order width) × (add r (product width y x) ≡ product width b a)
+Inv-loop width a b q p r₀ x₀ y₀ r x y = Small width → (x < order width) × (add r (product width y x) ≡ multiplied width a b)
 
 abbrev μ-loop : tie.MeasureT-loop
 μ-loop width a b q p r₀ x₀ y₀ r x y = y
 
-order-of-requires : tie.Need-order-of-requires Inv-loop μ-loop
-order-of-requires c κs = search needs
+small-order-requires : tie.Need-small-order-requires Inv-loop μ-loop
+small-order-requires c κs = search needs
 
-polynomial-of-requires : tie.Need-polynomial-of-requires Inv-loop μ-loop
-polynomial-of-requires c κs = search needs
+small-polynomial-requires : tie.Need-small-polynomial-requires Inv-loop μ-loop
+small-polynomial-requires c κs = search needs
+
+rem-x : tie.Need-rem-x Inv-loop μ-loop
+rem-x c = omega (arith, c .before .small-order .ensures .0)
+
+rem-y : tie.Need-rem-y Inv-loop μ-loop
+rem-y c = omega (arith, c .before .small-order .ensures .0)
 
 loop-holds : tie.Need-loop-holds Inv-loop μ-loop
-loop-holds c = λ o. (o .symbol, add-zero-l (product (c .before .before .args .width) (c .before .before .args .b) (c .before .before .args .a)))
+loop-holds c = λ small.
+    (let s = c .before .before .args in
+    let m = s .width in
+    let e = c .before .small-order .ensures .1 small in (
+      subst (λ (q : ℕ). s .b % q < order m) (sym e) (mod-lt (s .b) (pow-pos m)),
+      add-zero-l _ ∙ ap (λ (q : ℕ). product m (s .a % q) (s .b % q)) e ∙ sym (multiplied-at m m (width-own m (small-width m small)) (s .a) (s .b)),
+    ))
 
 double-requires : tie.Need-double-requires Inv-loop μ-loop
 double-requires c κs = search needs
@@ -38,19 +52,18 @@ loop-less c = omega arith
 
 loop-again : tie.Need-loop-again Inv-loop μ-loop
 unfolding add
-loop-again c = λ o.
+loop-again c = λ small.
     (let l = c .before .before .before in
     let s = l .before .before .before in
     let m = s .args .width in
-    let w = o .width in
+    let w = small-width m small in
     let pos = field-of m w .positive in
     let x = l .loop .x in
     let y = l .loop .y in
-    let t = product m (s .args .b) (s .args .a) in
-    let q = l .before .before .order-of in
-    let i = l .loop .inv o in
-    let e : q .result ≡ order m = order-is m (q .result) (q .ensures) w in
-    let d : c .double .result ≡ double m x = c .double .ensures m w e (l .before .polynomial-of .ensures w) (subst (λ (z : ℕ). x < z) (sym e) (i .0)) in (
+    let t = multiplied m (s .args .a) (s .args .b) in
+    let i = l .loop .inv small in
+    let e = l .before .before .small-order .ensures .1 small in
+    let d : c .double .result ≡ double m x = c .double .ensures m w e (l .before .small-polynomial .ensures small) (subst (λ (z : ℕ). x < z) (sym e) (i .0)) in (
       subst (λ (z : ℕ). z < order m) (sym d) (double-lt m x (i .0)),
       ap (λ (z : ℕ). add (c .before .if1 .r) (product m (y / 2) z)) d
           ∙ ⊎-elim
@@ -60,10 +73,10 @@ loop-again c = λ o.
     ))
 
 returns : tie.Need-returns Inv-loop μ-loop
-returns c = λ o.
+returns c = λ small.
     (let l = c .before in
     let m = l .before .before .before .args .width in
-    product-end m (field-of m (o .width) .positive) (l .loop .r) (l .loop .y) (l .loop .x) _ (omega arith) (l .loop .inv o .1))
+    product-end m (field-of m (small-width m small) .positive) (l .loop .r) (l .loop .y) (l .loop .x) _ (omega arith) (l .loop .inv small .1))
 
 pub multiply-by-digits-spec : {M : Type 1} → statement M
 multiply-by-digits-spec =
@@ -71,8 +84,10 @@ multiply-by-digits-spec =
     (tie.spec
     Inv-loop
     μ-loop
-    order-of-requires
-    polynomial-of-requires
+    small-order-requires
+    small-polynomial-requires
+    rem-x
+    rem-y
     loop-holds
     double-requires
     loop-less

@@ -1,7 +1,7 @@
 -- `field::arithmetic::raise7` meets its contract: an exponent of α counts modulo 127. Assumes nothing.
 use borrow.Author.Needs.{needs}
 use mathlib.Core.Path.{sym, ap, _∙_}
-use Prim.Native.Nat.{ℕ, _≤_}
+use Prim.Native.Nat.{ℕ, _%_, _≤_}
 use native.Mathlib.Omega.{arith}
 use native.Mathlib.Nat.{mul-le-mul, lt-of-le-of-lt}
 use lib.Dec.{lit<}
@@ -13,12 +13,12 @@ use Rattle.field.proofs.arithmetic.raise7.Statement.{statement}
 use Rattle.field.proofs.arithmetic.raise7.Tie as tie
 
 returns : tie.Need-returns
-returns c = λ h. sym (ap (power 7 (c .before .args .a)) (c .if1 .taken) ∙ power-zero 7 (c .before .args .a))
+returns c = sym (ap (power 7 _) (c .if1 .taken) ∙ power-zero 7 _)
 
 returns-2 : tie.Need-returns-2
-returns-2 c = λ h.
-    (let s = c .before .before in
-    sym (ap (λ (x : ℕ). power 7 x (s .args .e)) (c .if2 .taken) ∙ zero-power-ne 7 (s .args .e) (c .before .if1 .left)))
+returns-2 c =
+    let e = c .before .before .args .e .0 in
+    sym (ap (λ (x : ℕ). power 7 x e) (c .if2 .taken) ∙ zero-power-ne 7 e (c .before .if1 .left))
 
 logarithm-requires : tie.Need-logarithm-requires
 logarithm-requires c κs = search needs
@@ -26,24 +26,27 @@ logarithm-requires c κs = search needs
 cast-i : tie.Need-cast-i
 cast-i c = search needs
 
+cast-k : tie.Need-cast-k
+cast-k c = search needs
+
 mul-k : tie.Need-mul-k
 mul-k c =
     let i : c .before .logarithm .result .0 ≤ 126 = omega (arith, c .before .logarithm .ensures .0) in
-    let e : c .before .before .before .before .args .e ≤ 65535 = omega arith in
+    let e : c .before .before .before .before .args .e .0 ≤ 65535 = omega arith in
     record { fits = lt-of-le-of-lt (mul-le-mul i e) (lit< tt) }
 
-cast-t9 : tie.Need-cast-t9
-cast-t9 c = search needs
+cast-t11 : tie.Need-cast-t11
+cast-t11 c = search needs
 
 power-of-alpha-requires : tie.Need-power-of-alpha-requires
 power-of-alpha-requires c κs = search needs
 
 returns-3 : tie.Need-returns-3
-returns-3 c = λ h.
-    (let s = c .before .before .before .before .before in
+returns-3 c =
+    let s = c .before .before .before .before .before in
     let i = c .before .before .logarithm in
     c .power-of-alpha .ensures
-    ∙ power-exponent 7 (fieldAt seven) (s .args .a) (s .args .e) (i .result .0) (i .ensures .1 (c .before .before .before .if2 .left) h))
+    ∙ power-exponent 7 (fieldAt seven) (s .args .a % 128) (s .args .e .0) (i .result .0) (i .ensures .1 (c .before .before .before .if2 .left))
 
 pub raise7-spec : {M : Type 1} → statement M
 raise7-spec =
@@ -53,7 +56,8 @@ raise7-spec =
     returns-2
     logarithm-requires
     cast-i
+    cast-k
     mul-k
-    cast-t9
+    cast-t11
     power-of-alpha-requires
     returns-3)

@@ -1,9 +1,8 @@
 -- `field::shift::shift` meets its contract. Assumes nothing.
 use borrow.Author.Needs.{needs}
-use mathlib.Core.Path.{refl}
+use mathlib.Core.Path.{refl, sym, _∙_}
 use Rattle.field.specs.Field.{polynomial}
-use Rattle.field.proofs.Widths.{width-seven}
-use Rattle.field.proofs.Shifts.{shift-at-width}
+use Rattle.field.proofs.Bytes.{width-three, width-five, width-other, operand-low, shifted-at}
 use Rattle.field.proofs.shift.shift.Statement.{statement}
 use Rattle.field.proofs.shift.shift.Tie as tie
 
@@ -18,22 +17,17 @@ shift-at-requires-3 c κs = search needs
 
 returns : tie.Need-returns
 unfolding polynomial
-returns c =
-    let s = c .before in
-    shift-at-width _ 3 (s .before .args .a) (s .before .args .k) (c .shift-at .result) (s .match .keys1) (λ o. c .shift-at .ensures o refl)
+returns c = c .shift-at .ensures (operand-low 3 _ refl) refl ∙ sym (shifted-at _ 3 (width-three _ (c .before .match .keys1)) _ _)
 
 returns-2 : tie.Need-returns-2
 unfolding polynomial
-returns-2 c =
-    let s = c .before in
-    shift-at-width _ 5 (s .before .args .a) (s .before .args .k) (c .shift-at2 .result) (s .match .keys2) (λ o. c .shift-at2 .ensures o refl)
+returns-2 c = c .shift-at2 .ensures (operand-low 5 _ refl) refl ∙ sym (shifted-at _ 5 (width-five _ (c .before .match .keys2)) _ _)
 
 returns-3 : tie.Need-returns-3
 unfolding polynomial
-returns-3 c = λ o.
-    (let s = c .before in
-    shift-at-width _ 7 (s .before .args .a) (s .before .args .k) (c .shift-at3 .result)
-    (width-seven (s .before .args .width) (o .width) (s .match .rest .0 .1) (s .match .rest .1)) (λ o. c .shift-at3 .ensures o refl) o)
+returns-3 c =
+    let other = c .before .match .rest in
+    c .shift-at3 .ensures (operand-low 7 _ refl) refl ∙ sym (shifted-at _ 7 (width-other _ (other .0 .1) (other .1)) _ _)
 
 pub shift-spec : {M : Type 1} → statement M
 shift-spec =

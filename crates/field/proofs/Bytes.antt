@@ -1,0 +1,98 @@
+-- The laws of arithmetic on bytes below the questions: for symbols at a width of the field it is the arithmetic of the field.
+-- Assumes nothing.
+use mathlib.Core.Path.{_≡_, refl, ap, ap₂, _∙_}
+use mathlib.Core.Logic.{_≢_, inl, inr}
+use mathlib.Core.Bool.{Bool, true, cond}
+use Prim.Native.Nat.{ℕ, _%_}
+use native.Mathlib.Nat.{mod-lt, mod-eq-of-lt}
+use native.Mathlib.Decide.{ℕ-discrete}
+use lib.Bits.{bitXor}
+use lib.Pow.{pow-pos}
+use borrow.Author.Tests.{ne-eqb}
+use Rattle.field.specs.Polynomial.{add}
+use Rattle.field.specs.Field.{order, product, power, inverse, α}
+use Rattle.field.specs.Question.{isWidth}
+use Rattle.field.specs.Answer.{Operand}
+use Rattle.field.specs.Bytes.{widthFor, symbolFor, multiplied, raised, inverted, shifted, Small}
+
+-- `^` on bytes is the sum
+pub xor-add : (a b : ℕ) → bitXor a b ≡ add a b
+unfolding add
+xor-add a b = refl
+
+-- ---- the width that a byte stands for
+
+pub width-own : (m : ℕ) → isWidth m ≡ true → widthFor m ≡ m
+unfolding widthFor
+width-own m w = ap (λ (b : Bool). cond b m 7) w
+
+pub width-three : (m : ℕ) → m ≡ 3 → widthFor m ≡ 3
+unfolding widthFor
+width-three m e = ap widthFor e
+
+pub width-five : (m : ℕ) → m ≡ 5 → widthFor m ≡ 5
+unfolding widthFor
+width-five m e = ap widthFor e
+
+pub width-other : (m : ℕ) → m ≢ 3 → m ≢ 5 → widthFor m ≡ 7
+unfolding widthFor
+width-other m a b = go (ℕ-discrete m 7)
+  where
+    go : Dec (m ≡ 7) → widthFor m ≡ 7
+    go (yes e) = ap widthFor e
+    go (no c) = simp (ne-eqb m 3 a, ne-eqb m 5 b, ne-eqb m 7 c)
+
+pub small-width : (m : ℕ) → Small m → isWidth m ≡ true
+small-width m (inl e) = ap isWidth e
+small-width m (inr e) = ap isWidth e
+
+pub small-five : (m : ℕ) → Small m → m ≢ 3 → m ≡ 5
+small-five m (inl e) n = absurd (n e)
+small-five m (inr e) n = e
+
+pub width-large : (m : ℕ) → (Small m → ⊥) → widthFor m ≡ 7
+width-large m n = width-other m (λ e. n (inl e)) (λ e. n (inr e))
+
+-- the lowest digits of a byte are a symbol
+pub operand-low : (n a : ℕ) → isWidth n ≡ true → Operand n (a % order n)
+operand-low n a w = record { width = w; symbol = mod-lt a (pow-pos n) }
+
+-- ---- each operation at the width n that the byte m stands for
+
+module _ (m n : ℕ) (e : widthFor m ≡ n) where
+  pub multiplied-at : (a b : ℕ) → multiplied m a b ≡ product n (a % order n) (b % order n)
+  unfolding multiplied symbolFor
+  multiplied-at a b = ap (λ (k : ℕ). product k (a % order k) (b % order k)) e
+
+  pub raised-at : (a i : ℕ) → raised m a i ≡ power n (a % order n) i
+  unfolding raised symbolFor
+  raised-at a i = ap (λ (k : ℕ). power k (a % order k) i) e
+
+  pub inverted-at : (a : ℕ) → inverted m a ≡ inverse n (a % order n)
+  unfolding inverted symbolFor
+  inverted-at a = ap (λ (k : ℕ). inverse k (a % order k)) e
+
+  pub shifted-at : (a k : ℕ) → shifted m a k ≡ product n (power n α k) (a % order n)
+  unfolding shifted symbolFor
+  shifted-at a k = ap (λ (j : ℕ). product j (power j α k) (a % order j)) e
+
+-- ---- for symbols at a width of the field
+
+module _ {m a : ℕ} (o : Operand m a) where
+  own : widthFor m ≡ m
+  own = width-own m (o .width)
+
+  low : a % order m ≡ a
+  low = mod-eq-of-lt (o .symbol)
+
+  pub multiplied-product : {b : ℕ} → Operand m b → multiplied m a b ≡ product m a b
+  multiplied-product {b} p = multiplied-at m m own a b ∙ ap₂ (product m) low (mod-eq-of-lt (p .symbol))
+
+  pub raised-power : (e : ℕ) → raised m a e ≡ power m a e
+  raised-power e = raised-at m m own a e ∙ ap (λ (x : ℕ). power m x e) low
+
+  pub inverted-inverse : inverted m a ≡ inverse m a
+  inverted-inverse = inverted-at m m own a ∙ ap (inverse m) low
+
+  pub shifted-product : (k : ℕ) → shifted m a k ≡ product m (power m α k) a
+  shifted-product k = shifted-at m m own a k ∙ ap (product m (power m α k)) low

@@ -1,0 +1,33 @@
+-- Arithmetic on bytes below the questions: what it gives on every byte, symbol or not. Each byte stands for a width and for a symbol there,
+-- a width and a symbol for themselves (proofs/Bytes.antt). Assumes nothing.
+use mathlib.Core.Path.{_≡_}
+use mathlib.Core.Logic.{_⊎_}
+use mathlib.Core.Bool.{cond}
+use Prim.Native.Nat.{ℕ, _%_}
+use Rattle.field.specs.Field.{order, product, power, inverse, α}
+use Rattle.field.specs.Question.{isWidth}
+
+-- the width itself, and 7 where it is none of the field's
+unfoldable pub widthFor : ℕ → ℕ
+widthFor m = cond (isWidth m) m 7
+
+-- the symbol that a byte stands for: its lowest digits, as many as the width
+unfoldable pub symbolFor : ℕ → ℕ → ℕ
+symbolFor m a = a % order (widthFor m)
+
+unfoldable pub multiplied : ℕ → ℕ → ℕ → ℕ
+multiplied m a b = product (widthFor m) (symbolFor m a) (symbolFor m b)
+
+unfoldable pub raised : ℕ → ℕ → ℕ → ℕ
+raised m a e = power (widthFor m) (symbolFor m a) e
+
+unfoldable pub inverted : ℕ → ℕ → ℕ
+inverted m a = inverse (widthFor m) (symbolFor m a)
+
+-- times the power k of α
+unfoldable pub shifted : ℕ → ℕ → ℕ → ℕ
+shifted m a k = product (widthFor m) (power (widthFor m) α k) (symbolFor m a)
+
+-- the widths without tables
+abbrev pub Small : ℕ → Type 0
+Small m = (m ≡ 3) ⊎ (m ≡ 5)
