@@ -1,4 +1,4 @@
-/* Calls every function of include/xrs.h from C: the words of document 01 and a refusal of each kind. One line for each check. */
+/* Calls every function of include/xrs.h from C: the words of document 01, a day sheet and a refusal of each kind. One line for each check. */
 #include <stdio.h>
 #include <string.h>
 
@@ -322,6 +322,56 @@ static void cards(void) {
     check("the record before it does", xrs_check_card(card, XRS_RECORD_SIZE) == 0);
 }
 
+/* 29 February 2024, pump 5, and counts from 0 to 127 in the quarter hours. */
+static void make_symbols(uint8_t *symbols) {
+    size_t i;
+    for (i = 0; i < XRS_SHEET_QUARTERS; i++) {
+        symbols[i] = (uint8_t)(i * 53 % 128);
+    }
+    symbols[XRS_SHEET_QUARTERS - 1] = 127;
+    symbols[XRS_SHEET_YEAR] = 24;
+    symbols[XRS_SHEET_MONTH] = 2;
+    symbols[XRS_SHEET_DAY] = 29;
+    symbols[XRS_SHEET_PUMP] = 5;
+}
+
+static void sheets(void) {
+    uint8_t symbols[XRS_SHEET_SIZE + 1] = {0}, data[127] = {0}, zeros[100] = {0}, sheet[132], old[132];
+    lent word, read;
+    memset(old, 9, sizeof old);
+    make_symbols(symbols);
+    memcpy(data, symbols, XRS_SHEET_SIZE);
+    xrs_encode(7, data, 127, sheet, 132);
+    answers("write a day sheet", xrs_write_sheet(7, symbols, 100, lend(&word, old, 132), 132), XRS_ACCEPTED, 0);
+    check("it is the codeword of its symbols and zeros", holds(&word, sheet));
+    answers("read a day sheet", xrs_read_sheet(7, sheet, 132, lend(&read, old, 100), 100), XRS_ACCEPTED, 0);
+    check("its symbols are read", holds(&read, symbols));
+
+    lend(&word, old, 132);
+    lend(&read, old, 100);
+    answers("write a sheet at width 4", xrs_write_sheet(4, symbols, 99, word.bytes + RIM, 131), XRS_REFUSED_WIDTH, 0);
+    answers("write 101 symbols", xrs_write_sheet(7, symbols, 101, word.bytes + RIM, 132), XRS_REFUSED_LENGTH, 0);
+    answers("write a sheet into a short word", xrs_write_sheet(7, symbols, 100, word.bytes + RIM, 131), XRS_REFUSED_LENGTH, 0);
+    answers("read 99 symbols", xrs_read_sheet(7, sheet, 132, read.bytes + RIM, 99), XRS_REFUSED_LENGTH, 0);
+    answers("read 132 symbols at width 5", xrs_read_sheet(5, sheet, 132, read.bytes + RIM, 100), XRS_REFUSED_LENGTH, 0);
+    answers("write symbols of width 7 at width 5", xrs_write_sheet(5, symbols, 100, word.bytes + RIM, 36), XRS_REFUSED_SYMBOL, 0);
+    answers("write zeros at width 5", xrs_write_sheet(5, zeros, 100, word.bytes + RIM, 36), XRS_REFUSED_SHEET_WIDTH, 0);
+    answers("read zeros at width 3", xrs_read_sheet(3, words[0], 12, read.bytes + RIM, 100), XRS_REFUSED_SHEET_WIDTH, 0);
+    symbols[XRS_SHEET_YEAR] = 100;
+    answers("write 29 February 2100", xrs_write_sheet(7, symbols, 100, word.bytes + RIM, 132), XRS_REFUSED_DATE, 0);
+    symbols[XRS_SHEET_PUMP] = 128;
+    answers("write pump 128", xrs_write_sheet(7, symbols, 100, word.bytes + RIM, 132), XRS_REFUSED_SYMBOL, 0);
+    sheet[0] ^= 1;
+    answers("read a sheet with a wrong symbol", xrs_read_sheet(7, sheet, 132, read.bytes + RIM, 100), XRS_REFUSED_SYNDROME, 0);
+    data[126] = 1;
+    xrs_encode(7, data, 127, sheet, 132);
+    answers("read a sheet with c_126 = 1", xrs_read_sheet(7, sheet, 132, read.bytes + RIM, 100), XRS_REFUSED_UNUSED, 0);
+    data[XRS_SHEET_YEAR] = 100;
+    xrs_encode(7, data, 127, sheet, 132);
+    answers("read 29 February 2100 with c_126 = 1", xrs_read_sheet(7, sheet, 132, read.bytes + RIM, 100), XRS_REFUSED_DATE, 0);
+    check("refused sheets write nothing", holds(&word, old) && holds(&read, old));
+}
+
 int main(void) {
     uint8_t width;
     field();
@@ -337,6 +387,7 @@ int main(void) {
     }
     records();
     cards();
+    sheets();
     printf("%u passed, %u failed\n", passed, failed);
     return failed != 0;
 }

@@ -5,13 +5,13 @@
  * 132): five check symbols, then the q - 1 data symbols (7, 31 or 127).
  *
  * Answers: every call but xrs_check_card returns refusal + 256 * value. The refusal is 0 where the call was accepted; otherwise it is that
- * of the first question answered no, and the value is 0. The questions are put in the order 1, 2, 3, 8, 4, 5, 6, 7, 9, 10 of their
- * refusals, each for all its items before the next. XRS_REFUSAL and XRS_VALUE take the number apart.
+ * of the first question answered no, and the value is 0. The questions are put in the order 1, 2, 3, 8, 4, 5, 6, 7, 9, 10, 11, 12, 13 of
+ * their refusals, each for all its items before the next. XRS_REFUSAL and XRS_VALUE take the number apart.
  *
  * Memory: a slice is passed as a pointer and its length in bytes. The pointer must not be NULL, also where the length is 0, and must be
  * valid for that many bytes: to read where it is const, else to read and write. Slices passed to one call must not overlap. Any length and
  * any content are allowed: a wrong one is refused. A call touches no byte outside its slices, and a refused call changes none inside. What
- * the output of xrs_encode or xrs_read_data holds beforehand does not matter.
+ * the output of xrs_encode, xrs_read_data, xrs_write_sheet or xrs_read_sheet holds beforehand does not matter.
  *
  * The calls keep no state, so any number of threads may call them at once on memory of their own.
  *
@@ -39,7 +39,10 @@ enum xrs_refusal {
     XRS_REFUSED_CORRECTABLE = 7,      /* no codeword is near */
     XRS_REFUSED_PADDING = 8,          /* a record's unused erasure bytes are not 255, or its tail is not 0 */
     XRS_REFUSED_SYNDROME = 9,         /* a syndrome is not zero */
-    XRS_REFUSED_NONZERO = 10          /* the symbol 0 has no inverse */
+    XRS_REFUSED_NONZERO = 10,         /* the symbol 0 has no inverse */
+    XRS_REFUSED_SHEET_WIDTH = 11,     /* the width of a day sheet is not 7 */
+    XRS_REFUSED_DATE = 12,            /* the date of a day sheet does not exist */
+    XRS_REFUSED_UNUSED = 13           /* a day sheet's symbols c_100 to c_126 are not zero */
 };
 
 /* The two parts of an answer. */
@@ -95,6 +98,32 @@ uint32_t xrs_restore_record(uint8_t *record, size_t record_length);
  * counted from 1. A last piece shorter than a record is one that would not be. A card of length 0 passes.
  */
 uint64_t xrs_check_card(const uint8_t *card, size_t card_length);
+
+/* ---- Day sheets: codewords of width 7 whose data symbols are a day's compressor starts, its date and its pump, and then zeros. */
+
+/* The symbols of a day sheet, c_0 to c_99. */
+#define XRS_SHEET_SIZE 100
+
+/* The first of them are the starts in each quarter hour of the day, in standard time; 127 means 127 or more. */
+#define XRS_SHEET_QUARTERS 96
+
+/* The others: the year less 2000, the month and the day of a date that exists, and the pump. */
+#define XRS_SHEET_YEAR 96
+#define XRS_SHEET_MONTH 97
+#define XRS_SHEET_DAY 98
+#define XRS_SHEET_PUMP 99
+
+/*
+ * Writes the day sheet that has these symbols (XRS_SHEET_SIZE of them) into the word (n bytes). The value is 0. Refused with 1, 2, 6, 11
+ * and 12.
+ */
+uint32_t xrs_write_sheet(uint8_t width, const uint8_t *symbols, size_t symbols_length, uint8_t *word, size_t word_length);
+
+/*
+ * Writes the symbols of the day sheet (n symbols) into symbols (XRS_SHEET_SIZE bytes). The value is 0. Refused with 1, 2, 6, 9, 11, 12
+ * and 13.
+ */
+uint32_t xrs_read_sheet(uint8_t width, const uint8_t *word, size_t word_length, uint8_t *symbols, size_t symbols_length);
 
 #ifdef __cplusplus
 }

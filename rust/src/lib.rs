@@ -26,12 +26,18 @@ pub enum Refusal {
     Syndrome,
     /// The symbol 0 has no inverse.
     Nonzero,
+    /// The width of a day sheet is not 7.
+    SheetWidth,
+    /// The date of a day sheet does not exist.
+    Date,
+    /// A day sheet's symbols c_100 to c_126 are not zero.
+    Unused,
     /// A refusal number that stands at none of the others. The archive that this crate was written for gives none.
     Unknown(u8),
 }
 
 impl Refusal {
-    /// The refusal number of document 01.
+    /// The refusal number of the papers.
     pub fn number(self) -> u8 {
         match self {
             Refusal::Width => 1,
@@ -44,6 +50,9 @@ impl Refusal {
             Refusal::Padding => 8,
             Refusal::Syndrome => 9,
             Refusal::Nonzero => 10,
+            Refusal::SheetWidth => 11,
+            Refusal::Date => 12,
+            Refusal::Unused => 13,
             Refusal::Unknown(number) => number,
         }
     }
@@ -57,8 +66,9 @@ impl Refusal {
     /// ```
     pub fn from_number(number: u8) -> Option<Refusal> {
         use Refusal::*;
-        let known = [Width, Length, ErasureCount, ErasurePlace, ErasureDistinct, Symbol, Correctable, Padding, Syndrome, Nonzero];
-        let found = known.into_iter().find(|refusal| refusal.number() == number);
+        let base = [Width, Length, ErasureCount, ErasurePlace, ErasureDistinct, Symbol, Correctable, Padding, Syndrome, Nonzero];
+        let mut known = base.into_iter().chain([SheetWidth, Date, Unused]);
+        let found = known.find(|refusal| refusal.number() == number);
         found.or((number != 0).then_some(Unknown(number)))
     }
 }
@@ -83,6 +93,9 @@ impl std::fmt::Display for Refusal {
             Refusal::Padding => "a record's unused erasure bytes are not 255, or its tail is not 0",
             Refusal::Syndrome => "a syndrome is not zero",
             Refusal::Nonzero => "the symbol 0 has no inverse",
+            Refusal::SheetWidth => "the width of a day sheet is not 7",
+            Refusal::Date => "the date of a day sheet does not exist",
+            Refusal::Unused => "a day sheet's symbols c_100 to c_126 are not zero",
             Refusal::Unknown(number) => return write!(out, "refused with the number {number}, which is not known here"),
         })
     }
@@ -102,6 +115,8 @@ mod raw {
         pub fn xrs_restore_word(width: u8, word: *mut u8, word_length: usize, marks: *const u8, marks_length: usize) -> u32;
         pub fn xrs_restore_record(record: *mut u8, record_length: usize) -> u32;
         pub fn xrs_check_card(card: *const u8, card_length: usize) -> u64;
+        pub fn xrs_write_sheet(width: u8, symbols: *const u8, symbols_length: usize, word: *mut u8, word_length: usize) -> u32;
+        pub fn xrs_read_sheet(width: u8, word: *const u8, word_length: usize, symbols: *mut u8, symbols_length: usize) -> u32;
     }
 }
 
@@ -260,6 +275,61 @@ pub fn check_card(card: &[u8]) -> Result<(), u64> {
         0 => Ok(()),
         number => Err(number),
     }
+}
+
+/// The symbols of a day sheet, c_0 to c_99: the compressor starts in each quarter hour, then year, month, day and pump.
+pub const SHEET_SIZE: usize = 100;
+
+/// The quarter hours of a day, in standard time: the symbols below this are the starts in each, and 127 means 127 or more.
+pub const SHEET_QUARTERS: usize = 96;
+
+/// Where the year stands, less 2000.
+pub const SHEET_YEAR: usize = 96;
+
+/// Where the month stands, 1 to 12.
+pub const SHEET_MONTH: usize = 97;
+
+/// Where the day stands, from 1 on.
+pub const SHEET_DAY: usize = 98;
+
+/// Where the pump stands, 0 to 127.
+pub const SHEET_PUMP: usize = 99;
+
+/// Writes the day sheet that has these symbols into `word`: a codeword of width 7 that holds them, and zeros behind them.
+///
+/// ```
+/// let mut symbols = [0; xrs::SHEET_SIZE];
+/// symbols[30] = 4; // four starts from 7:30 on
+/// symbols[xrs::SHEET_YEAR..].copy_from_slice(&[24, 2, 29, 5]); // 29 February 2024, pump 5
+/// let mut word = [255; 132];
+/// assert_eq!(xrs::write_sheet(7, &symbols, &mut word), Ok(()));
+/// assert_eq!(word[5..105], symbols);
+/// assert_eq!(word[105..], [0; 27]);
+///
+/// symbols[xrs::SHEET_YEAR] = 100; // 2100 is no leap year
+/// assert_eq!(xrs::write_sheet(7, &symbols, &mut word), Err(xrs::Refusal::Date));
+/// ```
+pub fn write_sheet(width: u8, symbols: &[u8], word: &mut [u8]) -> Result<(), Refusal> {
+    unpack(unsafe { raw::xrs_write_sheet(width, symbols.as_ptr(), symbols.len(), word.as_mut_ptr(), word.len()) }).map(|_| ())
+}
+
+/// Writes the symbols of the day sheet `word` into `symbols`.
+///
+/// ```
+/// let mut data = [0; 127];
+/// data[96..100].copy_from_slice(&[24, 2, 29, 5]);
+/// let (mut word, mut symbols) = ([0; 132], [255; xrs::SHEET_SIZE]);
+/// xrs::encode(7, &data, &mut word).unwrap();
+/// assert_eq!(xrs::read_sheet(7, &word, &mut symbols), Ok(()));
+/// assert_eq!(symbols, data[..100]);
+///
+/// data[126] = 1;
+/// xrs::encode(7, &data, &mut word).unwrap();
+/// assert_eq!(xrs::read_sheet(7, &word, &mut symbols), Err(xrs::Refusal::Unused));
+/// assert_eq!(xrs::read_sheet(5, &[0; 36], &mut symbols), Err(xrs::Refusal::SheetWidth));
+/// ```
+pub fn read_sheet(width: u8, word: &[u8], symbols: &mut [u8]) -> Result<(), Refusal> {
+    unpack(unsafe { raw::xrs_read_sheet(width, word.as_ptr(), word.len(), symbols.as_mut_ptr(), symbols.len()) }).map(|_| ())
 }
 
 #[cfg(test)]

@@ -6,6 +6,7 @@ ghost use Rattle.field.specs.Answer.{outcome, sumOf, productOf, powerOf, invers
 ghost use Rattle.code.specs.Call.{done, membership, repair, encodeOf, encodeWritten, testOf, readOf, readWritten, restoreOf, restoreWritten};
 ghost use Rattle.card.specs.Record.{recordOf, recordWritten};
 ghost use Rattle.card.specs.Card.{Checks};
+ghost use Rattle.sheet.specs.Call.{writeSheetOf, writeSheetWritten, readSheetOf, readSheetWritten};
 ghost use Rattle.exports.specs.Packed.{packed, checkOf};
 use card::CardCheck;
 use card::cards::check;
@@ -15,6 +16,8 @@ use code::Repair;
 use field::Answer;
 use field::Exponent;
 use field::Verdict;
+use sheet::read_sheet;
+use sheet::write_sheet;
 
 fn wide(x: u8) -> u32
     ensures { λ r. ⌜ r ≡ x ⌝ }
@@ -144,4 +147,22 @@ pub extern "C" fn xrs_check_card(card: &[u8]) -> u64
         CardCheck::AllAccepted => 0,
         CardCheck::Refused(k) => k as u64,
     }
+}
+
+// Writes the day sheet that has these symbols into the word.
+#[no_mangle]
+pub extern "C" fn xrs_write_sheet(width: u8, symbols: &[u8], word: &mut [u8]) -> u32
+    ensures answer { λ r. ⌜ r ≡ packed (writeSheetOf width (now (symbols .entry)) (now (word .entry))) ⌝ }
+    ensures written { λ r. ⌜ now (word .exit) ≡ writeSheetWritten width (now (symbols .entry)) (now (word .entry)) ⌝ }
+{
+    pack_verdict(write_sheet(width, symbols, word))
+}
+
+// Writes the symbols of the day sheet into `symbols`.
+#[no_mangle]
+pub extern "C" fn xrs_read_sheet(width: u8, word: &[u8], symbols: &mut [u8]) -> u32
+    ensures answer { λ r. ⌜ r ≡ packed (readSheetOf width (now (word .entry)) (now (symbols .entry))) ⌝ }
+    ensures written { λ r. ⌜ now (symbols .exit) ≡ readSheetWritten width (now (word .entry)) (now (symbols .entry)) ⌝ }
+{
+    pack_verdict(read_sheet(width, word, symbols))
 }

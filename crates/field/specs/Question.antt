@@ -1,10 +1,11 @@
--- The questions of document 01, their refusal numbers, and what a call answers. Assumes nothing.
+-- The questions of documents 01 and 02, their refusal numbers, and what a call answers. Assumes nothing.
 use mathlib.Core.Bool.{Bool, true, false, _&&_, _||_}
 use mathlib.Core.List.{List, [], _∷_}
 use Prim.Native.Nat.{ℕ}
 use lib.Dec.{ltb, eqb}
 use Rattle.field.specs.declared.Question.{Question}
 use Rattle.field.specs.declared.Question.the-variants.{Width, Length, ErasureCount, Padding, ErasurePlace, ErasureDistinct, Symbol, Correctable, Syndrome, Nonzero}
+use Rattle.field.specs.declared.Question.the-variants.{SheetWidth, Date, Unused}
 use Rattle.field.specs.declared.Verdict.{Verdict}
 use Rattle.field.specs.declared.Verdict.the-variants.{Passed, Refused}
 
@@ -20,8 +21,11 @@ refusal Symbol = 6
 refusal Correctable = 7
 refusal Syndrome = 9
 refusal Nonzero = 10
+refusal SheetWidth = 11
+refusal Date = 12
+refusal Unused = 13
 
--- what a call answers, by the numbers of document 01: a value, or a refusal number
+-- what a call answers, by the documents' numbers: a value, or a refusal number
 pub data Outcome : Type 0 where
   accepted : ℕ → Outcome
   refused : ℕ → Outcome

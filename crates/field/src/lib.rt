@@ -12,7 +12,7 @@ use arithmetic::multiply;
 use arithmetic::order_of;
 use arithmetic::raise;
 
-// The questions of document 01, in its order. What it calls marks are the erasures here.
+// The questions of document 01, in its order, then those of document 02. What they call marks are the erasures here.
 pub enum Question {
     // Is the width 3, 5 or 7?
     Width,
@@ -34,6 +34,12 @@ pub enum Question {
     Syndrome,
     // Is the symbol to be inverted other than 0?
     Nonzero,
+    // Has the day sheet width 7?
+    SheetWidth,
+    // Does the day sheet's date exist?
+    Date,
+    // Are the day sheet's unused symbols zero?
+    Unused,
 }
 
 // Every question so far was answered yes, or one was answered no.
@@ -51,7 +57,7 @@ pub enum Answer {
 // An exponent. A place of a word is a type of its own.
 pub struct Exponent(pub u16);
 
-// The number by which document 01 names the refusal.
+// The number by which the documents name the refusal.
 pub fn refusal_number(q: Question) -> u8
     ensures { λ r. ⌜ r ≡ refusal q ⌝ }
 {
@@ -66,6 +72,9 @@ pub fn refusal_number(q: Question) -> u8
         Question::Correctable => 7,
         Question::Syndrome => 9,
         Question::Nonzero => 10,
+        Question::SheetWidth => 11,
+        Question::Date => 12,
+        Question::Unused => 13,
     }
 }
 

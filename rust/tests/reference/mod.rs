@@ -1,8 +1,9 @@
-//! An independent implementation, written from document 01 and sharing no code or table with the library. A refusal is its number.
+//! An independent implementation, written from documents 01 and 02 and sharing no code or table with the library. A refusal is its number.
 #![allow(dead_code)] // each test file uses its part
 
 pub mod card;
 pub mod search;
+pub mod sheet;
 
 /// The reduction polynomial of a width.
 pub fn modulus(width: u8) -> Option<u32> {

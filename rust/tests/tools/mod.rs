@@ -75,6 +75,16 @@ pub fn check_card(card: &[u8]) -> Result<(), u64> {
     lend(card, &[], |card, _| Ok(xrs::check_card(card))).0.expect("the card check refuses no card")
 }
 
+/// `xrs::write_sheet` on copies of the slices: its answer, and the word afterwards.
+pub fn write_sheet(width: u8, symbols: &[u8], word: &[u8]) -> (Result<(), Refusal>, Vec<u8>) {
+    lend(symbols, word, |symbols, word| xrs::write_sheet(width, symbols, word))
+}
+
+/// `xrs::read_sheet` on copies of the slices: its answer, and the symbols afterwards.
+pub fn read_sheet(width: u8, word: &[u8], symbols: &[u8]) -> (Result<(), Refusal>, Vec<u8>) {
+    lend(word, symbols, |word, symbols| xrs::read_sheet(width, word, symbols))
+}
+
 /// The generator xorshift64 from a fixed seed, so that each run tries the same.
 pub struct Chance(u64);
 
