@@ -320,6 +320,11 @@ static void cards(void) {
     card[XRS_RECORD_SIZE] = 4;
     check("record 2 of width 4 does not", xrs_check_card(card, sizeof card) == 2);
     check("the record before it does", xrs_check_card(card, XRS_RECORD_SIZE) == 0);
+    memset(card, 255, XRS_RECORD_SIZE);
+    check("a blank slot does", xrs_check_card(card, XRS_RECORD_SIZE) == 0);
+    check("a blank slot is counted", xrs_check_card(card, sizeof card) == 2);
+    check("a shorter piece of 255 is not blank", xrs_check_card(card, XRS_RECORD_SIZE - 1) == 1);
+    answers("restore a blank slot", xrs_restore_record(card, XRS_RECORD_SIZE), XRS_REFUSED_WIDTH, 0);
 }
 
 /* 29 February 2024, pump 5, and counts from 0 to 127 in the quarter hours. */

@@ -84,18 +84,22 @@ uint32_t xrs_restore_word(uint8_t width, uint8_t *word, size_t word_length, cons
 
 /* ---- The card. */
 
-/* Bytes of a record: the width, the number of marks, four bytes for the marks (255 where unused), the word, and zeros. */
+/*
+ * Bytes of a slot of a card, which holds a record or is blank. A record: the width, the number of marks, four bytes for the marks (255 where
+ * unused), the word, and zeros. A blank slot: every byte is 255.
+ */
 #define XRS_RECORD_SIZE 138
 
 /*
  * Restores the word of a record with the marks that the record names, and leaves the record without marks. The value is the number of
- * unmarked places changed, 0 to 2. Refused with 1 to 8; the length is asked before the width.
+ * unmarked places changed, 0 to 2. Refused with 1 to 8; the length is asked before the width. A blank slot is refused with 1.
  */
 uint32_t xrs_restore_record(uint8_t *record, size_t record_length);
 
 /*
  * Would every record of the card be accepted by xrs_restore_record? Returns 0 for yes, else the number of a record that would not be,
- * counted from 1. A last piece shorter than a record is one that would not be. A card of length 0 passes.
+ * counted from 1. Blank slots are passed over, and counted. A last piece shorter than a slot is a record that would not be accepted, even
+ * where all its bytes are 255. A card of length 0 passes.
  */
 uint64_t xrs_check_card(const uint8_t *card, size_t card_length);
 

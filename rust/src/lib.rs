@@ -257,7 +257,8 @@ pub fn restore_record(record: &mut [u8]) -> Result<u8, Refusal> {
 }
 
 /// Would every record of the card be accepted by `restore_record`? If not, the `Err` holds the number of one that would not be, counted
-/// from 1. A last piece shorter than a record is one that would not be. An empty card passes.
+/// from 1. A slot of bytes 255 alone is blank: it is passed over, and counted. A last piece shorter than a slot is a record that would not
+/// be accepted, even where all its bytes are 255. An empty card passes.
 ///
 /// ```
 /// let mut card = [0; 2 * xrs::RECORD_SIZE];
@@ -268,6 +269,8 @@ pub fn restore_record(record: &mut [u8]) -> Result<u8, Refusal> {
 /// assert_eq!(xrs::check_card(&card[..200]), Err(2));
 /// card[0] = 4;
 /// assert_eq!(xrs::check_card(&card), Err(1));
+/// card[..xrs::RECORD_SIZE].fill(255);
+/// assert_eq!(xrs::check_card(&card), Ok(()));
 /// assert_eq!(xrs::check_card(&[]), Ok(()));
 /// ```
 pub fn check_card(card: &[u8]) -> Result<(), u64> {

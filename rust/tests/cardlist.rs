@@ -3,7 +3,7 @@
 mod reference;
 mod tools;
 
-use reference::card::{judge, list, record, Listing, LISTED, RECORD};
+use reference::card::{is_blank, judge, list, record, Listing, LISTED, RECORD};
 use std::fs::{self, File};
 use std::io::Write;
 use std::process::{Command, Output, Stdio};
@@ -34,6 +34,14 @@ fn listed(make: impl FnOnce(&mut dyn Write) + Send) -> String {
         program.wait_with_output().expect("cardlist ends")
     });
     text_of(output)
+}
+
+/// A worn record of any width, or now and then a blank slot.
+fn slot(chance: &mut Chance) -> Vec<u8> {
+    match chance.below(8) {
+        0 => vec![255; RECORD],
+        n => worn(chance, [3, 5, 7][n % 3]),
+    }
 }
 
 /// The listing of these bytes.
@@ -81,11 +89,51 @@ fn short_last_pieces() {
 }
 
 #[test]
+fn new_cards() {
+    for slots in [1, 2, 399, 400, 401, 900] {
+        let wanted: String = (1..=slots).map(|number| format!("{number} blank\n")).collect();
+        assert_eq!(listed_bytes(&vec![255; slots * RECORD]), wanted + "total 0 0 0\n", "{slots} slots");
+    }
+}
+
+#[test]
+fn blank_slots_between_records() {
+    let small = record(3, &[0; 12], &[]);
+    let mut refused = small.clone();
+    refused[1] = 9;
+    let card = [vec![255; RECORD], small, vec![255; 2 * RECORD], refused, vec![255; RECORD]].concat();
+    assert_eq!(listed_bytes(&card), "1 blank\n2 3 0 0\n3 blank\n4 blank\n5 3 3 0\n6 blank\ntotal 1 1 0\n");
+}
+
+/// A slot is blank in all its bytes or not at all.
+#[test]
+fn almost_blank_slots() {
+    for at in 0..RECORD {
+        let mut card = vec![255; 2 * RECORD];
+        card[at] = 254;
+        let first = card[0];
+        assert_eq!(listed_bytes(&card), format!("1 {first} 1 0\n2 blank\ntotal 0 1 0\n"), "byte {at}");
+    }
+}
+
+/// A shorter last piece is a record that is refused with 2, not a blank slot.
+#[test]
+fn blank_bytes_at_the_end() {
+    for (length, wanted) in [
+        (RECORD - 1, "1 255 2 0\ntotal 0 1 0\n"),
+        (RECORD, "1 blank\ntotal 0 0 0\n"),
+        (RECORD + 1, "1 blank\n2 255 2 0\ntotal 0 1 0\n"),
+    ] {
+        assert_eq!(listed_bytes(&vec![255; length]), wanted);
+    }
+}
+
+#[test]
 fn random_cards() {
     let mut chance = Chance::new();
     for round in 0..12 {
         let records = 1 + chance.below(900);
-        let mut card: Vec<u8> = (0..records).flat_map(|_| { let width = [3, 5, 7][chance.below(3)]; worn(&mut chance, width) }).collect();
+        let mut card: Vec<u8> = (0..records).flat_map(|_| slot(&mut chance)).collect();
         card.truncate(card.len() - chance.below(RECORD));
         assert_eq!(listed_bytes(&card), list(&card), "round {round}");
     }
@@ -139,7 +187,7 @@ fn a_write_that_fails() {
     }
 }
 
-/// Seven records that take turns on a large card, no two of them with the same line.
+/// Seven records and a blank slot that take turns on a large card, no two of them with the same line.
 fn turns() -> Vec<Vec<u8>> {
     let mut chance = Chance::new();
     let clean = codeword(&mut chance, 7);
@@ -158,19 +206,26 @@ fn turns() -> Vec<Vec<u8>> {
         record(3, &large, &[]),
         record(3, &small, &[12]),
         record(9, &small, &[]),
+        vec![255; RECORD],
     ]
 }
 
-/// Lists so many records and further bytes, made one after the other, and compares the text with the reference.
-fn large_card(records: usize, further: &[u8]) {
+/// Lists so many slots and further bytes, made one after the other, and compares the text with the reference.
+fn large_card(slots: usize, further: &[u8]) {
     let turns = turns();
     let judged: Vec<_> = turns.iter().map(|record| judge(record)).collect();
-    assert_eq!(judged, [Ok(0), Ok(0), Ok(1), Ok(2), Err(6), Err(4), Err(1)]);
+    assert_eq!(judged, [Ok(0), Ok(0), Ok(1), Ok(2), Err(6), Err(4), Err(1), Err(1)]);
     let mut wanted = Listing::default();
-    (0..records).for_each(|i| wanted.add(turns[i % 7][0], judged[i % 7]));
+    for i in (0..8).cycle().take(slots) {
+        if is_blank(&turns[i]) {
+            wanted.add_blank();
+        } else {
+            wanted.add(turns[i][0], judged[i]);
+        }
+    }
     let text = listed(|input| {
         let several = turns.concat();
-        let (rounds, rest) = (records / 7, records % 7);
+        let (rounds, rest) = (slots / 8, slots % 8);
         (0..rounds).for_each(|_| input.write_all(&several).expect("all of the card is read"));
         input.write_all(&several[..rest * RECORD]).expect("all of the card is read");
         input.write_all(further).expect("a pipe has room for it");
@@ -184,8 +239,9 @@ fn tail(text: &str) -> &str {
     &text[text.len().saturating_sub(60)..]
 }
 
+/// The last slot is blank.
 #[test]
-fn as_many_records_as_are_listed() {
+fn as_many_slots_as_are_listed() {
     large_card(LISTED, &[]);
 }
 
@@ -197,4 +253,9 @@ fn one_byte_more() {
 #[test]
 fn two_records_more() {
     large_card(LISTED, &turns()[..2].concat());
+}
+
+#[test]
+fn a_blank_slot_more() {
+    large_card(LISTED, &[255; RECORD]);
 }

@@ -3,7 +3,7 @@
 mod reference;
 mod tools;
 
-use reference::card::{judge, record, restore, RECORD};
+use reference::card::{is_blank, judge, record, restore, RECORD};
 use tools::wear::{codeword, worn};
 use tools::{check_card, restore_record, Chance};
 use xrs::Refusal;
@@ -91,14 +91,22 @@ fn restored_records_stay() {
     assert!(accepted > 100, "{accepted} of 500 records were restored");
 }
 
-/// Any number of a record that would be refused will do.
+/// Only a card has blank slots: as a record a blank slot has the width 255.
+#[test]
+fn a_blank_slot_as_a_record() {
+    assert_eq!(compare(&[255; RECORD]), Err(Refusal::Width));
+    assert_eq!(compare(&[255; RECORD - 1]), Err(Refusal::Length));
+}
+
+/// Blank slots are passed over. Any number of a record that would be refused will do.
 fn compare_check(card: &[u8]) {
+    let is_fine = |piece: &[u8]| is_blank(piece) || judge(piece).is_ok();
     let pieces: Vec<&[u8]> = card.chunks(RECORD).collect();
     match check_card(card) {
-        Ok(()) => assert!(pieces.iter().all(|piece| judge(piece).is_ok()), "a card passed that has a record to be refused"),
+        Ok(()) => assert!(pieces.iter().all(|piece| is_fine(piece)), "a card passed that has a record to be refused"),
         Err(number) => {
             let piece = pieces.get((number as usize).wrapping_sub(1)).expect("the number of a record");
-            assert!(judge(piece).is_err(), "record {number} would be accepted");
+            assert!(!is_fine(piece), "record {number} is blank or would be accepted");
         }
     }
 }
@@ -119,9 +127,22 @@ fn cards() {
         card[bad * RECORD + 1] = 5;
         assert_eq!(check_card(&card), Err(bad as u64 + 1), "the one record that would be refused");
     }
+    for slots in 0..4 {
+        for length in [0, 1, RECORD - 1, RECORD] {
+            let card = [vec![255; slots * RECORD], clean[..length].to_vec()].concat();
+            let wanted = if length % RECORD == 0 { Ok(()) } else { Err(slots as u64 + 1) };
+            assert_eq!(check_card(&card), wanted, "{slots} blank slots and {length} bytes of a record");
+        }
+        assert_eq!(check_card(&vec![255; slots * RECORD + RECORD - 1]), Err(slots as u64 + 1), "a shorter last piece is never blank");
+    }
+    for at in 0..RECORD {
+        let mut card = vec![255; 3 * RECORD];
+        card[RECORD + at] = 254;
+        assert_eq!(check_card(&card), Err(2), "byte {at} of slot 2 is not 255");
+    }
     for _ in 0..200 {
-        let records = chance.below(6);
-        let card: Vec<u8> = (0..records).flat_map(|_| worn(&mut chance, 3)).collect();
+        let slots = chance.below(6);
+        let card: Vec<u8> = (0..slots).flat_map(|_| if chance.below(3) == 0 { vec![255; RECORD] } else { worn(&mut chance, 3) }).collect();
         compare_check(&card[..card.len() - chance.below(2).min(card.len())]);
     }
 }

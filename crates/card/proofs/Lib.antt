@@ -1,6 +1,7 @@
 -- Laws of the card's definitions, and what the proofs of several functions use. Assumes nothing.
 pub mod Layouts
 pub mod Recording
+pub mod Blank
 pub mod Checking
 pub mod Writing
 pub mod Lines

@@ -4,18 +4,18 @@ use mathlib.Core.Bool.{Bool, true}
 use mathlib.Core.List.{List}
 use Prim.Native.Nat.{ℕ, _+_, _*_, _≤_}
 use lib.ListN.{length}
-use Rattle.field.specs.Question.{Outcome}
+use Rattle.card.specs.declared.Totals.{Totals}
 use Rattle.card.specs.declared.Progress.{Progress}
 use Rattle.card.specs.declared.text.Listed.{Listed}
 use Rattle.card.specs.Record.{recordSize}
-use Rattle.card.specs.Listing.{counted, partProgress}
+use Rattle.card.specs.Listing.{partProgress}
 use Rattle.card.specs.Placed.{Writes}
 
 -- a number has at most 20 digits; with the byte behind it, it is a field of a line
 abbrev pub longestField : ℕ
 longestField = 21
 
--- the line of a record has four fields
+-- the line of a record has four fields; that of a blank slot is shorter
 abbrev pub longestLine : ℕ
 longestLine = 4 * longestField
 
@@ -23,7 +23,7 @@ longestLine = 4 * longestField
 abbrev pub longestTotal : ℕ
 longestTotal = 6 + 3 * longestField
 
--- a batch has at most so many records
+-- a batch has at most so many slots
 abbrev pub batchRecords : ℕ
 batchRecords = 400
 
@@ -38,9 +38,9 @@ pub record Within (b : ℕ) (s : Progress) : Type 0 where
   pub refused : s .totals .refused ≤ b
   pub changed : s .totals .changed ≤ b
 
--- one record further
-abbrev pub advanced : Progress → Outcome → Progress
-advanced s o = record { next = s .next + 1; totals = counted (s .totals) o }
+-- one slot further, with these totals
+abbrev pub further : Progress → Totals → Progress
+further s t = record { next = s .next + 1; totals = t }
 
 -- the text xs is written behind what is used of the buffer, and the listing has come to s
 pub record Lists (used : ℕ) (xs : List ℕ) (s : Progress) (old : List ℕ) (r : Listed) (new : List ℕ) : Type 0 where

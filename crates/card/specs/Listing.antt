@@ -8,7 +8,7 @@ use Rattle.field.specs.Question.{Outcome, accepted, refused}
 use Rattle.card.specs.declared.Totals.{Totals}
 use Rattle.card.specs.declared.Progress.{Progress}
 use Rattle.card.specs.Record.{recordSize, recordOf}
-use Rattle.card.specs.Card.{recordCount, recordAt}
+use Rattle.card.specs.Card.{recordCount, recordAt, isBlank}
 
 -- the decimal digits of n as text, without leading zeros; the first argument bounds their number
 unfoldable pub digitsFrom : ℕ → ℕ → List ℕ
@@ -44,28 +44,44 @@ lineText n w r k = decimal n ++ (space ∷ decimal w ++ (space ∷ decimal r ++ 
 abbrev pub recordLine : ℕ → List ℕ → List ℕ
 recordLine n bytes = lineText n (getD bytes 0 0) (refusalOf (recordOf bytes)) (changesOf (recordOf bytes))
 
+-- the word blank
+abbrev pub blankWord : List ℕ
+blankWord = 98 ∷ 108 ∷ 97 ∷ 110 ∷ 107 ∷ []
+
+-- the line of a blank slot: its number, and the word
+abbrev pub blankLine : ℕ → List ℕ
+blankLine n = decimal n ++ (space ∷ blankWord ++ (newline ∷ []))
+
+-- the line of a slot
+abbrev pub slotLine : ℕ → List ℕ → List ℕ
+slotLine n slot = cond (isBlank slot) (blankLine n) (recordLine n slot)
+
 -- the totals with one more record
 abbrev pub counted : Totals → Outcome → Totals
 counted t (accepted k) = record { accepted = t .accepted + 1; refused = t .refused; changed = t .changed + k }
 counted t (refused n) = record { accepted = t .accepted; refused = t .refused + 1; changed = t .changed }
 
--- ---- part by part: a part of a card is a row of records, the last of which may be shorter
+-- the totals with one more slot: a blank one enters none of them
+abbrev pub slotCounted : Totals → List ℕ → Totals
+slotCounted t slot = cond (isBlank slot) t (counted t (recordOf slot))
 
--- the lines of the first k records of the part, the first with the number n
+-- ---- part by part: a part of a card is a row of slots, the last of which may be shorter
+
+-- the lines of the first k slots of the part, the first with the number n
 unfoldable pub linesOf : ℕ → List ℕ → ℕ → List ℕ
 linesOf n part zero = []
-linesOf n part (suc k) = linesOf n part k ++ recordLine (n + k) (recordAt part k)
+linesOf n part (suc k) = linesOf n part k ++ slotLine (n + k) (recordAt part k)
 
--- the totals t, with the first k records of the part
+-- the totals t, with the first k slots of the part
 unfoldable pub totalsOf : Totals → List ℕ → ℕ → Totals
 totalsOf t part zero = t
-totalsOf t part (suc k) = counted (totalsOf t part k) (recordOf (recordAt part k))
+totalsOf t part (suc k) = slotCounted (totalsOf t part k) (recordAt part k)
 
--- how far the listing has come behind the first k records of the part: the number of the next record, and the totals
+-- how far the listing has come behind the first k slots of the part: the number of the next slot, and the totals
 abbrev pub progressAt : Progress → List ℕ → ℕ → Progress
 progressAt s part k = record { next = s .next + k; totals = totalsOf (s .totals) part k }
 
--- the lines of all records of the part, where the listing has come to s before it
+-- the lines of all slots of the part, where the listing has come to s before it
 abbrev pub partLines : Progress → List ℕ → List ℕ
 partLines s part = linesOf (s .next) part (recordCount (length part))
 
@@ -88,7 +104,7 @@ totalLine t =
 abbrev pub moreLine : List ℕ
 moreLine = 109 ∷ 111 ∷ 114 ∷ 101 ∷ newline ∷ []
 
--- no more records than this are listed
+-- no more records than this are listed, blank slots among them
 abbrev pub mostRecords : ℕ
 mostRecords = 1000000
 

@@ -1,15 +1,16 @@
-// The card check.
+// Slots of a card, and the card check.
 ghost use mathlib.Core.Path.{_≡_};
 ghost use Prim.Native.Nat.{_≤_};
 ghost use lib.ListN.{length, take, drop};
 ghost use Rattle.card.specs.Record.{recordSize};
-ghost use Rattle.card.specs.Card.{passes, Checks};
+ghost use Rattle.card.specs.Card.{isBlank, passes, fine, Checks};
 use crate::CardCheck;
 use crate::records::RECORD;
+use crate::records::all_are;
 use crate::records::probe;
 use code::Repair;
 
-// The record of the card that begins at byte `at`; the last may be shorter.
+// The slot of the card that begins at byte `at`; the last may be shorter.
 pub(crate) fn record_from(card: &[u8], at: usize) -> &[u8]
     requires { ⌜ at ≤ length (now card) ⌝ }
     ensures { λ r. ⌜ now r ≡ take recordSize (drop at (now (card .entry))) ⌝ }
@@ -19,6 +20,16 @@ pub(crate) fn record_from(card: &[u8], at: usize) -> &[u8]
     }
     let end = at + RECORD;
     &card[at..end]
+}
+
+// Is the slot blank? The first byte that is not 255 says no, and a record's first byte is its width.
+pub(crate) fn is_blank(slot: &[u8]) -> bool
+    ensures { λ r. ⌜ r ≡ isBlank (now (slot .entry)) ⌝ }
+{
+    if slot.len() != RECORD {
+        return false;
+    }
+    all_are(slot, 255)
 }
 
 // Would the record be accepted?
@@ -31,14 +42,24 @@ fn would_pass(bytes: &[u8]) -> bool
     }
 }
 
-// Looks at each record in turn, and stops at the first that would be refused.
+// Is the slot blank, or would its record be accepted?
+fn is_fine(slot: &[u8]) -> bool
+    ensures { λ r. ⌜ r ≡ fine (now (slot .entry)) ⌝ }
+{
+    if is_blank(slot) {
+        return true;
+    }
+    would_pass(slot)
+}
+
+// Looks at each slot in turn, and stops at the first whose record would be refused.
 pub fn check(card: &[u8]) -> CardCheck
     ensures { λ r. ⌜ Checks (now (card .entry)) r ⌝ }
 {
     let mut at = 0;
     let mut i = 0;
     while at < card.len() {
-        if !would_pass(record_from(card, at)) {
+        if !is_fine(record_from(card, at)) {
             return CardCheck::Refused(i + 1);
         }
         if card.len() - at <= RECORD {

@@ -3,7 +3,8 @@ pub mod cards;
 pub mod records;
 pub mod text;
 
-// What the card check answers: every record would be accepted, or the number of some record that would not be, counted from 1.
+// What the card check answers: every record would be accepted, or the number of some record that would not be, counted from 1. Blank slots
+// are passed over, and counted.
 pub enum CardCheck {
     AllAccepted,
     Refused(usize),
@@ -16,7 +17,7 @@ pub struct Totals {
     pub changed: u64,
 }
 
-// How far a listing has come: the number of the next record, and the totals.
+// How far a listing has come: the number of the next slot, and the totals.
 pub struct Progress {
     pub next: u64,
     pub totals: Totals,

@@ -21,7 +21,7 @@ const HEADER: usize = 2 + ERASURE_BYTES;
 pub(crate) const RECORD: usize = HEADER + 132;
 
 // Is every byte x?
-fn all_are(xs: &[u8], x: u8) -> bool
+pub(crate) fn all_are(xs: &[u8], x: u8) -> bool
     ensures { λ r. ⌜ r ≡ allAre x (now (xs .entry)) ⌝ }
 {
     let mut i = 0;

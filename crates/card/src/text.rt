@@ -3,14 +3,15 @@ ghost use mathlib.Core.Path.{_≡_};
 ghost use mathlib.Core.List.{[], _∷_, _++_};
 ghost use Prim.Native.Nat.{_+_, _*_, _^_, _≤_, _<_};
 ghost use lib.ListN.{length};
-ghost use Rattle.card.specs.Listing.{decimal, lineText, totalLine, moreLine, recordLine, refusalOf, changesOf};
-ghost use Rattle.card.specs.Listing.{partLines, partProgress};
+ghost use Rattle.card.specs.Listing.{decimal, lineText, blankLine, totalLine, moreLine, recordLine, slotLine, refusalOf, changesOf};
+ghost use Rattle.card.specs.Listing.{counted, slotCounted, partLines, partProgress};
 ghost use Rattle.code.specs.Call.{repair};
 ghost use Rattle.card.specs.Record.{recordOf};
-ghost use Rattle.card.specs.Batch.{longestField, longestLine, longestTotal, batchRecords, batchSize, Within, advanced, Lists};
+ghost use Rattle.card.specs.Batch.{longestField, longestLine, longestTotal, batchRecords, batchSize, Within, further, Lists};
 ghost use Rattle.card.specs.Placed.{Writes};
 use crate::Progress;
 use crate::Totals;
+use crate::cards::is_blank;
 use crate::cards::record_from;
 use crate::records::RECORD;
 use crate::records::probe;
@@ -80,6 +81,15 @@ fn put_line(out: &mut [u8], at: usize, number: u64, width: u8, refusal: u8, chan
     put_field(out, c, changed as u64, b'\n')
 }
 
+// Writes the line of a blank slot: its number, and the word.
+fn put_blank(out: &mut [u8], at: usize, number: u64) -> usize
+    requires { ⌜ at + longestLine ≤ length (now out) ⌝ }
+    ensures { λ r. ⌜ Writes (now (out .entry)) at (blankLine number) (now (out .exit)) r ⌝ }
+{
+    let a = put_field(out, at, number, b' ');
+    put_bytes(out, a, b"blank\n")
+}
+
 // Writes the last line of a listing.
 pub fn put_total(out: &mut [u8], at: usize, t: Totals) -> usize
     requires { ⌜ at + longestTotal ≤ length (now out) ⌝ }
@@ -122,7 +132,7 @@ fn changes_of(answer: Repair) -> u8
 // One record further: the next number, and the record counted.
 fn advance(s: Progress, answer: Repair) -> Progress
     requires { ⌜ Within (2 ^ 63) s ⌝ }
-    ensures { λ r. ⌜ r ≡ advanced s (repair answer) ⌝ }
+    ensures { λ r. ⌜ r ≡ further s (counted (s .totals) (repair answer)) ⌝ }
 {
     let next = s.next + 1;
     let t = s.totals;
@@ -152,7 +162,7 @@ fn list_record(bytes: &[u8], done: Listed, out: &mut [u8]) -> Listed
     ensures { λ r.
         ⌜
         Lists (done .used) (recordLine (done .progress .next) (now (bytes .entry)))
-        (advanced (done .progress) (recordOf (now (bytes .entry)))) (now (out .entry)) r (now (out .exit))
+        (further (done .progress) (counted (done .progress .totals) (recordOf (now (bytes .entry))))) (now (out .entry)) r (now (out .exit))
         ⌝ }
 {
     let answer = probe(bytes);
@@ -171,7 +181,44 @@ fn list_record(bytes: &[u8], done: Listed, out: &mut [u8]) -> Listed
     }
 }
 
-// Lists the records of a batch, whole ones and a shorter last piece, where the listing has come to s before it. The bound on the numbers
+// Lists a blank slot, which enters no total.
+fn list_blank(done: Listed, out: &mut [u8]) -> Listed
+    requires { ⌜ (done .used + longestLine ≤ length (now out)) × Within (2 ^ 63) (done .progress) ⌝ }
+    ensures { λ r.
+        ⌜
+        Lists (done .used) (blankLine (done .progress .next)) (further (done .progress) (done .progress .totals)) (now (out .entry)) r
+        (now (out .exit))
+        ⌝ }
+{
+    let s = done.progress;
+    let used = put_blank(out, done.used, s.next);
+    let totals = s.totals;
+    Listed {
+        used,
+        progress: Progress {
+            next: s.next + 1,
+            totals,
+        },
+    }
+}
+
+// Lists one slot, of which there is at least one byte.
+fn list_slot(slot: &[u8], done: Listed, out: &mut [u8]) -> Listed
+    requires { ⌜ (0 < length (now slot)) × (done .used + longestLine ≤ length (now out)) × Within (2 ^ 63) (done .progress) ⌝ }
+    ensures { λ r.
+        ⌜
+        Lists (done .used) (slotLine (done .progress .next) (now (slot .entry)))
+        (further (done .progress) (slotCounted (done .progress .totals) (now (slot .entry)))) (now (out .entry)) r (now (out .exit))
+        ⌝ }
+{
+    if is_blank(slot) {
+        list_blank(done, out)
+    } else {
+        list_record(slot, done, out)
+    }
+}
+
+// Lists the slots of a batch, whole ones and a shorter last piece, where the listing has come to s before it. The bound on the numbers
 // keeps every sum within 64 bits.
 pub fn list_records(batch: &[u8], s: Progress, out: &mut [u8]) -> Listed
     requires { ⌜ (length (now batch) ≤ batchSize) × (batchRecords * longestLine ≤ length (now out)) × Within (2 ^ 62) s ⌝ }
@@ -187,7 +234,7 @@ pub fn list_records(batch: &[u8], s: Progress, out: &mut [u8]) -> Listed
     };
     let mut i = 0;
     while i < n {
-        done = list_record(record_from(batch, i * RECORD), done, out);
+        done = list_slot(record_from(batch, i * RECORD), done, out);
         i += 1;
     }
     done

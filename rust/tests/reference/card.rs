@@ -1,4 +1,4 @@
-//! Records, cards and listings, as document 01 describes them. Words are restored by `search`.
+//! Records, cards and listings, as document 01 describes them, with the blank slots of document 02. Words are restored by `search`.
 
 use super::{modulus, places, search};
 
@@ -18,7 +18,12 @@ pub fn record(width: u8, word: &[u8], marks: &[u8]) -> Vec<u8> {
     bytes
 }
 
-/// What a piece of a card gets: the number of changed places, or the refusal number.
+/// Is the piece a slot that was never written? A shorter one is not, even where all its bytes are 255.
+pub fn is_blank(piece: &[u8]) -> bool {
+    piece.len() == RECORD && piece.iter().all(|&byte| byte == 255)
+}
+
+/// What a piece of a card gets as a record: the number of changed places, or the refusal number.
 pub fn judge(piece: &[u8]) -> Result<u8, u8> {
     restore(piece).map(|(changed, _)| changed)
 }
@@ -70,6 +75,12 @@ impl Listing {
         self.text += &format!("{} {first} {refusal} {changed}\n", self.number);
     }
 
+    /// Adds the line of a blank slot.
+    pub fn add_blank(&mut self) {
+        self.number += 1;
+        self.text += &format!("{} blank\n", self.number);
+    }
+
     /// The whole text, with the line `more` where the card goes on.
     pub fn end(self, more: bool) -> String {
         let more = if more { "more\n" } else { "" };
@@ -80,6 +91,12 @@ impl Listing {
 /// The listing of a card.
 pub fn list(card: &[u8]) -> String {
     let mut listing = Listing::default();
-    card.chunks(RECORD).take(LISTED).for_each(|piece| listing.add(piece[0], judge(piece)));
+    for piece in card.chunks(RECORD).take(LISTED) {
+        if is_blank(piece) {
+            listing.add_blank();
+        } else {
+            listing.add(piece[0], judge(piece));
+        }
+    }
     listing.end(card.len() > LISTED * RECORD)
 }

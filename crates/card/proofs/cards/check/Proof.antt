@@ -18,8 +18,8 @@ loop-holds c = walked-start (c .before .args .card .now)
 record-from-requires : tie.Need-record-from-requires Inv-loop μ-loop
 record-from-requires c κs = search needs
 
-would-pass-requires : tie.Need-would-pass-requires Inv-loop μ-loop
-would-pass-requires c κs = search needs
+is-fine-requires : tie.Need-is-fine-requires Inv-loop μ-loop
+is-fine-requires c κs = search needs
 
 add-t8 : tie.Need-add-t8 Inv-loop μ-loop
 add-t8 c = search needs
@@ -27,7 +27,7 @@ add-t8 c = search needs
 returns : tie.Need-returns Inv-loop μ-loop
 returns c =
     let turn = c .before .before .before .before in
-    let called = c .before .would-pass in
+    let called = c .before .is-fine in
     checks-refused (turn .before .before .args .card .now) (turn .loop .at) (turn .loop .i) (turn .loop .inv) (called .result) _
     (called .ensures) (c .before .before .record-from .ensures) (c .before .before .before .loop-test .taken) (c .if1 .taken)
 
@@ -37,7 +37,7 @@ sub-if2 c = search needs
 returns-2 : tie.Need-returns-2 Inv-loop μ-loop
 returns-2 c =
     let turn = c .before .before .before .before .before in
-    let called = c .before .before .would-pass in
+    let called = c .before .before .is-fine in
     checks-last (turn .before .before .args .card .now) (turn .loop .at) (turn .loop .i) (turn .loop .inv) (called .result) _
     (called .ensures) (c .before .before .before .record-from .ensures) (c .before .before .before .before .loop-test .taken)
     (c .if2 .taken) (c .before .if1 .left)
@@ -54,7 +54,7 @@ loop-less c = search needs
 loop-again : tie.Need-loop-again Inv-loop μ-loop
 loop-again c =
     let turn = c .before .before .before .before .before in
-    let called = c .before .before .would-pass in
+    let called = c .before .before .is-fine in
     walked-on (turn .before .before .args .card .now) (turn .loop .at) (turn .loop .i) (turn .loop .inv) (called .result) _
     (called .ensures) (c .before .before .before .record-from .ensures) (c .before .if1 .left)
 
@@ -71,7 +71,7 @@ check-spec =
     μ-loop
     loop-holds
     record-from-requires
-    would-pass-requires
+    is-fine-requires
     add-t8
     returns
     sub-if2

@@ -3,7 +3,8 @@ use borrow.Author.Needs.{needs}
 use mathlib.Core.Path.{sym, ap}
 use Rattle.code.specs.Call.{repair}
 use Rattle.code.specs.declared.Repair.{Repair}
-use Rattle.card.specs.Batch.{advanced}
+use Rattle.card.specs.Listing.{counted}
+use Rattle.card.specs.Batch.{further}
 use Rattle.card.proofs.text.advance.Statement.{statement}
 use Rattle.card.proofs.text.advance.Tie as tie
 
@@ -31,12 +32,14 @@ add-t11 c = search needs
 returns : tie.Need-returns
 returns c =
     let told = c .before .before .before in
-    ap (λ (x : Repair). advanced (told .before .before .before .before .args .s) (repair x)) (sym (told .answer .given .1))
+    let s = told .before .before .before .before .args .s in
+    ap (λ (x : Repair). further s (counted (s .totals) (repair x))) (sym (told .answer .given .1))
 
 returns-2 : tie.Need-returns-2
 returns-2 c =
     let told = c .before in
-    ap (λ (x : Repair). advanced (told .before .before .before .before .args .s) (repair x)) (sym (told .enum-told .given .1))
+    let s = told .before .before .before .before .args .s in
+    ap (λ (x : Repair). further s (counted (s .totals) (repair x))) (sym (told .enum-told .given .1))
 
 pub advance-spec : {M : Type 1} → statement M
 advance-spec =

@@ -1,7 +1,9 @@
 -- `card::text::list_record` meets its contract: its calls say what is written and counted. Assumes nothing.
 use borrow.Author.Needs.{needs}
 use mathlib.Core.Path.{_∙_, ap}
-use Rattle.card.specs.Batch.{advanced}
+use Rattle.field.specs.Question.{Outcome}
+use Rattle.card.specs.Listing.{counted}
+use Rattle.card.specs.Batch.{further}
 use Rattle.card.proofs.Lines.{line-answered}
 use Rattle.card.proofs.text.list_record.Statement.{statement}
 use Rattle.card.proofs.text.list_record.Tie as tie
@@ -33,11 +35,12 @@ returns c =
     let asked = written .before in
     let probed = asked .before .before .before .before .before in
     let s = probed .before .before .before in
-    let line = line-answered (s .args .done .progress .next) (s .args .bytes .now) (probed .probe .ensures)
+    let come = s .args .done .progress in
+    let line = line-answered (come .next) (s .args .bytes .now) (probed .probe .ensures)
     (asked .before .refusal-of .ensures) (asked .changes-of .ensures) in
     record {
       text = rw line at (written .put-line .ensures);
-      progress = c .advance .ensures ∙ ap (advanced (s .args .done .progress)) (probed .probe .ensures);
+      progress = c .advance .ensures ∙ ap (λ (o : Outcome). further come (counted (come .totals) o)) (probed .probe .ensures);
     }
 
 pub list-record-spec : {M : Type 1} → statement M

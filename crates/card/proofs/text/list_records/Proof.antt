@@ -1,4 +1,4 @@
--- `card::text::list_records` meets its contract. Before turn i the lines of the first i records are written, and the listing has come to the
+-- `card::text::list_records` meets its contract. Before turn i the lines of the first i slots are written, and the listing has come to the
 -- next one. Assumes nothing.
 use borrow.Author.Needs.{needs}
 use mathlib.Core.Path.{_≡_}
@@ -37,8 +37,8 @@ mul-record-from c = search needs
 record-from-requires : tie.Need-record-from-requires Inv-loop μ-loop
 record-from-requires c κs = search needs
 
-list-record-requires : tie.Need-list-record-requires Inv-loop μ-loop
-list-record-requires c κs =
+list-slot-requires : tie.Need-list-slot-requires Inv-loop μ-loop
+list-slot-requires c κs =
     let turn = c .before .before .before in
     let s = turn .before .before .before in
     let batch = s .args .batch .now in
@@ -62,7 +62,7 @@ loop-again c =
       omega arith,
       omega arith,
       lists-more (s .args .s) (s .args .batch .now) (turn .loop .i) _ (c .before .before .before .before .record-from .ensures)
-          (turn .loop .inv .2) (c .before .before .list-record .ensures),
+          (turn .loop .inv .2) (c .before .before .list-slot .ensures),
     )
 
 same-length : tie.Need-same-length Inv-loop μ-loop
@@ -84,7 +84,7 @@ list-records-spec =
     loop-holds
     mul-record-from
     record-from-requires
-    list-record-requires
+    list-slot-requires
     add-i
     loop-less
     loop-again
