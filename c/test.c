@@ -323,6 +323,7 @@ static void cards(void) {
     memset(card, 255, XRS_RECORD_SIZE);
     check("a blank slot does", xrs_check_card(card, XRS_RECORD_SIZE) == 0);
     check("a blank slot is counted", xrs_check_card(card, sizeof card) == 2);
+    check("the first of two bad records is named", xrs_check_card(card, sizeof card - 1) == 2);
     check("a shorter piece of 255 is not blank", xrs_check_card(card, XRS_RECORD_SIZE - 1) == 1);
     answers("restore a blank slot", xrs_restore_record(card, XRS_RECORD_SIZE), XRS_REFUSED_WIDTH, 0);
 }

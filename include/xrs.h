@@ -97,9 +97,9 @@ uint32_t xrs_restore_word(uint8_t width, uint8_t *word, size_t word_length, cons
 uint32_t xrs_restore_record(uint8_t *record, size_t record_length);
 
 /*
- * Would every record of the card be accepted by xrs_restore_record? Returns 0 for yes, else the number of a record that would not be,
- * counted from 1. Blank slots are passed over, and counted. A last piece shorter than a slot is a record that would not be accepted, even
- * where all its bytes are 255. A card of length 0 passes.
+ * Would every record of the card be accepted by xrs_restore_record? Returns 0 for yes, else the number of the first record that would not
+ * be, counted from 1. Blank slots are passed over, and counted. A last piece shorter than a slot is a record that would not be accepted,
+ * even where all its bytes are 255. A card of length 0 passes.
  */
 uint64_t xrs_check_card(const uint8_t *card, size_t card_length);
 

@@ -256,9 +256,9 @@ pub fn restore_record(record: &mut [u8]) -> Result<u8, Refusal> {
     unpack(unsafe { raw::xrs_restore_record(record.as_mut_ptr(), record.len()) }).map(|count| count as u8)
 }
 
-/// Would every record of the card be accepted by `restore_record`? If not, the `Err` holds the number of one that would not be, counted
-/// from 1. A slot of bytes 255 alone is blank: it is passed over, and counted. A last piece shorter than a slot is a record that would not
-/// be accepted, even where all its bytes are 255. An empty card passes.
+/// Would every record of the card be accepted by `restore_record`? If not, the `Err` holds the number of the first that would not be,
+/// counted from 1. A slot of bytes 255 alone is blank: it is passed over, and counted. A last piece shorter than a slot is a record that
+/// would not be accepted, even where all its bytes are 255. An empty card passes.
 ///
 /// ```
 /// let mut card = [0; 2 * xrs::RECORD_SIZE];

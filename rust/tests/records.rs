@@ -3,7 +3,7 @@
 mod reference;
 mod tools;
 
-use reference::card::{is_blank, judge, record, restore, RECORD};
+use reference::card::{check, record, restore, RECORD};
 use tools::wear::{codeword, worn};
 use tools::{check_card, restore_record, Chance};
 use xrs::Refusal;
@@ -98,15 +98,37 @@ fn a_blank_slot_as_a_record() {
     assert_eq!(compare(&[255; RECORD - 1]), Err(Refusal::Length));
 }
 
-/// Blank slots are passed over. Any number of a record that would be refused will do.
-fn compare_check(card: &[u8]) {
-    let is_fine = |piece: &[u8]| is_blank(piece) || judge(piece).is_ok();
-    let pieces: Vec<&[u8]> = card.chunks(RECORD).collect();
-    match check_card(card) {
-        Ok(()) => assert!(pieces.iter().all(|piece| is_fine(piece)), "a card passed that has a record to be refused"),
-        Err(number) => {
-            let piece = pieces.get((number as usize).wrapping_sub(1)).expect("the number of a record");
-            assert!(!is_fine(piece), "record {number} is blank or would be accepted");
+/// The slots of a card, in a few words: a clean record, one that would be refused, and a blank slot.
+fn card_of(slots: &str) -> Vec<u8> {
+    let clean = record(3, &[0; 12], &[]);
+    let mut bad = clean.clone();
+    bad[1] = 9;
+    slots.chars().flat_map(|slot| match slot { 'c' => clean.clone(), 'x' => bad.clone(), _ => vec![255; RECORD] }).collect()
+}
+
+#[test]
+fn the_first_bad_record() {
+    for (slots, number) in [("x", 1), ("xx", 1), ("cx", 2), ("cxcx", 2), ("cxx", 2), ("-x", 2), ("--cx-x", 4), ("xc-", 1), ("c--cc-cx", 8)] {
+        assert_eq!(check_card(&card_of(slots)), Err(number), "{slots}");
+    }
+    for slots in ["", "c", "-", "c-", "-c", "--c-cc-"] {
+        assert_eq!(check_card(&card_of(slots)), Ok(()), "{slots}");
+    }
+    for (slots, number) in [("c", 1), ("cc", 2), ("-c", 2), ("c--", 3), ("--", 2), ("-xc", 2)] {
+        let card = card_of(slots);
+        assert_eq!(check_card(&card[..card.len() - 1]), Err(number), "{slots} but for its last byte");
+    }
+}
+
+#[test]
+fn two_bad_records() {
+    let clean = card_of(&"c".repeat(12));
+    for first in 0..12 {
+        for second in first + 1..12 {
+            let mut card = clean.clone();
+            card[first * RECORD] = 9;
+            card[second * RECORD] = 0;
+            assert_eq!(check_card(&card), Err(first as u64 + 1), "{first} and {second}");
         }
     }
 }
@@ -120,7 +142,8 @@ fn cards() {
         assert_eq!(check_card(&clean[..records * RECORD]), Ok(()));
     }
     for length in 0..3 * RECORD {
-        compare_check(&clean[..length]);
+        let card = &clean[..length];
+        assert_eq!(check_card(card), check(card), "{length} bytes");
     }
     for bad in 0..40 {
         let mut card = clean.clone();
@@ -143,6 +166,7 @@ fn cards() {
     for _ in 0..200 {
         let slots = chance.below(6);
         let card: Vec<u8> = (0..slots).flat_map(|_| if chance.below(3) == 0 { vec![255; RECORD] } else { worn(&mut chance, 3) }).collect();
-        compare_check(&card[..card.len() - chance.below(2).min(card.len())]);
+        let card = &card[..card.len() - chance.below(2).min(card.len())];
+        assert_eq!(check_card(card), check(card));
     }
 }

@@ -1,19 +1,20 @@
 -- Blank slots: what is not, and what a blank slot gets when it is taken as a record. Assumes nothing.
 use mathlib.Core.Path.{_≡_, refl, sym, ap, _∙_}
-use mathlib.Core.Bool.{Bool, true, false, _&&_, _||_}
+use mathlib.Core.Logic.{_⊎_, inl, inr}
+use mathlib.Core.Bool.{Bool, true, false, _&&_, _||_, false≢true}
 use mathlib.Core.List.{List, [], _∷_}
 use Prim.Native.Nat.{ℕ, _<_}
 use native.Mathlib.Omega.{arith}
 use borrow.Author.Tests.{eq-eqb, ne-eqb, eqb-true}
 use lib.Dec.{eqb}
 use lib.ListN.{length}
-use Rattle.field.specs.Question.{refused}
+use Rattle.field.specs.Question.{Outcome, accepted, refused}
 use Rattle.field.specs.declared.Question.the-variants.{Width}
 use Rattle.field.specs.declared.Verdict.the-variants.{Refused as RefusedBy}
 use Rattle.field.proofs.Ask.{and-true-left, and-true-right}
 use Rattle.code.specs.Word.{wordLength}
 use Rattle.card.specs.Record.{recordSize, widthOf, allAre, recordOf, recordWritten}
-use Rattle.card.specs.Card.{isBlank, passes, fine}
+use Rattle.card.specs.Card.{isBlank, isAccepted, passes, fine}
 use Rattle.card.proofs.Layouts.{record-no-width}
 use Rattle.card.proofs.Recording.{restores-refused}
 
@@ -39,6 +40,29 @@ module _ (slot : List ℕ) (b : Bool) (e : b ≡ isBlank slot) where
 
   pub fine-record : (c : Bool) → b ≡ false → c ≡ passes slot → c ≡ fine slot
   fine-record c t f = f ∙ ap (λ (x : Bool). x || passes slot) (sym t ∙ e)
+
+-- what it means to be fine, or not: blank or accepted, or else a record that would be refused
+accepted-is : (o : Outcome) → isAccepted o ≡ true → (k : ℕ) × (o ≡ accepted k)
+accepted-is (accepted k) t = (k, refl)
+accepted-is (refused n) t = absurd (false≢true t)
+
+refused-is : (o : Outcome) → isAccepted o ≡ false → (n : ℕ) × (o ≡ refused n)
+refused-is (accepted k) t = absurd (false≢true (sym t))
+refused-is (refused n) t = (n, refl)
+
+pub fine-means : (slot : List ℕ) → fine slot ≡ true → (isBlank slot ≡ true) ⊎ ((k : ℕ) × (recordOf slot ≡ accepted k))
+fine-means slot t = go (isBlank slot) refl t
+  where
+    go : (b : Bool) → isBlank slot ≡ b → (b || passes slot) ≡ true → (isBlank slot ≡ true) ⊎ ((k : ℕ) × (recordOf slot ≡ accepted k))
+    go true e t = inl e
+    go false e t = inr (accepted-is (recordOf slot) t)
+
+pub not-fine-means : (slot : List ℕ) → fine slot ≡ false → (isBlank slot ≡ false) × ((n : ℕ) × (recordOf slot ≡ refused n))
+not-fine-means slot t = go (isBlank slot) refl t
+  where
+    go : (b : Bool) → isBlank slot ≡ b → (b || passes slot) ≡ false → (isBlank slot ≡ false) × ((n : ℕ) × (recordOf slot ≡ refused n))
+    go true e t = absurd (false≢true (sym t))
+    go false e t = (e, refused-is (recordOf slot) t)
 
 -- ---- a blank slot as a record
 

@@ -1,8 +1,8 @@
 -- A card: a row of slots without a header, each of which holds a record or is blank. Assumes nothing.
 use mathlib.Core.Path.{_≡_}
-use mathlib.Core.Bool.{Bool, true, false, _&&_, _||_}
+use mathlib.Core.Bool.{Bool, true, false, cond, _&&_, _||_}
 use mathlib.Core.List.{List}
-use Prim.Native.Nat.{ℕ, _+_, _-_, _*_, _/_, _≤_, _<_}
+use Prim.Native.Nat.{ℕ, zero, suc, _+_, _-_, _*_, _/_, _≤_, _<_}
 use lib.Dec.{eqb}
 use lib.ListN.{length, take, drop}
 use Rattle.field.specs.Question.{Outcome, accepted, refused}
@@ -35,8 +35,29 @@ passes r = isAccepted (recordOf r)
 abbrev pub fine : List ℕ → Bool
 fine slot = isBlank slot || passes slot
 
--- The card check, which passes over blank slots. Where it gives the number of a record, counted from 1, the number is the program's choice;
--- every choice is the number of a record that would be refused.
+-- of the k slots from slot i on, counted from 0, the first that is not fine, by its number, counted from 1
+unfoldable pub firstFrom : List ℕ → ℕ → ℕ → CardCheck
+firstFrom card i zero = AllAccepted
+firstFrom card i (suc k) = cond (fine (recordAt card i)) (firstFrom card (suc i) k) (Refused (suc i))
+
+-- what the card check answers: the lowest number of a record that would be refused, if there is one
+abbrev pub firstRefused : List ℕ → CardCheck
+firstRefused card = firstFrom card 0 (recordCount (length card))
+
+-- ---- what the answer says; proofs/Checking.antt proves it
+
+-- record k, counted from 1, would be refused, and every record before it would be accepted or is blank
+pub record FirstBad (card : List ℕ) (k : ℕ) : Type 0 where
+  pub number : 1 ≤ k
+  pub inside : k ≤ recordCount (length card)
+  pub refused : fine (recordAt card (k - 1)) ≡ false
+  pub before : (j : ℕ) → j < k - 1 → fine (recordAt card j) ≡ true
+
+-- no record would be refused
+abbrev pub NoneBad : List ℕ → Type 0
+NoneBad card = (i : ℕ) → i < recordCount (length card) → fine (recordAt card i) ≡ true
+
+-- document 01's card check, which leaves open which of the records that would be refused is named
 abbrev pub Checks : List ℕ → CardCheck → Type 0
-Checks card AllAccepted = (i : ℕ) → i < recordCount (length card) → fine (recordAt card i) ≡ true
+Checks card AllAccepted = NoneBad card
 Checks card (Refused k) = (1 ≤ k) × (k ≤ recordCount (length card)) × (fine (recordAt card (k - 1)) ≡ false)

@@ -3,7 +3,7 @@ ghost use mathlib.Core.Path.{_≡_};
 ghost use Prim.Native.Nat.{_≤_};
 ghost use lib.ListN.{length, take, drop};
 ghost use Rattle.card.specs.Record.{recordSize};
-ghost use Rattle.card.specs.Card.{isBlank, passes, fine, Checks};
+ghost use Rattle.card.specs.Card.{isBlank, passes, fine, firstRefused};
 use crate::CardCheck;
 use crate::records::RECORD;
 use crate::records::all_are;
@@ -54,7 +54,7 @@ fn is_fine(slot: &[u8]) -> bool
 
 // Looks at each slot in turn, and stops at the first whose record would be refused.
 pub fn check(card: &[u8]) -> CardCheck
-    ensures { λ r. ⌜ Checks (now (card .entry)) r ⌝ }
+    ensures { λ r. ⌜ r ≡ firstRefused (now (card .entry)) ⌝ }
 {
     let mut at = 0;
     let mut i = 0;

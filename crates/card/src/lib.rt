@@ -3,8 +3,8 @@ pub mod cards;
 pub mod records;
 pub mod text;
 
-// What the card check answers: every record would be accepted, or the number of some record that would not be, counted from 1. Blank slots
-// are passed over, and counted.
+// What the card check answers: every record would be accepted, or the number of the first record that would not be, counted from 1. Blank
+// slots are passed over, and counted.
 pub enum CardCheck {
     AllAccepted,
     Refused(usize),

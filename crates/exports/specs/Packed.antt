@@ -1,5 +1,5 @@
 -- The number that an exported call returns. Assumes nothing.
-use Prim.Native.Nat.{ℕ, zero, suc, _*_}
+use Prim.Native.Nat.{ℕ, _*_}
 use Rattle.field.specs.Question.{Outcome, accepted, refused}
 use Rattle.card.specs.declared.CardCheck.{CardCheck}
 use Rattle.card.specs.declared.CardCheck.the-variants.{AllAccepted, Refused}
@@ -9,7 +9,7 @@ abbrev pub packed : Outcome → ℕ
 packed (accepted v) = 256 * v
 packed (refused n) = n
 
--- what the number that the card check returns says: 0 is no record's number
-abbrev pub checkOf : ℕ → CardCheck
-checkOf zero = AllAccepted
-checkOf (suc k) = Refused (suc k)
+-- the number that the card check returns: a record's, or 0, which is none's
+abbrev pub checked : CardCheck → ℕ
+checked AllAccepted = 0
+checked (Refused k) = k

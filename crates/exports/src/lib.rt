@@ -5,9 +5,9 @@ ghost use mathlib.Core.Path.{_≡_};
 ghost use Rattle.field.specs.Answer.{outcome, sumOf, productOf, powerOf, inverseOf};
 ghost use Rattle.code.specs.Call.{done, membership, repair, encodeOf, encodeWritten, testOf, readOf, readWritten, restoreOf, restoreWritten};
 ghost use Rattle.card.specs.Record.{recordOf, recordWritten};
-ghost use Rattle.card.specs.Card.{Checks};
+ghost use Rattle.card.specs.Card.{firstRefused};
 ghost use Rattle.sheet.specs.Call.{writeSheetOf, writeSheetWritten, readSheetOf, readSheetWritten};
-ghost use Rattle.exports.specs.Packed.{packed, checkOf};
+ghost use Rattle.exports.specs.Packed.{packed, checked};
 use card::CardCheck;
 use card::cards::check;
 use card::records::restore_record;
@@ -138,10 +138,10 @@ pub extern "C" fn xrs_restore_record(bytes: &mut [u8]) -> u32
     pack_repair(restore_record(bytes))
 }
 
-// The card check: 0 where every record would be accepted, else the number of one that would not be.
+// The card check: 0 where every record would be accepted, else the number of the first that would not be.
 #[no_mangle]
 pub extern "C" fn xrs_check_card(card: &[u8]) -> u64
-    ensures { λ r. ⌜ Checks (now (card .entry)) (checkOf r) ⌝ }
+    ensures { λ r. ⌜ r ≡ checked (firstRefused (now (card .entry))) ⌝ }
 {
     match check(card) {
         CardCheck::AllAccepted => 0,

@@ -49,6 +49,12 @@ pub fn restore(piece: &[u8]) -> Result<(u8, Vec<u8>), u8> {
     search::restore(width, &piece[6..end], &piece[2..2 + count]).map(|(changed, word)| (changed, record(width, &word, &[])))
 }
 
+/// The card check: the number of the first record that would be refused, if there is one. Blank slots are passed over, and counted.
+pub fn check(card: &[u8]) -> Result<(), u64> {
+    let bad = card.chunks(RECORD).position(|piece| !is_blank(piece) && judge(piece).is_err());
+    bad.map_or(Ok(()), |before| Err(before as u64 + 1))
+}
+
 /// A listing as it grows.
 #[derive(Default)]
 pub struct Listing {
