@@ -271,6 +271,33 @@ static void restore_refused_at(uint8_t width) {
     check(at("a long word stays at width", width), holds(&slice, old));
 }
 
+/* The syndromes are these, or all 0 beside a refusal. */
+static void syndromes_are(const char *name, uint64_t answer, uint32_t refusal, const uint8_t *sums) {
+    int k, right = XRS_REFUSAL(answer) == refusal && answer >> 48 == 0;
+    for (k = 0; k < 5; k++) {
+        right = right && XRS_BYTE(answer, 1 + k) == sums[k];
+    }
+    check(name, right);
+}
+
+static void syndromes(void) {
+    static const uint8_t word[13] = {0, 0, 0, 0, 0, 0, 1, 0, 0, 0, 0, 8}, marks[6] = {11, 6, 6, 12, 1, 2}, none[5] = {0};
+    static const uint8_t powers[5] = {1, 2, 4, 3, 6}, all[4] = {0, 1, 2, 3}, fifth[12] = {9, 9, 9, 9, 1}, last[5] = {0, 0, 0, 0, 1};
+    lent w, m;
+    uint8_t *bytes = lend(&w, word, 12), *places = lend(&m, marks, 6);
+    syndromes_are("syndromes beside the mark 11", xrs_syndromes(3, bytes, 12, places, 1), XRS_ACCEPTED, powers);
+    syndromes_are("syndromes beside the marks 11 and 6", xrs_syndromes(3, bytes, 12, places, 2), XRS_ACCEPTED, none);
+    syndromes_are("syndromes of case N", xrs_syndromes(3, fifth, 12, all, 4), XRS_ACCEPTED, last);
+    syndromes_are("syndromes of word C", xrs_syndromes(3, words[2], 12, all, 0), XRS_ACCEPTED, none);
+    syndromes_are("syndromes with the symbol 8", xrs_syndromes(3, bytes, 12, places, 0), XRS_REFUSED_SYMBOL, none);
+    syndromes_are("syndromes with a double mark", xrs_syndromes(3, bytes, 12, places + 1, 2), XRS_REFUSED_ERASURE_DISTINCT, none);
+    syndromes_are("syndromes with the mark 12", xrs_syndromes(3, bytes, 12, places, 4), XRS_REFUSED_ERASURE_PLACE, none);
+    syndromes_are("syndromes with six marks", xrs_syndromes(3, bytes, 12, places, 6), XRS_REFUSED_ERASURE_COUNT, none);
+    syndromes_are("syndromes of a short word", xrs_syndromes(3, bytes, 11, places, 6), XRS_REFUSED_LENGTH, none);
+    syndromes_are("syndromes at width 6", xrs_syndromes(6, bytes, 11, places, 6), XRS_REFUSED_WIDTH, none);
+    check("the syndromes write nothing", holds(&w, word) && holds(&m, marks));
+}
+
 /* A record of width 3 with the word and the marks, and zeros behind. */
 static void make_record(uint8_t *record, const uint8_t *word, const uint8_t *marks, uint8_t count) {
     memset(record, 0, XRS_RECORD_SIZE);
@@ -391,6 +418,7 @@ int main(void) {
         restore_at(width);
         restore_refused_at(width);
     }
+    syndromes();
     records();
     cards();
     sheets();

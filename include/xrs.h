@@ -4,9 +4,10 @@
  * Widths: the width is 3, 5 or 7, and q is 2^width. A symbol is a number below q, one to a byte. A word has n = q + 4 symbols (12, 36 or
  * 132): five check symbols, then the q - 1 data symbols (7, 31 or 127).
  *
- * Answers: every call but xrs_check_card returns refusal + 256 * value. The refusal is 0 where the call was accepted; otherwise it is that
- * of the first question answered no, and the value is 0. The questions are put in the order 1, 2, 3, 8, 4, 5, 6, 7, 9, 10, 11, 12, 13 of
- * their refusals, each for all its items before the next. XRS_REFUSAL and XRS_VALUE take the number apart.
+ * Answers: every call but xrs_check_card has a refusal in the lowest byte of what it returns. The refusal is 0 where the call was accepted;
+ * otherwise it is that of the first question answered no, and the bytes above are 0. The questions are put in the order 1, 2, 3, 8, 4, 5,
+ * 6, 7, 9, 10, 11, 12, 13 of their refusals, each for all its items before the next. XRS_REFUSAL gives the refusal. In an answer of 32 bits
+ * the rest is one value, which XRS_VALUE gives; in an answer of 64 bits each byte is a value of its own, which XRS_BYTE gives.
  *
  * Memory: a slice is passed as a pointer and its length in bytes. The pointer must not be NULL, also where the length is 0, and must be
  * valid for that many bytes: to read where it is const, else to read and write. Slices passed to one call must not overlap. Any length and
@@ -45,9 +46,14 @@ enum xrs_refusal {
     XRS_REFUSED_UNUSED = 13           /* a day sheet's symbols c_100 to c_126 are not zero */
 };
 
-/* The two parts of an answer. */
+/* The refusal of an answer, of 32 or of 64 bits. */
 #define XRS_REFUSAL(answer) ((uint32_t)(answer) % 256u)
+
+/* The value of an answer of 32 bits. */
 #define XRS_VALUE(answer) ((uint32_t)(answer) / 256u)
+
+/* The value in byte 1 to 7 of an answer of 64 bits. */
+#define XRS_BYTE(answer, byte) ((uint32_t)((uint64_t)(answer) >> 8 * (byte)) % 256u)
 
 /* ---- The field. The value is a symbol. Refused with 1 and 6. */
 
@@ -73,6 +79,12 @@ uint32_t xrs_is_codeword(uint8_t width, const uint8_t *word, size_t word_length)
 
 /* Writes the data of a codeword (n symbols) into data (q - 1 bytes). The value is 0. Refused with 1, 2, 6 and 9. */
 uint32_t xrs_read_data(uint8_t width, const uint8_t *word, size_t word_length, uint8_t *data, size_t data_length);
+
+/*
+ * The five syndromes of the word (n bytes) over its unmarked places: a marked place counts as 0, whatever byte it holds. The marks are those
+ * of xrs_restore_word. Syndrome k, a symbol, is XRS_BYTE(answer, 1 + k), k from 0 to 4; bytes 6 and 7 are 0. Refused with 1 to 6.
+ */
+uint64_t xrs_syndromes(uint8_t width, const uint8_t *word, size_t word_length, const uint8_t *marks, size_t marks_length);
 
 /*
  * Writes the near codeword in place of the word (n bytes). The marks are the erasures: at most four different places of the word, counted

@@ -112,6 +112,7 @@ mod raw {
         pub fn xrs_encode(width: u8, data: *const u8, data_length: usize, word: *mut u8, word_length: usize) -> u32;
         pub fn xrs_is_codeword(width: u8, word: *const u8, word_length: usize) -> u32;
         pub fn xrs_read_data(width: u8, word: *const u8, word_length: usize, data: *mut u8, data_length: usize) -> u32;
+        pub fn xrs_syndromes(width: u8, word: *const u8, word_length: usize, marks: *const u8, marks_length: usize) -> u64;
         pub fn xrs_restore_word(width: u8, word: *mut u8, word_length: usize, marks: *const u8, marks_length: usize) -> u32;
         pub fn xrs_restore_record(record: *mut u8, record_length: usize) -> u32;
         pub fn xrs_check_card(card: *const u8, card_length: usize) -> u64;
@@ -123,6 +124,12 @@ mod raw {
 /// Takes refusal + 256 * value apart.
 fn unpack(packed: u32) -> Result<u32, Refusal> {
     Refusal::from_number(packed as u8).map_or(Ok(packed / 256), Err)
+}
+
+/// Takes an answer of 64 bits apart: the refusal is its lowest byte, and the bytes above are values.
+fn unpack_bytes(packed: u64) -> Result<[u8; 7], Refusal> {
+    let [refusal, values @ ..] = packed.to_le_bytes();
+    Refusal::from_number(refusal).map_or(Ok(values), Err)
 }
 
 fn symbol(packed: u32) -> Result<u8, Refusal> {
@@ -203,6 +210,20 @@ pub fn is_codeword(width: u8, word: &[u8]) -> Result<bool, Refusal> {
 /// ```
 pub fn read_data(width: u8, word: &[u8], data: &mut [u8]) -> Result<(), Refusal> {
     unpack(unsafe { raw::xrs_read_data(width, word.as_ptr(), word.len(), data.as_mut_ptr(), data.len()) }).map(|_| ())
+}
+
+/// The five syndromes of `word` over its unmarked places: a marked place counts as 0, whatever byte it holds. With no marks they are those
+/// that `is_codeword` asks for.
+///
+/// ```
+/// let word = [0, 0, 0, 0, 0, 0, 1, 0, 0, 0, 0, 200];
+/// assert_eq!(xrs::syndromes(3, &word, &[11]), Ok([1, 2, 4, 3, 6]));
+/// assert_eq!(xrs::syndromes(3, &word, &[6, 11]), Ok([0; 5]));
+/// assert_eq!(xrs::syndromes(3, &word, &[6]), Err(xrs::Refusal::Symbol));
+/// ```
+pub fn syndromes(width: u8, word: &[u8], marks: &[u8]) -> Result<[u8; 5], Refusal> {
+    let packed = unsafe { raw::xrs_syndromes(width, word.as_ptr(), word.len(), marks.as_ptr(), marks.len()) };
+    unpack_bytes(packed).map(|[s0, s1, s2, s3, s4, ..]| [s0, s1, s2, s3, s4])
 }
 
 /// Writes the near codeword in place of `word`, and answers the number of unmarked places that changed, 0 to 2. The near codeword differs
@@ -349,6 +370,7 @@ mod tests {
             assert!(if number <= 10 { !unknown } else { unknown || number <= 21 }, "{refusal:?}");
             for value in [0, 1, 0xFF_FFFF] {
                 assert_eq!(unpack(256 * value + number as u32), Err(refusal));
+                assert_eq!(unpack_bytes(256 * value as u64 + number as u64), Err(refusal));
             }
         }
         assert_eq!(Refusal::from_number(0), None);
@@ -360,5 +382,6 @@ mod tests {
         for value in [0, 1, 2, 127, 0xFF_FFFF] {
             assert_eq!(unpack(256 * value), Ok(value));
         }
+        assert_eq!(unpack_bytes(0x0706_0504_0302_0100), Ok([1, 2, 3, 4, 5, 6, 7]));
     }
 }

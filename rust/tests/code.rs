@@ -4,8 +4,8 @@ mod reference;
 mod tools;
 
 use reference::{items, order, places};
-use tools::{encode, is_codeword, read_data, Chance};
-use xrs::Refusal::{self, Length, Symbol, Syndrome, Width};
+use tools::{encode, is_codeword, read_data, refusal, Chance};
+use xrs::Refusal::{Length, Symbol, Syndrome, Width};
 
 const WIDTHS: [u8; 3] = [3, 5, 7];
 const BAD_WIDTHS: [u8; 8] = [0, 1, 2, 4, 6, 8, 128, 255];
@@ -34,11 +34,6 @@ fn codeword(width: u8, data: &[u8]) -> Vec<u8> {
 /// A codeword of random data.
 fn random_codeword(chance: &mut Chance, width: u8) -> Vec<u8> {
     codeword(width, &chance.symbols(items(width), order(width)))
-}
-
-/// The answer of the reference, its number as a refusal.
-fn refusal<T>(answer: Result<T, u8>) -> Result<T, Refusal> {
-    answer.map_err(|number| Refusal::from_number(number).expect("a refusal number"))
 }
 
 #[test]

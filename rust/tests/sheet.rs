@@ -5,7 +5,7 @@ mod tools;
 
 use reference::sheet::{exists, DAYS, SIZE};
 use reference::{items, order, places};
-use tools::{encode, read_sheet, write_sheet, Chance};
+use tools::{encode, read_sheet, refusal, write_sheet, Chance};
 use xrs::Refusal::{self, Date, Length, SheetWidth, Symbol, Syndrome, Unused, Width};
 
 const N: usize = 132;
@@ -30,11 +30,6 @@ fn word_of(symbols: &[u8], unused: &[u8]) -> Vec<u8> {
     let (answer, word) = encode(7, &[symbols, unused].concat(), &[255; N]);
     assert_eq!(answer, Ok(()));
     word
-}
-
-/// The answer of the reference, its number as a refusal.
-fn refusal<T>(answer: Result<T, u8>) -> Result<T, Refusal> {
-    answer.map_err(|number| Refusal::from_number(number).expect("a refusal number"))
 }
 
 #[test]

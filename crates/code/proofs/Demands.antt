@@ -2,18 +2,20 @@
 use mathlib.Core.Path.{_≡_, refl, sym, ap, _∙_, subst}
 use mathlib.Core.Logic.{_↔_}
 use mathlib.Core.Bool.{Bool, true, false, cond, true≢false}
-use mathlib.Core.List.{List}
+use mathlib.Core.List.{List, []}
 use Prim.Native.Nat.{ℕ}
 use native.Mathlib.Omega.{arith}
 use lib.ListN.{length}
 use Rattle.field.specs.Question.{Outcome, accepted, after, isWidth}
 use Rattle.field.specs.declared.Verdict.{Verdict}
 use Rattle.field.proofs.Widths.{field-of}
-use Rattle.code.specs.Word.{places, Codeword, encode, dataOf}
-use Rattle.code.specs.Call.{written, done, restoreWritten, zeroSyndromes, encodeOf, encodeWritten, testOf}
-use Rattle.code.specs.Demands.{Data, EncoderMakes, EncoderMade, ReadBack, TestsCodeword, NeverTwo, Accepts, RefusesSeven, RefusedUnchanged, FewChanged, SameRestored}
+use Rattle.code.specs.Word.{places, at, syndrome, Codeword, encode, dataOf}
+use Rattle.code.specs.Erasure.{syndromesOf}
+use Rattle.code.specs.Call.{written, done, restoreWritten, shown, allZero, zeroSyndromes, encodeOf, encodeWritten, testOf}
+use Rattle.code.specs.Demands.{Data, EncoderMakes, EncoderMade, ReadBack, TestsCodeword, NeverTwo, Accepts, RefusesSeven, RefusedUnchanged, FewChanged, SameRestored, DisplaysPlain, DisplaysZero, SameDisplayed}
 use Rattle.code.proofs.Encoding.{encode-codeword, encode-data, codeword-data, codeword-encode}
-use Rattle.code.proofs.Passing.{encode-passes, read-passes, test-codeword, zero-syndromes}
+use Rattle.code.proofs.Horner.{five-cong}
+use Rattle.code.proofs.Passing.{encode-passes, read-passes, test-codeword, zero-syndromes, five-zero, given}
 use Rattle.code.proofs.Restoring as Restoring
 
 -- ---- demand 2
@@ -78,3 +80,23 @@ few-changed m w es k e =
 
 pub same-restored : SameRestored
 same-restored = Restoring.same-restored
+
+-- ---- the display of the syndromes
+
+pub displays-plain : DisplaysPlain
+displays-plain m w p = ap (λ (v : Verdict). shown v (syndromesOf m [] w)) p
+
+pub displays-zero : DisplaysZero
+displays-zero m w p = (
+  λ e.
+      let g = given m w [] p in
+      record {
+        size = g .lent .size;
+        symbols = λ i h. g .lent .symbols i h refl;
+        zero-syndromes = five-zero (syndrome m (at w)) (ap allZero (sym (displays-plain m w p) ∙ e));
+      },
+  λ C. displays-plain m w p ∙ five-cong _ (λ k. 0) (C .zero-syndromes),
+)
+
+pub same-displayed : SameDisplayed
+same-displayed = Restoring.same-displayed

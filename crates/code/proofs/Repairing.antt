@@ -17,16 +17,16 @@ use Rattle.field.specs.Question.{accepted, after, isWidth, allBelow}
 use Rattle.field.specs.declared.Question.the-variants.{Correctable}
 use Rattle.field.specs.declared.Question.{Question}
 use Rattle.field.specs.declared.Verdict.{Verdict}
-use Rattle.field.specs.declared.Verdict.the-variants.{Refused as RefusedBy}
+use Rattle.field.specs.declared.Verdict.the-variants.{Passed, Refused as RefusedBy}
 use Rattle.field.proofs.Widths.{field-of, order-small}
 use Rattle.code.specs.declared.Repair.{Repair}
 use Rattle.code.specs.declared.Repair.the-variants.{Restored, Refused}
 use Rattle.code.specs.declared.restorer.Trial.{Trial}
 use Rattle.code.specs.declared.restorer.Correction.{Correction}
-use Rattle.code.specs.Word.{five, places, at, syndrome, Codeword}
-use Rattle.code.specs.Erasure.{member, differ, total, changesBelow, changes, masked, maskedSyndrome}
+use Rattle.code.specs.Word.{checks, five, places, at, syndrome, Codeword}
+use Rattle.code.specs.Erasure.{member, differ, total, changesBelow, changes, masked, maskedSyndrome, syndromesOf}
 use Rattle.code.specs.Near.{radius, Restoration, none, one, restoration}
-use Rattle.code.specs.Call.{allZero, written, decided, restored, restoreAsked, repair, Restores}
+use Rattle.code.specs.Call.{allZero, written, done, shown, Displays, decided, restored, restoreAsked, repair, Restores}
 use Rattle.code.specs.Demands.{Passes, Near}
 use Rattle.code.specs.Correction.{fill, Lent, tried, Ready, corrected, Corrects, NoneWithin, Workable}
 use Rattle.code.proofs.Sums.{syndrome-cong}
@@ -167,6 +167,21 @@ module _ (es w c : List ℕ) where
       go : (t : Bool) → cond t 0 (differ (at w n) (at c n)) ≤ 1
       go true = zero-le
       go false = differ-le (at w n) (at c n)
+
+-- ---- the display of the syndromes
+
+pub displays-refused : (m : ℕ) (w es : List ℕ) (v : Verdict) (q : Question) → v ≡ restoreAsked m w es → v ≡ RefusedBy q
+    → Displays m w es (record { verdict = RefusedBy q; sums = replicate checks 0 })
+displays-refused m w es v q e p =
+    let f : RefusedBy q ≡ restoreAsked m w es = sym p ∙ e in
+    record { answer = ap done f; sums = ap (λ (u : Verdict). shown u (syndromesOf m es w)) f }
+
+pub displays-passed : (m : ℕ) (w es : List ℕ) → Passes m w es → (t : Trial) → tried t ≡ es → Ready m w t
+    → Displays m w es (record { verdict = Passed; sums = t .sums })
+displays-passed m w es p t e R = record {
+  answer = ap done (sym p);
+  sums = R .sums ∙ ap (λ (ls : List ℕ). syndromesOf m ls w) e ∙ ap (λ (u : Verdict). shown u (syndromesOf m es w)) (sym p);
+}
 
 -- ---- the answer
 

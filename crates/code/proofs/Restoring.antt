@@ -18,11 +18,12 @@ use Rattle.field.specs.declared.Verdict.the-variants.{Passed, Refused}
 use Rattle.field.proofs.Laws.{IsField}
 use Rattle.field.proofs.Widths.{field-of}
 use Rattle.code.specs.Word.{places, at}
-use Rattle.code.specs.Erasure.{member, distinct, symbolsFrom, differ, changes}
+use Rattle.code.specs.Erasure.{member, distinct, symbolsFrom, differ, changes, masked, syndromesOf}
 use Rattle.code.specs.Near.{distance, radius, codewords, near, Restoration, none, one, several, found, restoration}
-use Rattle.code.specs.Call.{maxErasures, written, decided, restored, restoreAsked, restoreWritten}
-use Rattle.code.specs.Demands.{Passes, Near, NeverTwo, Accepts, RefusesSeven, RefusedUnchanged, SameErasures, AgreeOutside, SameRestored}
-use Rattle.code.proofs.Sums.{total-cong}
+use Rattle.code.specs.Call.{maxErasures, written, done, shown, decided, restored, restoreAsked, restoreWritten}
+use Rattle.code.specs.Demands.{Passes, Near, NeverTwo, Accepts, RefusesSeven, RefusedUnchanged, SameErasures, AgreeOutside, SameRestored, SameDisplayed}
+use Rattle.code.proofs.Sums.{total-cong, syndrome-cong}
+use Rattle.code.proofs.Horner.{five-cong}
 use Rattle.code.proofs.Questions.{bool-eq, allBelow-means, allBelow-holds, member-means, member-at, symbols-means, symbols-holds}
 use Rattle.code.proofs.Members.{distinct-once, once-distinct, same-member, same-length}
 use Rattle.code.proofs.DistanceLaw.{distance-of}
@@ -208,3 +209,29 @@ same-restored m w w′ es es′ l same agree = (
 
     found′ : restoration m es w ≡ restoration m es′ w′
     found′ = same-restoration a m
+
+-- ---- the display
+
+same-syndromes : {w w′ es es′ : List ℕ} → Alike w w′ es es′ → (m : ℕ) → isWidth m ≡ true → syndromesOf m es w ≡ syndromesOf m es′ w′
+same-syndromes {w} {w′} {es} {es′} a m v =
+    five-cong _ _ (λ k h. syndrome-cong (field-of m v) (masked es (at w)) (masked es′ (at w′))
+    (λ p l. rw (← members a p) (go p (member p es) refl)) k h)
+  where
+    go : (p : ℕ) (b : Bool) → member p es ≡ b → cond b 0 (at w p) ≡ cond b 0 (at w′ p)
+    go p true e = refl
+    go p false e = same-at a p e
+
+-- words that agree outside the same erasures have the same syndromes without them
+pub same-displayed : SameDisplayed
+same-displayed m w w′ es es′ l same agree =
+    (ap done asked, ap (λ (v : Verdict). shown v (syndromesOf m es w)) asked ∙ go (restoreAsked m w′ es′) refl)
+  where
+    a : Alike w w′ es es′
+    a = record { size = l; erasures = same; outside = agree }
+
+    asked : restoreAsked m w es ≡ restoreAsked m w′ es′
+    asked = same-asked a m
+
+    go : (v : Verdict) → restoreAsked m w′ es′ ≡ v → shown v (syndromesOf m es w) ≡ shown v (syndromesOf m es′ w′)
+    go Passed e = same-syndromes a m (given m w′ es′ e .width)
+    go (Refused q) e = refl

@@ -4,18 +4,19 @@ use mathlib.Core.Bool.{Bool, true, cond, _&&_}
 use mathlib.Core.List.{List, [], _∷_}
 use Prim.Native.Nat.{ℕ, _-_}
 use lib.Dec.{eqb, leb}
-use lib.ListN.{length}
+use lib.ListN.{length, replicate}
 use Rattle.field.specs.Field.{order}
 use Rattle.field.specs.Question.{Outcome, accepted, refused, refusal, ask, after, isWidth, allBelow}
 use Rattle.field.specs.declared.Question.the-variants.{Width, Length, ErasureCount, ErasurePlace, ErasureDistinct, Symbol, Correctable, Syndrome}
 use Rattle.field.specs.declared.Verdict.{Verdict}
 use Rattle.field.specs.declared.Verdict.the-variants.{Passed, Refused as RefusedBy}
+use Rattle.code.specs.declared.Syndromes.{Syndromes}
 use Rattle.code.specs.declared.Repair.{Repair}
 use Rattle.code.specs.declared.Repair.the-variants.{Restored, Refused as RefusedRepair}
 use Rattle.code.specs.declared.Membership.{Membership}
 use Rattle.code.specs.declared.Membership.the-variants.{Codeword, Other, Refused}
-use Rattle.code.specs.Word.{five, places, items, at, syndrome, encode, dataOf}
-use Rattle.code.specs.Erasure.{distinct, symbolsFrom, changes}
+use Rattle.code.specs.Word.{checks, places, items, encode, dataOf}
+use Rattle.code.specs.Erasure.{distinct, symbolsFrom, changes, syndromesOf}
 use Rattle.code.specs.Near.{distance, Restoration, none, one, several, restoration}
 
 -- a lent slice after the call: written where all questions passed, else as it was
@@ -30,7 +31,7 @@ allZero (x ∷ xs) = eqb x 0 && allZero xs
 
 -- question 9: are the five syndromes zero?
 unfoldable pub zeroSyndromes : ℕ → List ℕ → Bool
-zeroSyndromes m w = allZero (five (syndrome m (at w)))
+zeroSyndromes m w = allZero (syndromesOf m [] w)
 
 -- the number and the value of a verdict, of a call that has no value of its own
 abbrev pub done : Verdict → Outcome
@@ -98,7 +99,7 @@ pub record Reads (m : ℕ) (word old : List ℕ) (v : Verdict) (new : List ℕ) 
   pub answer : done v ≡ readOf m word old
   pub symbols : new ≡ readWritten m word old
 
--- ---- the restorer: questions 1, 2, 3, 5, 6 and 7, then 8
+-- ---- a word with erasures: questions 1, 2, 3, 5, 6 and 7
 
 -- question 3's bound, four: as many erasures as are always restored
 abbrev pub maxErasures : ℕ → ℕ
@@ -115,6 +116,28 @@ erasuresAsked m word es =
 -- all questions before question 8
 unfoldable pub restoreAsked : ℕ → List ℕ → List ℕ → Verdict
 restoreAsked m word es = wordAsked m (length word) (erasuresAsked m word es)
+
+-- ---- the display of the syndromes: the questions before question 8
+
+-- five numbers by value beside a verdict: 0 each where a question was answered no
+abbrev pub shown : Verdict → List ℕ → List ℕ
+shown Passed sums = sums
+shown (RefusedBy q) sums = replicate checks 0
+
+-- what the display answers
+abbrev pub displayOf : ℕ → List ℕ → List ℕ → Outcome
+displayOf m word es = done (restoreAsked m word es)
+
+-- the five numbers beside it: the syndromes without the erasures
+abbrev pub displayed : ℕ → List ℕ → List ℕ → List ℕ
+displayed m word es = shown (restoreAsked m word es) (syndromesOf m es word)
+
+-- the call's promise: what the display answers and shows
+pub record Displays (m : ℕ) (word es : List ℕ) (r : Syndromes) : Type 0 where
+  pub answer : done (r .verdict) ≡ displayOf m word es
+  pub sums : r .sums ≡ displayed m word es
+
+-- ---- the restorer: question 8
 
 -- question 8, and the number of changed places. That there are never several near codewords is proved: `NeverTwo` of Demands.antt
 abbrev pub decided : ℕ → List ℕ → List ℕ → Restoration → Outcome

@@ -10,9 +10,9 @@ use Rattle.field.specs.Field.{order}
 use Rattle.field.specs.Question.{isWidth, allBelow}
 use Rattle.code.specs.declared.restorer.Trial.{Trial}
 use Rattle.code.specs.declared.restorer.Correction.{Correction}
-use Rattle.code.specs.Word.{checks, five, places, longest, at, Codeword}
+use Rattle.code.specs.Word.{checks, places, longest, at, Codeword}
 use Rattle.code.specs.Place.{column}
-use Rattle.code.specs.Erasure.{member, distinct, changes, maskedSyndrome}
+use Rattle.code.specs.Erasure.{member, distinct, changes, syndromesOf}
 use Rattle.code.specs.Matrix.{rows, columns, unknowns}
 
 -- the word with the values zs at the places ls
@@ -42,7 +42,7 @@ tried t = take (t .count) (t .places)
 pub record Ready (m : ℕ) (w : List ℕ) (t : Trial) : Type 0 where
   pub width : isWidth m ≡ true
   pub lent : Lent m w (tried t)
-  pub sums : t .sums ≡ five (maskedSyndrome m (tried t) w)
+  pub sums : t .sums ≡ syndromesOf m (tried t) w
 
 -- the entry in row k and column j of the system of a trial: the right-hand side, then a column for each place, then zeros
 abbrev pub systemEntry : ℕ → List ℕ → ℕ → ℕ → ℕ → ℕ

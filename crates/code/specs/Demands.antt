@@ -6,14 +6,14 @@ use mathlib.Core.Bool.{true, false, cond}
 use mathlib.Core.List.{List, [], _∷_}
 use Prim.Native.Nat.{ℕ, _+_, _≤_, _<_}
 use lib.Dec.{eqb}
-use lib.ListN.{length}
+use lib.ListN.{length, replicate}
 use Rattle.field.specs.Field.{order}
 use Rattle.field.specs.Question.{accepted, refused, isWidth}
 use Rattle.field.specs.declared.Verdict.the-variants.{Passed}
-use Rattle.code.specs.Word.{places, items, at, Codeword, dataOf}
+use Rattle.code.specs.Word.{checks, five, places, items, at, syndrome, Codeword, dataOf}
 use Rattle.code.specs.Erasure.{member, changes}
 use Rattle.code.specs.Near.{radius}
-use Rattle.code.specs.Call.{encodeOf, encodeWritten, testAsked, testOf, readOf, readWritten, restoreAsked, restoreOf, restoreWritten}
+use Rattle.code.specs.Call.{encodeOf, encodeWritten, testAsked, testOf, readOf, readWritten, restoreAsked, displayOf, displayed, restoreOf, restoreWritten}
 
 -- ---- demand 2
 
@@ -106,3 +106,19 @@ SameRestored =
     (m : ℕ) (w w′ es es′ : List ℕ) → length w ≡ length w′ → SameErasures es es′ → AgreeOutside es w w′
     → (restoreOf m w es ≡ restoreOf m w′ es′)
     × ((k : ℕ) → restoreOf m w es ≡ accepted k → restoreWritten m w es ≡ restoreWritten m w′ es′)
+
+-- ---- the display of the syndromes
+
+-- with no erasures it shows the syndromes of equation (11)
+abbrev pub DisplaysPlain : Type 0
+DisplaysPlain = (m : ℕ) (w : List ℕ) → Passes m w [] → displayed m w [] ≡ five (syndrome m (at w))
+
+-- which are zero exactly for a codeword
+abbrev pub DisplaysZero : Type 0
+DisplaysZero = (m : ℕ) (w : List ℕ) → Passes m w [] → (displayed m w [] ≡ replicate checks 0) ↔ Codeword m w
+
+-- words of one width and length that agree outside the same erasures get the same answers and the same syndromes
+abbrev pub SameDisplayed : Type 0
+SameDisplayed =
+    (m : ℕ) (w w′ es es′ : List ℕ) → length w ≡ length w′ → SameErasures es es′ → AgreeOutside es w w′
+    → (displayOf m w es ≡ displayOf m w′ es′) × (displayed m w es ≡ displayed m w′ es′)

@@ -3,7 +3,7 @@ use mathlib.Core.Bool.{Bool, true, false, cond, not, _&&_, _||_}
 use mathlib.Core.List.{List, [], _∷_}
 use Prim.Native.Nat.{ℕ, zero, suc, _+_}
 use lib.Dec.{eqb, ltb}
-use Rattle.code.specs.Word.{places, at, syndrome}
+use Rattle.code.specs.Word.{five, places, at, syndrome}
 
 -- the number a is in the list: of a place and the erasures, document 01's marked place
 abbrev pub member : ℕ → List ℕ → Bool
@@ -41,6 +41,10 @@ changes m es w c = changesBelow (places m) es w c
 abbrev pub masked : List ℕ → (ℕ → ℕ) → ℕ → ℕ
 masked es w p = cond (member p es) 0 (w p)
 
--- syndrome k over the places outside the erasures
+-- syndrome k over the places outside the erasures: an erased place counts as 0. With no erasures it is that of equation (11)
 abbrev pub maskedSyndrome : ℕ → List ℕ → List ℕ → ℕ → ℕ
 maskedSyndrome m es w k = syndrome m (masked es (at w)) k
+
+-- the five of them
+abbrev pub syndromesOf : ℕ → List ℕ → List ℕ → List ℕ
+syndromesOf m es w = five (maskedSyndrome m es w)

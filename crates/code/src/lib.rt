@@ -12,7 +12,7 @@ ghost use Rattle.field.specs.declared.Question.the-variants.{Symbol};
 ghost use Rattle.field.specs.declared.Verdict.the-variants.{Passed};
 ghost use Rattle.code.specs.Word.{checks, places, longest, wordLength, items, encode as encodeM};
 ghost use Rattle.code.specs.Call.{zeroSyndromes, wordAsked, dataAsked, Encodes, testAsked, testOf, membership, readAsked, Reads};
-ghost use Rattle.code.specs.Call.{erasuresAsked, restoreAsked, Restores};
+ghost use Rattle.code.specs.Call.{erasuresAsked, restoreAsked, Displays, Restores};
 ghost use Rattle.code.specs.Demands.{Passes};
 
 mod place;
@@ -232,6 +232,33 @@ fn ask_restore(width: u8, word: &[u8], erasures: &[u8]) -> Verdict
     match ask_word(width, word.len()) {
         Verdict::Passed => ask_erasures(width, word, erasures),
         Verdict::Refused(q) => Verdict::Refused(q),
+    }
+}
+
+// The five syndromes of a word without its erasures, each 0 where a question was answered no. An enum holds no array, so the verdict stands
+// beside them.
+pub struct Syndromes {
+    pub verdict: Verdict,
+    pub sums: [u8; 5],
+}
+
+// The syndromes over the places outside the erasures.
+pub fn masked_syndromes(width: u8, word: &[u8], erasures: &[u8]) -> Syndromes
+    ensures { λ r. ⌜ Displays width (now (word .entry)) (now (erasures .entry)) r ⌝ }
+{
+    match ask_restore(width, word, erasures) {
+        Verdict::Passed => {
+            let t = started(width, word, erasures);
+            let sums = t.sums;
+            Syndromes {
+                verdict: Verdict::Passed,
+                sums,
+            }
+        }
+        Verdict::Refused(q) => Syndromes {
+            verdict: Verdict::Refused(q),
+            sums: [0; 5],
+        },
     }
 }
 

@@ -10,7 +10,7 @@ ghost use Rattle.field.specs.Field.{order, product};
 ghost use Rattle.field.specs.Question.{isWidth, allBelow};
 ghost use Rattle.code.specs.Word.{checks, five, places, longest, at};
 ghost use Rattle.code.specs.Place.{column as columnM};
-ghost use Rattle.code.specs.Erasure.{member, differ, changesBelow, maskedSyndrome};
+ghost use Rattle.code.specs.Erasure.{member, differ, changesBelow, syndromesOf};
 ghost use Rattle.code.specs.Call.{allZero};
 ghost use Rattle.code.specs.Matrix.{unknowns};
 ghost use Rattle.code.specs.Correction.{fill, Lent, tried, Ready, systemEntry, SystemRow, SystemMatrix, corrected};
@@ -266,7 +266,7 @@ fn masked_sums(width: u8, word: &[u8], places: [u8; UNKNOWNS], count: usize) -> 
         ⌜
         (
         isWidth width ≡ true → Lent width (now (word .entry)) (take count places)
-        → r ≡ five (maskedSyndrome width (take count places) (now (word .entry)))
+        → r ≡ syndromesOf width (take count places) (now (word .entry))
         )
         ⌝ }
 {

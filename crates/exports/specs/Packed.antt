@@ -1,5 +1,7 @@
 -- The number that an exported call returns. Assumes nothing.
-use Prim.Native.Nat.{ℕ, _*_}
+use mathlib.Core.List.{List}
+use Prim.Native.Nat.{ℕ, _+_, _*_}
+use lib.ListN.{getD}
 use Rattle.field.specs.Question.{Outcome, accepted, refused}
 use Rattle.card.specs.declared.CardCheck.{CardCheck}
 use Rattle.card.specs.declared.CardCheck.the-variants.{AllAccepted, Refused}
@@ -8,6 +10,10 @@ use Rattle.card.specs.declared.CardCheck.the-variants.{AllAccepted, Refused}
 abbrev pub packed : Outcome → ℕ
 packed (accepted v) = 256 * v
 packed (refused n) = n
+
+-- a refusal number and five bytes: refusal + 2^8 b_0 + 2^16 b_1 + 2^24 b_2 + 2^32 b_3 + 2^40 b_4
+abbrev pub packedBytes : ℕ → List ℕ → ℕ
+packedBytes n bs = n + 256 * (getD bs 0 0 + 256 * (getD bs 1 0 + 256 * (getD bs 2 0 + 256 * (getD bs 3 0 + 256 * getD bs 4 0))))
 
 -- the number that the card check returns: a record's, or 0, which is none's
 abbrev pub checked : CardCheck → ℕ

@@ -2,12 +2,14 @@
 // definitions as the call behind it.
 // A slice is passed as its pointer, then its length.
 ghost use mathlib.Core.Path.{_≡_};
+ghost use Prim.Native.Nat.{_<_};
 ghost use Rattle.field.specs.Answer.{outcome, sumOf, productOf, powerOf, inverseOf};
+ghost use Rattle.code.specs.Call.{displayOf, displayed};
 ghost use Rattle.code.specs.Call.{done, membership, repair, encodeOf, encodeWritten, testOf, readOf, readWritten, restoreOf, restoreWritten};
 ghost use Rattle.card.specs.Record.{recordOf, recordWritten};
 ghost use Rattle.card.specs.Card.{firstRefused};
 ghost use Rattle.sheet.specs.Call.{writeSheetOf, writeSheetWritten, readSheetOf, readSheetWritten};
-ghost use Rattle.exports.specs.Packed.{packed, checked};
+ghost use Rattle.exports.specs.Packed.{packed, packedBytes, checked};
 use card::CardCheck;
 use card::cards::check;
 use card::records::restore_record;
@@ -23,6 +25,12 @@ fn wide(x: u8) -> u32
     ensures { λ r. ⌜ r ≡ x ⌝ }
 {
     x as u32
+}
+
+fn wide64(x: u8) -> u64
+    ensures { λ r. ⌜ (r ≡ x) × (r < 256) ⌝ }
+{
+    x as u64
 }
 
 // A symbol or a refusal as one number.
@@ -64,6 +72,18 @@ fn pack_repair(a: Repair) -> u32
         Repair::Restored(k) => 256 * wide(k),
         Repair::Refused(q) => wide(field::refusal_number(q)),
     }
+}
+
+// A refusal number and five bytes as one number, the refusal lowest.
+fn pack_bytes(refusal: u32, bytes: [u8; 5]) -> u64
+    ensures { λ r. ⌜ r ≡ packedBytes refusal bytes ⌝ }
+{
+    let a = wide64(bytes[0]);
+    let b = wide64(bytes[1]);
+    let c = wide64(bytes[2]);
+    let d = wide64(bytes[3]);
+    let e = wide64(bytes[4]);
+    refusal as u64 + 256 * (a + 256 * (b + 256 * (c + 256 * (d + 256 * e))))
 }
 
 #[no_mangle]
@@ -118,6 +138,22 @@ pub extern "C" fn xrs_read_data(width: u8, word: &[u8], message: &mut [u8]) -> u
     ensures written { λ r. ⌜ now (message .exit) ≡ readWritten width (now (word .entry)) (now (message .entry)) ⌝ }
 {
     pack_verdict(code::read(width, word, message))
+}
+
+// The syndromes of the word without its erasures, in the bytes above the refusal's.
+#[no_mangle]
+pub extern "C" fn xrs_syndromes(width: u8, word: &[u8], erasures: &[u8]) -> u64
+    ensures { λ r.
+        ⌜
+        r
+        ≡ packedBytes (packed (displayOf width (now (word .entry)) (now (erasures .entry))))
+        (displayed width (now (word .entry)) (now (erasures .entry)))
+        ⌝ }
+{
+    let s = code::masked_syndromes(width, word, erasures);
+    let verdict = s.verdict;
+    let sums = s.sums;
+    pack_bytes(pack_verdict(verdict), sums)
 }
 
 // Writes the near codeword in place of the word.

@@ -2,8 +2,12 @@
 #![allow(dead_code)] // each test file uses its part
 
 pub mod card;
+pub mod masked;
 pub mod search;
 pub mod sheet;
+
+/// The widths of the code.
+pub const WIDTHS: [u8; 3] = [3, 5, 7];
 
 /// The reduction polynomial of a width.
 pub fn modulus(width: u8) -> Option<u32> {

@@ -24,7 +24,7 @@ pub fn restore(width: u8, word: &[u8], marks: &[u8]) -> Result<(u8, Vec<u8>), u8
 }
 
 /// Questions 1, 2, 3, 5, 6 and 7.
-fn ask(width: u8, word: &[u8], marks: &[u8]) -> Result<(), u8> {
+pub fn ask(width: u8, word: &[u8], marks: &[u8]) -> Result<(), u8> {
     if modulus(width).is_none() {
         return Err(1);
     }

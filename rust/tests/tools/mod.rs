@@ -55,6 +55,13 @@ pub fn read_data(width: u8, word: &[u8], data: &[u8]) -> (Result<(), Refusal>, V
     lend(word, data, |word, data| xrs::read_data(width, word, data))
 }
 
+/// `xrs::syndromes` on copies of the slices.
+pub fn syndromes(width: u8, word: &[u8], marks: &[u8]) -> Result<[u8; 5], Refusal> {
+    let (answer, after) = lend(marks, word, |marks, word| xrs::syndromes(width, word, marks));
+    assert_eq!(after, word, "the word was changed");
+    answer
+}
+
 /// `xrs::restore_word` on copies of the slices: its answer, and the word afterwards.
 pub fn restore_word(width: u8, word: &[u8], marks: &[u8]) -> (Result<u8, Refusal>, Vec<u8>) {
     lend(marks, word, |marks, word| xrs::restore_word(width, word, marks))
@@ -83,6 +90,11 @@ pub fn write_sheet(width: u8, symbols: &[u8], word: &[u8]) -> (Result<(), Refusa
 /// `xrs::read_sheet` on copies of the slices: its answer, and the symbols afterwards.
 pub fn read_sheet(width: u8, word: &[u8], symbols: &[u8]) -> (Result<(), Refusal>, Vec<u8>) {
     lend(word, symbols, |word, symbols| xrs::read_sheet(width, word, symbols))
+}
+
+/// The answer of the reference, its number as a refusal.
+pub fn refusal<T>(answer: Result<T, u8>) -> Result<T, Refusal> {
+    answer.map_err(|number| Refusal::from_number(number).expect("a refusal number"))
 }
 
 /// The generator xorshift64 from a fixed seed, so that each run tries the same.

@@ -2,7 +2,7 @@
 
 use super::Chance;
 use crate::reference::card::{record, RECORD};
-use crate::reference::{encode, items, order, places};
+use crate::reference::{encode, items, order, places, WIDTHS};
 
 /// A codeword of random data, by the reference.
 pub fn codeword(chance: &mut Chance, width: u8) -> Vec<u8> {
@@ -26,4 +26,29 @@ pub fn worn(chance: &mut Chance, width: u8) -> Vec<u8> {
         bytes[at] = [0, 1, 3, 4, 5, 7, 255, chance.below(256) as u8][chance.below(8)];
     }
     bytes
+}
+
+/// A width, a word and marks, as the restorer is lent them: a codeword with up to three wrong symbols and any bytes at up to four marks, in
+/// which now and then one thing or two are not as a question wants them.
+pub fn hostile(chance: &mut Chance) -> (u8, Vec<u8>, Vec<u8>) {
+    let mut width = WIDTHS[chance.below(WIDTHS.len())];
+    let (n, q) = (places(width), order(width));
+    let mut word = codeword(chance, width);
+    let (marked, wrong) = (chance.below(5), chance.below(4));
+    let mut marks = chance.places(marked, n);
+    for place in chance.places(wrong, n) {
+        word[place as usize] ^= 1 + chance.below(q - 1) as u8;
+    }
+    marks.iter().for_each(|&mark| word[mark as usize] = chance.below(256) as u8);
+    for _ in 0..[0, 0, 1, 2][chance.below(4)] {
+        match chance.below(6) {
+            0 => width = [0, 1, 2, 6, 8, 128, 255, chance.below(256) as u8][chance.below(8)],
+            1 => word.resize([0, n - 1, n + 1, n + 256, 132][chance.below(5)], 0),
+            2 => marks.resize([4, 5, 6, 255, 256, 260][chance.below(6)], chance.below(n) as u8),
+            3 => marks.push([n as u8, 255, n as u8 + chance.below(256 - n) as u8][chance.below(3)]),
+            4 => marks.extend(marks.first().copied()),
+            _ => word.iter_mut().skip(chance.below(n)).take(1).for_each(|symbol| *symbol = (q + chance.below(256 - q)) as u8),
+        }
+    }
+    (width, word, marks)
 }
