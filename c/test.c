@@ -177,10 +177,16 @@ static void refusals(void) {
     check("refused calls write nothing", holds(&word, old) && holds(&data, old));
 }
 
-/* The cases F to N of document 01, and what it says of marks and symbols, all at width 3. A word without `after` stays as it was. */
+/* A word of width 3 with c_4 = 1. */
+static const uint8_t c_4[12] = {1, 6, 2, 7, 4, 0, 0, 0, 0, 1, 0, 0};
+
+/*
+ * The cases F to N of document 01, what it says of marks and symbols, and the five marks of document 02, all at width 3. A word without
+ * `after` stays as it was.
+ */
 static const struct {
     const char *name;
-    uint8_t word[12], marks[5];
+    uint8_t word[12], marks[6];
     size_t count;
     uint32_t refusal, changed;
     const uint8_t *after;
@@ -198,8 +204,12 @@ static const struct {
     {"restore with the mark 11", {0}, {11}, 1, XRS_ACCEPTED, 0, words[0]},
     {"restore with the mark 12", {0}, {12}, 1, XRS_REFUSED_ERASURE_PLACE, 0, NULL},
     {"restore with four marks", {0}, {0, 1, 2, 3}, 4, XRS_ACCEPTED, 0, words[0]},
-    {"restore with five marks", {0}, {0, 1, 2, 3, 4}, 5, XRS_REFUSED_ERASURE_COUNT, 0, NULL},
-    {"restore with five marks, none of them good", {8}, {12, 12, 12, 12, 12}, 5, XRS_REFUSED_ERASURE_COUNT, 0, NULL},
+    {"restore with five marks", {9, 9, 9, 9, 9, 0, 0, 0, 0, 1}, {0, 1, 2, 3, 4}, 5, XRS_ACCEPTED, 0, c_4},
+    {"restore with five marks and several codewords", {0}, {2, 4, 5, 6, 8}, 5, XRS_REFUSED_UNIQUE, 0, NULL},
+    {"restore with five marks and no codeword", {1}, {2, 4, 5, 6, 8}, 5, XRS_REFUSED_CORRECTABLE, 0, NULL},
+    {"restore with five marks, one of them twice", {8}, {2, 4, 5, 6, 2}, 5, XRS_REFUSED_ERASURE_DISTINCT, 0, NULL},
+    {"restore with six marks", {0}, {0, 1, 2, 3, 4, 5}, 6, XRS_REFUSED_ERASURE_COUNT, 0, NULL},
+    {"restore with six marks, none of them good", {8}, {12, 12, 12, 12, 12, 12}, 6, XRS_REFUSED_ERASURE_COUNT, 0, NULL},
     {"restore with the mark 12 twice", {0}, {12, 12}, 2, XRS_REFUSED_ERASURE_PLACE, 0, NULL},
     {"restore with the mark 3 twice", {0}, {3, 3}, 2, XRS_REFUSED_ERASURE_DISTINCT, 0, NULL},
     {"restore with the mark 3 twice and the symbol 8", {8}, {3, 3}, 2, XRS_REFUSED_ERASURE_DISTINCT, 0, NULL},
@@ -249,16 +259,16 @@ static void restore_at(uint8_t width) {
 /* Bad inputs of the restorer, in the order of the questions: each has all the faults that come later. */
 static void restore_refused_at(uint8_t width) {
     size_t q = (size_t)1 << width, n = q + 4;
-    uint8_t old[133] = {1, 1, 1}, marks[5] = {5, 5, 0, 6, 7};
+    uint8_t old[133] = {1, 1, 1}, marks[6] = {5, 5, 0, 6, 7, 8};
     uint8_t *word;
     lent slice;
     marks[2] = (uint8_t)n;
     old[8] = (uint8_t)q;
     word = lend(&slice, old, n);
-    answers(at("restore at the width above", width), xrs_restore_word((uint8_t)(width + 1), word, n - 1, marks, 5), XRS_REFUSED_WIDTH, 0);
-    answers(at("restore a short word at width", width), xrs_restore_word(width, word, n - 1, marks, 5), XRS_REFUSED_LENGTH, 0);
-    answers(at("restore five marks at width", width), xrs_restore_word(width, word, n, marks, 5), XRS_REFUSED_ERASURE_COUNT, 0);
-    answers(at("restore with the mark n at width", width), xrs_restore_word(width, word, n, marks, 4), XRS_REFUSED_ERASURE_PLACE, 0);
+    answers(at("restore at the width above", width), xrs_restore_word((uint8_t)(width + 1), word, n - 1, marks, 6), XRS_REFUSED_WIDTH, 0);
+    answers(at("restore a short word at width", width), xrs_restore_word(width, word, n - 1, marks, 6), XRS_REFUSED_LENGTH, 0);
+    answers(at("restore six marks at width", width), xrs_restore_word(width, word, n, marks, 6), XRS_REFUSED_ERASURE_COUNT, 0);
+    answers(at("restore with the mark n at width", width), xrs_restore_word(width, word, n, marks, 5), XRS_REFUSED_ERASURE_PLACE, 0);
     answers(at("restore a double mark at width", width), xrs_restore_word(width, word, n, marks, 2), XRS_REFUSED_ERASURE_DISTINCT, 0);
     answers(at("restore with the symbol q at width", width), xrs_restore_word(width, word, n, marks, 1), XRS_REFUSED_SYMBOL, 0);
     check(at("refused restores write nothing at width", width), holds(&slice, old));
@@ -267,7 +277,7 @@ static void restore_refused_at(uint8_t width) {
     answers(at("restore three wrong symbols at width", width), xrs_restore_word(width, word, n, marks, 0), XRS_REFUSED_CORRECTABLE, 0);
     check(at("a word that is not near stays at width", width), holds(&slice, old));
     word = lend(&slice, old, n + 1);
-    answers(at("restore a long word at width", width), xrs_restore_word(width, word, n + 1, marks, 5), XRS_REFUSED_LENGTH, 0);
+    answers(at("restore a long word at width", width), xrs_restore_word(width, word, n + 1, marks, 6), XRS_REFUSED_LENGTH, 0);
     check(at("a long word stays at width", width), holds(&slice, old));
 }
 
@@ -303,35 +313,38 @@ static void make_record(uint8_t *record, const uint8_t *word, const uint8_t *mar
     memset(record, 0, XRS_RECORD_SIZE);
     record[0] = 3;
     record[1] = count;
-    memset(record + 2, 255, 4);
+    memset(record + 2, 255, 5);
     memcpy(record + 2, marks, count);
-    memcpy(record + 6, word, 12);
+    memcpy(record + 7, word, 12);
 }
 
 static void records(void) {
-    static const uint8_t worn[12] = {1, 2, 4, 3, 6, 0, 200, 0, 0, 5, 0, 0}, marks[4] = {6, 255, 255, 255};
+    static const uint8_t worn[12] = {1, 2, 4, 3, 6, 0, 200, 0, 0, 5, 0, 0}, one[1] = {6}, five[5] = {2, 4, 5, 6, 8};
     uint8_t old[XRS_RECORD_SIZE + 1] = {0}, clean[XRS_RECORD_SIZE];
     lent slice;
-    make_record(clean, words[2], marks, 0);
-    make_record(old, worn, marks, 1);
-    answers("restore a record", xrs_restore_record(lend(&slice, old, XRS_RECORD_SIZE), XRS_RECORD_SIZE), XRS_ACCEPTED, 1);
+    make_record(clean, words[2], one, 0);
+    make_record(old, worn, one, 1);
+    answers("restore a record", xrs_restore_record(lend(&slice, old, 139), 139), XRS_ACCEPTED, 1);
     check("a restored record has no marks", holds(&slice, clean));
-    old[0] = 4;
-    answers("restore a short record of width 4", xrs_restore_record(lend(&slice, old, 137), 137), XRS_REFUSED_LENGTH, 0);
-    answers("restore a long record", xrs_restore_record(lend(&slice, old, 139), 139), XRS_REFUSED_LENGTH, 0);
-    old[1] = 5;
-    answers("restore a record of width 4", xrs_restore_record(lend(&slice, old, 138), 138), XRS_REFUSED_WIDTH, 0);
+    old[0] = 6;
+    answers("restore a short record of width 6", xrs_restore_record(lend(&slice, old, 138), 138), XRS_REFUSED_LENGTH, 0);
+    answers("restore a long record", xrs_restore_record(lend(&slice, old, 140), 140), XRS_REFUSED_LENGTH, 0);
+    old[1] = 6;
+    answers("restore a record of width 6", xrs_restore_record(lend(&slice, old, 139), 139), XRS_REFUSED_WIDTH, 0);
     old[0] = 3;
-    answers("restore a record with five marks", xrs_restore_record(lend(&slice, old, 138), 138), XRS_REFUSED_ERASURE_COUNT, 0);
+    answers("restore a record with six marks", xrs_restore_record(lend(&slice, old, 139), 139), XRS_REFUSED_ERASURE_COUNT, 0);
     old[1] = 1;
     old[2] = 12;
-    old[18] = 1;
-    answers("restore a record with a bad tail", xrs_restore_record(lend(&slice, old, 138), 138), XRS_REFUSED_PADDING, 0);
+    old[19] = 1;
+    answers("restore a record with a bad tail", xrs_restore_record(lend(&slice, old, 139), 139), XRS_REFUSED_PADDING, 0);
     check("a record with a bad tail stays", holds(&slice, old));
-    old[18] = 0;
-    answers("restore a record with the mark 12", xrs_restore_record(lend(&slice, old, 138), 138), XRS_REFUSED_ERASURE_PLACE, 0);
+    old[19] = 0;
+    answers("restore a record with the mark 12", xrs_restore_record(lend(&slice, old, 139), 139), XRS_REFUSED_ERASURE_PLACE, 0);
     old[1] = 0;
-    answers("restore a record with an unused mark", xrs_restore_record(lend(&slice, old, 138), 138), XRS_REFUSED_PADDING, 0);
+    answers("restore a record with an unused mark", xrs_restore_record(lend(&slice, old, 139), 139), XRS_REFUSED_PADDING, 0);
+    make_record(old, words[0], five, 5);
+    answers("restore a record with five marks", xrs_restore_record(lend(&slice, old, 139), 139), XRS_REFUSED_UNIQUE, 0);
+    check("a record with several codewords stays", holds(&slice, old));
 }
 
 static void cards(void) {
@@ -344,8 +357,8 @@ static void cards(void) {
     check("an empty card passes", xrs_check_card(card, 0) == 0);
     check("a card of three codewords passes", xrs_check_card(card, sizeof card) == 0);
     check("a short last piece does not", xrs_check_card(card, sizeof card - 1) == 3);
-    card[XRS_RECORD_SIZE] = 4;
-    check("record 2 of width 4 does not", xrs_check_card(card, sizeof card) == 2);
+    card[XRS_RECORD_SIZE] = 6;
+    check("record 2 of width 6 does not", xrs_check_card(card, sizeof card) == 2);
     check("the record before it does", xrs_check_card(card, XRS_RECORD_SIZE) == 0);
     memset(card, 255, XRS_RECORD_SIZE);
     check("a blank slot does", xrs_check_card(card, XRS_RECORD_SIZE) == 0);

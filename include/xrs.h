@@ -6,8 +6,8 @@
  *
  * Answers: every call but xrs_check_card has a refusal in the lowest byte of what it returns. The refusal is 0 where the call was accepted;
  * otherwise it is that of the first question answered no, and the bytes above are 0. The questions are put in the order 1, 2, 3, 8, 4, 5,
- * 6, 7, 9, 10, 11, 12, 13 of their refusals, each for all its items before the next. XRS_REFUSAL gives the refusal. In an answer of 32 bits
- * the rest is one value, which XRS_VALUE gives; in an answer of 64 bits each byte is a value of its own, which XRS_BYTE gives.
+ * 6, 7, 14, 9, 10, 11, 12, 13 of their refusals, each for all its items before the next. XRS_REFUSAL gives the refusal. In an answer of 32
+ * bits the rest is one value, which XRS_VALUE gives; in an answer of 64 bits each byte is a value of its own, which XRS_BYTE gives.
  *
  * Memory: a slice is passed as a pointer and its length in bytes. The pointer must not be NULL, also where the length is 0, and must be
  * valid for that many bytes: to read where it is const, else to read and write. Slices passed to one call must not overlap. Any length and
@@ -33,7 +33,7 @@ enum xrs_refusal {
     XRS_ACCEPTED = 0,                 /* it was not */
     XRS_REFUSED_WIDTH = 1,            /* the width is not 3, 5 or 7 */
     XRS_REFUSED_LENGTH = 2,           /* a slice has not its exact length */
-    XRS_REFUSED_ERASURE_COUNT = 3,    /* there are more than four erasures */
+    XRS_REFUSED_ERASURE_COUNT = 3,    /* there are more than five erasures */
     XRS_REFUSED_ERASURE_PLACE = 4,    /* an erasure is no place of the word */
     XRS_REFUSED_ERASURE_DISTINCT = 5, /* an erasure is given twice */
     XRS_REFUSED_SYMBOL = 6,           /* a symbol outside the erasures is not below q */
@@ -43,7 +43,8 @@ enum xrs_refusal {
     XRS_REFUSED_NONZERO = 10,         /* the symbol 0 has no inverse */
     XRS_REFUSED_SHEET_WIDTH = 11,     /* the width of a day sheet is not 7 */
     XRS_REFUSED_DATE = 12,            /* the date of a day sheet does not exist */
-    XRS_REFUSED_UNUSED = 13           /* a day sheet's symbols c_100 to c_126 are not zero */
+    XRS_REFUSED_UNUSED = 13,          /* a day sheet's symbols c_100 to c_126 are not zero */
+    XRS_REFUSED_UNIQUE = 14           /* several codewords agree with the word outside five erasures */
 };
 
 /* The refusal of an answer, of 32 or of 64 bits. */
@@ -87,24 +88,25 @@ uint32_t xrs_read_data(uint8_t width, const uint8_t *word, size_t word_length, u
 uint64_t xrs_syndromes(uint8_t width, const uint8_t *word, size_t word_length, const uint8_t *marks, size_t marks_length);
 
 /*
- * Writes the near codeword in place of the word (n bytes). The marks are the erasures: at most four different places of the word, counted
+ * Writes the near codeword in place of the word (n bytes). The marks are the erasures: at most five different places of the word, counted
  * from 0, in any order. A marked place may hold any byte. The near codeword differs from the word at no more than (4 - marks_length) / 2
- * unmarked places, rounded down; there is never a second one. The value is the number of unmarked places changed, 0 to 2. Refused with
- * 1 to 7.
+ * unmarked places, rounded down, and with five marks at none. With up to four marks there is never a second one; with five there may be
+ * several, and then the call is refused with 14. The value is the number of unmarked places changed, 0 to 2. Refused with 1 to 7 and 14.
  */
 uint32_t xrs_restore_word(uint8_t width, uint8_t *word, size_t word_length, const uint8_t *marks, size_t marks_length);
 
 /* ---- The card. */
 
 /*
- * Bytes of a slot of a card, which holds a record or is blank. A record: the width, the number of marks, four bytes for the marks (255 where
+ * Bytes of a slot of a card, which holds a record or is blank. A record: the width, the number of marks, five bytes for the marks (255 where
  * unused), the word, and zeros. A blank slot: every byte is 255.
  */
-#define XRS_RECORD_SIZE 138
+#define XRS_RECORD_SIZE 139
 
 /*
  * Restores the word of a record with the marks that the record names, and leaves the record without marks. The value is the number of
- * unmarked places changed, 0 to 2. Refused with 1 to 8; the length is asked before the width. A blank slot is refused with 1.
+ * unmarked places changed, 0 to 2. Refused with 1 to 8 and 14; the length is asked before the width. A blank slot is
+ * refused with 1.
  */
 uint32_t xrs_restore_record(uint8_t *record, size_t record_length);
 

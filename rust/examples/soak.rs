@@ -1,15 +1,17 @@
 //! Restores a million worn words from a fixed seed. Prints how many, and how many came out wrong; ends with an error where one did.
 //!
 //! The words are sums of codewords by the reference, so each is known before its cells wear. Where no more than r symbols beside the
-//! erasures are wrong, that codeword must come back, with their number. Where more are wrong, the answer is that of the reference at
-//! width 3; at the others, where its search takes long, an accepted word must be a codeword that is near, and a refused one as it was.
+//! erasures are wrong, that codeword must come back, with their number; with five erasures there may be several. Otherwise the answer is that
+//! of the reference at width 3; at the others, where its search takes long, an accepted word must be a codeword that is near, and a refused
+//! one as it was.
 
 #[path = "../tests/reference/mod.rs"]
 mod reference;
 #[path = "../tests/tools/mod.rs"]
 mod tools;
 
-use reference::{order, places, search, syndromes};
+use reference::search::{self, radius};
+use reference::{order, places, syndromes};
 use std::time::Instant;
 use tools::wear::codeword;
 use tools::Chance;
@@ -50,8 +52,8 @@ fn changes(a: &[u8], b: &[u8], marks: &[u8]) -> usize {
 /// Is this answer right for the worn word, of which `clean` is the codeword?
 fn is_right(width: u8, clean: &[u8], worn: &[u8], marks: &[u8], answer: Result<u8, Refusal>, after: &[u8]) -> bool {
     let wrong = changes(clean, worn, marks);
-    let reach = (4 - marks.len()) / 2;
-    if wrong <= reach {
+    let reach = radius(marks.len());
+    if wrong <= reach && answer != Err(Refusal::Unique) {
         return answer == Ok(wrong as u8) && after == clean;
     }
     if width == 3 {
@@ -65,7 +67,9 @@ fn is_right(width: u8, clean: &[u8], worn: &[u8], marks: &[u8], answer: Result<u
             let changed = changes(worn, after, marks);
             changed == count as usize && changed <= reach && syndromes(width, after) == [0; 5]
         }
-        Err(refusal) => refusal == Refusal::Correctable && after == worn,
+        Err(Refusal::Correctable) => after == worn,
+        Err(Refusal::Unique) => after == worn && marks.len() == 5,
+        Err(_) => false,
     }
 }
 
@@ -74,7 +78,7 @@ fn soak(chance: &mut Chance, source: &Source) -> bool {
     let width = source.width;
     let clean = source.draw(chance);
     let mut worn = clean.clone();
-    let (marked, wrong) = (chance.below(5), chance.below(4));
+    let (marked, wrong) = (chance.below(6), chance.below(4));
     let spoiled = chance.places(marked + wrong, places(width));
     let (marks, others) = spoiled.split_at(marked);
     marks.iter().for_each(|&place| worn[place as usize] = chance.below(256) as u8);

@@ -10,7 +10,7 @@ pub enum Refusal {
     Width,
     /// A slice has not its exact length.
     Length,
-    /// There are more than four erasures.
+    /// There are more than five erasures.
     ErasureCount,
     /// An erasure is no place of the word.
     ErasurePlace,
@@ -32,6 +32,8 @@ pub enum Refusal {
     Date,
     /// A day sheet's symbols c_100 to c_126 are not zero.
     Unused,
+    /// Several codewords agree with the word outside five erasures.
+    Unique,
     /// A refusal number that stands at none of the others. The archive that this crate was written for gives none.
     Unknown(u8),
 }
@@ -53,6 +55,7 @@ impl Refusal {
             Refusal::SheetWidth => 11,
             Refusal::Date => 12,
             Refusal::Unused => 13,
+            Refusal::Unique => 14,
             Refusal::Unknown(number) => number,
         }
     }
@@ -67,7 +70,7 @@ impl Refusal {
     pub fn from_number(number: u8) -> Option<Refusal> {
         use Refusal::*;
         let base = [Width, Length, ErasureCount, ErasurePlace, ErasureDistinct, Symbol, Correctable, Padding, Syndrome, Nonzero];
-        let mut known = base.into_iter().chain([SheetWidth, Date, Unused]);
+        let mut known = base.into_iter().chain([SheetWidth, Date, Unused, Unique]);
         let found = known.find(|refusal| refusal.number() == number);
         found.or((number != 0).then_some(Unknown(number)))
     }
@@ -85,7 +88,7 @@ impl std::fmt::Display for Refusal {
         out.write_str(match self {
             Refusal::Width => "the width is not 3, 5 or 7",
             Refusal::Length => "a slice has not its exact length",
-            Refusal::ErasureCount => "there are more than four erasures",
+            Refusal::ErasureCount => "there are more than five erasures",
             Refusal::ErasurePlace => "an erasure is no place of the word",
             Refusal::ErasureDistinct => "an erasure is given twice",
             Refusal::Symbol => "a symbol outside the erasures is not below 2^width",
@@ -96,6 +99,7 @@ impl std::fmt::Display for Refusal {
             Refusal::SheetWidth => "the width of a day sheet is not 7",
             Refusal::Date => "the date of a day sheet does not exist",
             Refusal::Unused => "a day sheet's symbols c_100 to c_126 are not zero",
+            Refusal::Unique => "several codewords agree with the word outside the erasures",
             Refusal::Unknown(number) => return write!(out, "refused with the number {number}, which is not known here"),
         })
     }
@@ -227,9 +231,10 @@ pub fn syndromes(width: u8, word: &[u8], marks: &[u8]) -> Result<[u8; 5], Refusa
 }
 
 /// Writes the near codeword in place of `word`, and answers the number of unmarked places that changed, 0 to 2. The near codeword differs
-/// from `word` at no more than (4 - `marks.len()`) / 2 unmarked places, rounded down; there is never a second one.
+/// from `word` at no more than (4 - `marks.len()`) / 2 unmarked places, rounded down, and with five marks at none. With up to four marks
+/// there is never a second one; with five there may be several, and then the call is refused.
 ///
-/// `marks` are the erasures: at most four different places, in any order. A marked place may hold any byte, and its change is not counted.
+/// `marks` are the erasures: at most five different places, in any order. A marked place may hold any byte, and its change is not counted.
 ///
 /// ```
 /// // Two wrong symbols, no marks.
@@ -248,28 +253,35 @@ pub fn syndromes(width: u8, word: &[u8], marks: &[u8]) -> Result<[u8; 5], Refusa
 /// assert_eq!(word, [1, 1, 1, 0, 0, 0, 0, 0, 0, 0, 0, 0]);
 /// assert_eq!(xrs::restore_word(3, &mut word, &[12]), Err(xrs::Refusal::ErasurePlace));
 /// assert_eq!(xrs::restore_word(3, &mut word, &[3, 3]), Err(xrs::Refusal::ErasureDistinct));
-/// assert_eq!(xrs::restore_word(3, &mut word, &[0, 1, 2, 3, 4]), Err(xrs::Refusal::ErasureCount));
+/// assert_eq!(xrs::restore_word(3, &mut word, &[0, 1, 2, 3, 4, 5]), Err(xrs::Refusal::ErasureCount));
+///
+/// // Five marks: one codeword agrees outside them, or none, or several.
+/// let mut word = [0, 0, 0, 0, 0, 0, 1, 0, 0, 0, 0, 0];
+/// assert_eq!(xrs::restore_word(3, &mut word, &[0, 1, 2, 3, 4]), Ok(0));
+/// assert_eq!(word, [1, 2, 4, 3, 6, 0, 1, 0, 0, 0, 0, 0]);
+/// assert_eq!(xrs::restore_word(3, &mut [1, 0, 0, 0, 0, 0, 0, 0, 0, 0, 0, 0], &[2, 4, 5, 6, 8]), Err(xrs::Refusal::Correctable));
+/// assert_eq!(xrs::restore_word(3, &mut [0; 12], &[2, 4, 5, 6, 8]), Err(xrs::Refusal::Unique));
 /// ```
 pub fn restore_word(width: u8, word: &mut [u8], marks: &[u8]) -> Result<u8, Refusal> {
     unpack(unsafe { raw::xrs_restore_word(width, word.as_mut_ptr(), word.len(), marks.as_ptr(), marks.len()) }).map(|count| count as u8)
 }
 
-/// Bytes of a record: the width, the number of marks, four bytes for the marks (255 where unused), the word, and zeros.
-pub const RECORD_SIZE: usize = 138;
+/// Bytes of a record: the width, the number of marks, five bytes for the marks (255 where unused), the word, and zeros.
+pub const RECORD_SIZE: usize = 139;
 
 /// Restores the word of a record with the marks that the record names, leaves the record without marks, and answers the number of unmarked
 /// places that changed, 0 to 2.
 ///
 /// ```
 /// let mut record = [0; xrs::RECORD_SIZE];
-/// record[..6].copy_from_slice(&[3, 1, 7, 255, 255, 255]); // width 3, one mark, at place 7
-/// record[6 + 7] = 200;
-/// record[6 + 11] = 5; // a wrong symbol
+/// record[..7].copy_from_slice(&[3, 1, 7, 255, 255, 255, 255]); // width 3, one mark, at place 7
+/// record[7 + 7] = 200;
+/// record[7 + 11] = 5; // a wrong symbol
 /// assert_eq!(xrs::restore_record(&mut record), Ok(1));
-/// assert_eq!(record[..6], [3, 0, 255, 255, 255, 255]);
-/// assert_eq!(record[6..], [0; 132]);
+/// assert_eq!(record[..7], [3, 0, 255, 255, 255, 255, 255]);
+/// assert_eq!(record[7..], [0; 132]);
 ///
-/// record[137] = 1; // the tail of a record is 0
+/// record[138] = 1; // the tail of a record is 0
 /// assert_eq!(xrs::restore_record(&mut record), Err(xrs::Refusal::Padding));
 /// assert_eq!(xrs::restore_record(&mut record[1..]), Err(xrs::Refusal::Length));
 /// ```
@@ -284,7 +296,7 @@ pub fn restore_record(record: &mut [u8]) -> Result<u8, Refusal> {
 /// ```
 /// let mut card = [0; 2 * xrs::RECORD_SIZE];
 /// for record in card.chunks_mut(xrs::RECORD_SIZE) {
-///     record[..6].copy_from_slice(&[3, 0, 255, 255, 255, 255]);
+///     record[..7].copy_from_slice(&[3, 0, 255, 255, 255, 255, 255]);
 /// }
 /// assert_eq!(xrs::check_card(&card), Ok(()));
 /// assert_eq!(xrs::check_card(&card[..200]), Err(2));

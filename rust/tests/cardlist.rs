@@ -82,7 +82,7 @@ fn one_byte() {
 #[test]
 fn short_last_pieces() {
     let clean = record(7, &codeword(&mut Chance::new(), 7), &[]);
-    for length in [1, 2, 137, 138, 139, 275, 276, 277] {
+    for length in [1, 2, RECORD - 1, RECORD, RECORD + 1, 2 * RECORD - 1, 2 * RECORD, 2 * RECORD + 1] {
         let card: Vec<u8> = clean.iter().cycle().take(length).copied().collect();
         assert_eq!(listed_bytes(&card), list(&card), "{length} bytes");
     }

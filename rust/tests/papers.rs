@@ -2,7 +2,7 @@
 
 mod reference;
 
-use reference::{masked, search};
+use reference::{card, masked, search};
 
 /// The zero word of width 3 with other symbols at some places.
 fn zeros_but(symbols: &[(usize, u8)]) -> Vec<u8> {
@@ -45,4 +45,39 @@ fn d_sums_beside_the_marks() {
     assert_eq!(masked::sums(3, &zeros_but(&[(0, 8)]), &[12, 12]), Err(4));
     assert_eq!(masked::sums(3, &[8; 11], &[12, 12]), Err(2));
     assert_eq!(masked::sums(6, &[8; 11], &[12, 12]), Err(1));
+}
+
+#[test]
+fn e_five_marks() {
+    assert_eq!(search::restore(3, &[0; 12], &[2, 4, 5, 6, 8]), Err(14));
+    assert_eq!(search::restore(3, &zeros_but(&[(0, 1)]), &[2, 4, 5, 6, 8]), Err(7));
+    // All check symbols are marked: they are the powers 0, 4, 8, 12 and 16 of α, times c_4.
+    let only = vec![1, 6, 2, 7, 4, 0, 0, 0, 0, 1, 0, 0];
+    assert_eq!(search::restore(3, &zeros_but(&[(0, 200), (4, 8), (9, 1)]), &[0, 1, 2, 3, 4]), Ok((0, only)));
+    assert_eq!(search::restore(3, &[8; 12], &[0, 1, 2, 3, 4, 12]), Err(3));
+    assert_eq!(search::restore(3, &[8; 12], &[3, 3, 2, 3, 12]), Err(4));
+    assert_eq!(search::restore(3, &[8; 12], &[0, 1, 2, 3, 3]), Err(5));
+    assert_eq!(search::restore(3, &[8; 12], &[0, 1, 2, 3, 4]), Err(6));
+}
+
+#[test]
+fn e_records_of_139_bytes() {
+    let marked = card::record(3, &zeros_but(&[(9, 1)]), &[4, 3, 2, 1, 0]);
+    assert_eq!(marked[..9], [3, 5, 4, 3, 2, 1, 0, 0, 0]);
+    assert_eq!((marked.len(), marked[7 + 9]), (139, 1));
+    let (changed, restored) = card::restore(&marked).expect("one codeword agrees");
+    assert_eq!((changed, &restored[..7]), (0, &[3, 0, 255, 255, 255, 255, 255][..]));
+    assert_eq!(restored[7..19], [1, 6, 2, 7, 4, 0, 0, 0, 0, 1, 0, 0]);
+    assert_eq!(card::judge(&card::record(3, &[0; 12], &[2, 4, 5, 6, 8])), Err(14));
+    assert_eq!(card::judge(&card::record(3, &zeros_but(&[(0, 1)]), &[2, 4, 5, 6, 8])), Err(7));
+    assert_eq!(card::judge(&[255; 139]), Err(1));
+    assert_eq!(card::judge(&marked[..138]), Err(2));
+    let with = |at: usize, byte: u8| {
+        let mut bytes = card::record(3, &[0; 12], &[1, 2, 3, 4]);
+        bytes[at] = byte;
+        card::judge(&bytes)
+    };
+    assert_eq!(with(1, 4), Ok(0));
+    assert_eq!((with(1, 3), with(6, 0), with(19, 1), with(138, 1)), (Err(8), Err(8), Err(8), Err(8)));
+    assert_eq!((with(1, 5), with(1, 6), with(1, 255), with(2, 255)), (Err(4), Err(3), Err(3), Err(4)));
 }

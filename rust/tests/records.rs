@@ -3,18 +3,18 @@
 mod reference;
 mod tools;
 
-use reference::card::{check, record, restore, RECORD};
+use reference::card::{check, record, restore, HEADER, RECORD};
 use tools::wear::{codeword, worn};
-use tools::{check_card, restore_record, Chance};
+use tools::{check_card, refusal, restore_record, Chance};
 use xrs::Refusal;
 
 const WIDTHS: [u8; 3] = [3, 5, 7];
 
 /// Fails unless the answer and the bytes afterwards are those of the reference.
 fn compare(old: &[u8]) -> Result<u8, Refusal> {
-    let wanted = match restore(old) {
+    let wanted = match refusal(restore(old)) {
         Ok((changed, new)) => (Ok(changed), new),
-        Err(number) => (Err(Refusal::from_number(number).expect("a refusal number")), old.to_vec()),
+        Err(refused) => (Err(refused), old.to_vec()),
     };
     let found = restore_record(old);
     assert!(found == wanted, "{old:?}: {found:?}, not {wanted:?}");
@@ -24,13 +24,13 @@ fn compare(old: &[u8]) -> Result<u8, Refusal> {
 #[test]
 fn worn_records() {
     let mut chance = Chance::new();
-    let mut seen = [0; 11];
+    let mut seen = [0; 15];
     for _ in 0..3000 {
         let width = WIDTHS[chance.below(3)];
         let number = compare(&worn(&mut chance, width)).map_or_else(|refusal| refusal.number() as usize, |_| 0);
         seen[number] += 1;
     }
-    for number in [0, 1, 3, 4, 5, 6, 7, 8] {
+    for number in [0, 1, 3, 4, 5, 6, 7, 8, 14] {
         assert!(seen[number] > 0, "no record was refused with {number}: {seen:?}");
     }
 }
@@ -42,9 +42,10 @@ fn every_byte_of_the_header() {
         let word = codeword(&mut chance, width);
         let clean = record(width, &word, &[]);
         let marked = record(width, &word, &[1, 5, 8, 11]);
-        for at in 0..6 {
-            for byte in 0..=255 {
-                for mut bytes in [clean.clone(), marked.clone()] {
+        let all_marked = record(width, &word, &[1, 5, 8, 11, 0]);
+        for at in 0..HEADER {
+            for byte in (0..=255).filter(|&byte| width < 7 || byte < 16 || byte > 125) {
+                for mut bytes in [clean.clone(), marked.clone(), all_marked.clone()] {
                     bytes[at] = byte;
                     let _ = compare(&bytes);
                 }
@@ -58,7 +59,7 @@ fn every_byte_of_the_tail() {
     let mut chance = Chance::new();
     for width in WIDTHS {
         let clean = record(width, &codeword(&mut chance, width), &[]);
-        for at in 6..RECORD {
+        for at in HEADER..RECORD {
             let mut bytes = clean.clone();
             bytes[at] ^= 1;
             let _ = compare(&bytes);
@@ -147,7 +148,7 @@ fn cards() {
     }
     for bad in 0..40 {
         let mut card = clean.clone();
-        card[bad * RECORD + 1] = 5;
+        card[bad * RECORD + 1] = 6;
         assert_eq!(check_card(&card), Err(bad as u64 + 1), "the one record that would be refused");
     }
     for slots in 0..4 {

@@ -3,10 +3,10 @@
 mod reference;
 mod tools;
 
-use reference::{order, places, search};
+use reference::{items, order, places, raise, search};
 use tools::wear::codeword as random_codeword;
-use tools::{restore_word, restore_word_within, Chance};
-use xrs::Refusal::{self, Correctable, ErasureCount, ErasureDistinct, ErasurePlace, Length, Symbol, Width};
+use tools::{refusal, restore_word, restore_word_within, Chance};
+use xrs::Refusal::{self, Correctable, ErasureCount, ErasureDistinct, ErasurePlace, Length, Symbol, Unique, Width};
 
 const WIDTHS: [u8; 3] = [3, 5, 7];
 const BAD_WIDTHS: [u8; 8] = [0, 1, 2, 4, 6, 8, 128, 255];
@@ -15,9 +15,9 @@ type Answer = (Result<u8, Refusal>, Vec<u8>);
 
 /// Fails unless the answer and the bytes afterwards are those of the reference.
 fn compare(width: u8, word: &[u8], marks: &[u8], (answer, after): &Answer) {
-    let wanted = match search::restore(width, word, marks) {
+    let wanted = match refusal(search::restore(width, word, marks)) {
         Ok((count, restored)) => (Ok(count), restored),
-        Err(number) => (Err(Refusal::from_number(number).expect("a refusal number")), word.to_vec()),
+        Err(refused) => (Err(refused), word.to_vec()),
     };
     assert!((answer, after) == (&wanted.0, &wanted.1), "width {width}, marks {marks:?}, {word:?}: {answer:?}, {after:?}, not {wanted:?}");
 }
@@ -70,7 +70,8 @@ fn cases_f_to_n() {
 }
 
 /// Restores the words of width 3 with all check symbols and zero data: they have all syndromes. The marked places hold any bytes. Each
-/// pattern of errors that can be undone has syndromes of its own, since the distance is 5, so it is known how many are accepted.
+/// pattern of errors that can be undone has syndromes of its own, since the distance is 5, so it is known how many are accepted. With five
+/// marks it is every word or none: then several codewords agree, or none does.
 fn every_syndrome(chance: &mut Chance, marks: &[u8]) {
     let mut accepted = 0;
     for number in 0..8usize.pow(5) {
@@ -86,6 +87,7 @@ fn every_syndrome(chance: &mut Chance, marks: &[u8]) {
     let beside_the_marks = match marks.len() {
         0 => 1 + 7 * others + 49 * others * (others - 1) / 2,
         1 | 2 => 1 + 7 * others,
+        5 => (restore_word(3, &[0; 12], marks).0 == Ok(0)) as usize,
         _ => 1,
     };
     assert_eq!(accepted, 8usize.pow(marks.len() as u32) * beside_the_marks, "marks {marks:?}");
@@ -123,6 +125,17 @@ fn every_syndrome_with_three_or_four_marks() {
     }
 }
 
+#[test]
+fn every_syndrome_with_five_marks() {
+    let mut chance = Chance::new();
+    for _ in 0..12 {
+        let marks = chance.places(5, 12);
+        every_syndrome(&mut chance, &marks);
+        let marks = dependent(&mut chance, 3);
+        every_syndrome(&mut chance, &marks);
+    }
+}
+
 /// Codewords with `marked` places that hold any bytes and `wrong` other symbols changed.
 fn words_near_codewords(width: u8, rounds: usize) {
     let mut chance = Chance::new();
@@ -153,6 +166,56 @@ fn words_near_codewords_of_width_5() {
 #[test]
 fn words_near_codewords_of_width_7() {
     words_near_codewords(7, 8000);
+}
+
+/// Five marks outside which some codeword other than zeros is zero: p_2, p_4 and three data places whose points add up to 0, so that the
+/// columns of these three are dependent in the rows 0, 1 and 3 that are left (see case M of document 01).
+fn dependent(chance: &mut Chance, width: u8) -> Vec<u8> {
+    let point = |i: usize| raise(width, 2, i as u16);
+    let mut data = chance.places(2, items(width));
+    let third = point(data[0] as usize) ^ point(data[1] as usize);
+    data.extend((0..items(width)).find(|&i| point(i) == third).map(|i| i as u8));
+    [2, 4].into_iter().chain(data.iter().map(|i| 5 + i)).collect()
+}
+
+/// Beside five marks a codeword comes back or there are several, and a wrong symbol more is not undone. Where the columns at the marks are
+/// independent, as the zero word tells, one codeword agrees whatever stands beside the marks; where they are not, none or several.
+fn five_marks(width: u8, rounds: usize) {
+    let mut chance = Chance::new();
+    let mut seen = [0; 3];
+    for round in 0..rounds {
+        let mut marks = if round % 3 == 0 { dependent(&mut chance, width) } else { chance.places(5, places(width)) };
+        marks.rotate_left(round % 5);
+        let independent = restore_word(width, &vec![0; places(width)], &marks).0 == Ok(0);
+        let codeword = random_codeword(&mut chance, width);
+        let mut word = codeword.clone();
+        marks.iter().for_each(|&mark| word[mark as usize] = chance.below(256) as u8);
+        let answer = restored(width, &word, &marks);
+        assert_eq!(answer, if independent { (Ok(0), codeword) } else { (Err(Unique), word.clone()) }, "marks {marks:?}");
+        let other = (0..).find(|place| !marks.contains(place)).expect("a place beside the marks");
+        word[other as usize] ^= 1 + chance.below(order(width) - 1) as u8;
+        let worse = restored(width, &word, &marks);
+        assert!(if independent { worse.0 == Ok(0) } else { worse.0.is_err() }, "marks {marks:?}: {worse:?}");
+        for result in [answer, worse] {
+            seen[[Ok(0), Err(Correctable), Err(Unique)].iter().position(|known| *known == result.0).expect("one of these answers")] += 1;
+        }
+    }
+    assert!(seen.iter().all(|&count| count > rounds / 20), "all answers were given: {seen:?}");
+}
+
+#[test]
+fn five_marks_at_width_3() {
+    five_marks(3, 6000);
+}
+
+#[test]
+fn five_marks_at_width_5() {
+    five_marks(5, 1000);
+}
+
+#[test]
+fn five_marks_at_width_7() {
+    five_marks(7, 60);
 }
 
 #[test]
@@ -261,7 +324,7 @@ fn bad_marks() {
     for width in WIDTHS {
         let n = places(width);
         let zeros = vec![0; n];
-        for count in [5, 6, 12, 255, 256, 257, 260, 65536, 65540] {
+        for count in [6, 7, 12, 255, 256, 257, 261, 65536, 65541] {
             let marks: Vec<u8> = (0..count).map(|i| (i % n) as u8).collect();
             assert_eq!(refused(width, &zeros, &marks), ErasureCount, "{count} marks at width {width}");
         }
@@ -321,7 +384,7 @@ impl Input {
         match question {
             Width => self.width = BAD_WIDTHS[kind % 8],
             Length => self.word.resize([n - 1, n + 1, n + 256, 0][kind % 4], 0),
-            ErasureCount => self.marks.extend(if kind % 2 == 0 { vec![1, 2, 3] } else { vec![5; 256] }),
+            ErasureCount => self.marks.extend(if kind % 2 == 0 { vec![1, 2, 3, 4] } else { vec![5; 256] }),
             ErasurePlace => self.marks.insert(kind % 3, if kind % 2 == 0 { n as u8 } else { 255 }),
             ErasureDistinct => self.marks.insert(kind % 3, self.marks[kind % 2]),
             Symbol => self.word[8 + kind % 2] = if kind % 4 < 2 { n as u8 - 4 } else { 255 },

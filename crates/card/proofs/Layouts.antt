@@ -15,10 +15,9 @@ use Rattle.field.specs.declared.Question.the-variants.{Width, Length, ErasureCo
 use Rattle.field.specs.declared.Verdict.the-variants.{Passed, Refused}
 use Rattle.field.proofs.Ask.{ask-yes, ask-next, and-true-left, and-true-right}
 use Rattle.code.specs.Word.{places, wordLength}
-use Rattle.code.specs.Call.{maxErasures}
 use Rattle.code.proofs.Lengths.{width-some, width-none, length-is, places-most}
 use Rattle.card.specs.Record.{erasureBytes, headerSize, recordSize, widthOf, countOf, erasuresOf, unusedOf, wordOf, tailOf}
-use Rattle.card.specs.Record.{allAre, recordAsked}
+use Rattle.card.specs.Record.{allAre, allowedIn, askedIn, recordAsked}
 
 -- ---- bytes that are all the same
 
@@ -69,26 +68,27 @@ module _ (r : List ℕ) (n e : ℕ) (b c : Bool) where
       less = omega arith
 
 -- the erasure bytes, read one by one
-pub four-bytes : (r : List ℕ) → headerSize ≤ length r
-    → _≡_ {A = List ℕ} (getD r 2 0 ∷ getD r 3 0 ∷ getD r 4 0 ∷ getD r 5 0 ∷ []) (take erasureBytes (drop 2 r))
-four-bytes [] h = absurd (omega arith)
-four-bytes (a ∷ []) h = absurd (omega arith)
-four-bytes (a ∷ b ∷ []) h = absurd (omega arith)
-four-bytes (a ∷ b ∷ c ∷ []) h = absurd (omega arith)
-four-bytes (a ∷ b ∷ c ∷ d ∷ []) h = absurd (omega arith)
-four-bytes (a ∷ b ∷ c ∷ d ∷ e ∷ []) h = absurd (omega arith)
-four-bytes (a ∷ b ∷ c ∷ d ∷ e ∷ f ∷ r) h = refl
+pub five-bytes : (r : List ℕ) → headerSize ≤ length r
+    → _≡_ {A = List ℕ} (getD r 2 0 ∷ getD r 3 0 ∷ getD r 4 0 ∷ getD r 5 0 ∷ getD r 6 0 ∷ []) (take erasureBytes (drop 2 r))
+five-bytes [] h = absurd (omega arith)
+five-bytes (a ∷ []) h = absurd (omega arith)
+five-bytes (a ∷ b ∷ []) h = absurd (omega arith)
+five-bytes (a ∷ b ∷ c ∷ []) h = absurd (omega arith)
+five-bytes (a ∷ b ∷ c ∷ d ∷ []) h = absurd (omega arith)
+five-bytes (a ∷ b ∷ c ∷ d ∷ e ∷ []) h = absurd (omega arith)
+five-bytes (a ∷ b ∷ c ∷ d ∷ e ∷ f ∷ []) h = absurd (omega arith)
+five-bytes (a ∷ b ∷ c ∷ d ∷ e ∷ f ∷ g ∷ r) h = refl
 
 -- ---- the record's own questions, one by one
 
 module _ (r : List ℕ) where
   pub length-no : (length r ≡ recordSize → ⊥) → Refused Length ≡ recordAsked r
-  unfolding recordAsked
+  unfolding askedIn
   length-no n = simp (ne-eqb (length r) recordSize n)
 
   module _ (size : length r ≡ recordSize) (n : ℕ) (en : n ≡ wordLength (widthOf r)) where
     pub record-no-width : n ≡ 0 → Refused Width ≡ recordAsked r
-    unfolding recordAsked
+    unfolding askedIn
     record-no-width z = simp (eq-eqb (length r) recordSize size, width-none (widthOf r) n en z)
 
     module _ (nz : n ≢ 0) where
@@ -98,24 +98,24 @@ module _ (r : List ℕ) where
       pub record-fits : headerSize + n ≤ recordSize
       record-fits = omega (arith, length-is (widthOf r) n en width, places-most (widthOf r) width)
 
-      pub count-no : maxErasures (widthOf r) < countOf r → Refused ErasureCount ≡ recordAsked r
-      unfolding recordAsked
-      count-no h = simp (eq-eqb (length r) recordSize size, width, lt-leb (countOf r) (maxErasures (widthOf r)) h)
+      pub count-no : allowedIn erasureBytes r < countOf r → Refused ErasureCount ≡ recordAsked r
+      unfolding askedIn
+      count-no h = simp (eq-eqb (length r) recordSize size, width, lt-leb (countOf r) (allowedIn erasureBytes r) h)
 
-      module _ (few : countOf r ≤ maxErasures (widthOf r)) (b : Bool)
+      module _ (few : countOf r ≤ allowedIn erasureBytes r) (b : Bool)
           (eb : b ≡ (allAre 255 (take (erasureBytes - countOf r) (drop (2 + countOf r) r)) && allAre 0 (drop (headerSize + n) r))) where
         padding : b ≡ (allAre 255 (unusedOf r) && allAre 0 (tailOf r))
         padding = eb ∙ ap (λ (x : ℕ). allAre 255 (unusedOf r) && allAre 0 (drop (headerSize + x) r)) (length-is (widthOf r) n en width)
 
         pub record-passes : b ≡ true → Passed ≡ recordAsked r
-        unfolding recordAsked
+        unfolding askedIn
         record-passes t =
-            simp (eq-eqb (length r) recordSize size, width, le-leb (countOf r) (maxErasures (widthOf r)) few, sym padding ∙ t)
+            simp (eq-eqb (length r) recordSize size, width, le-leb (countOf r) (allowedIn erasureBytes r) few, sym padding ∙ t)
 
         pub padding-no : b ≡ false → Refused Padding ≡ recordAsked r
-        unfolding recordAsked
+        unfolding askedIn
         padding-no t =
-            simp (eq-eqb (length r) recordSize size, width, le-leb (countOf r) (maxErasures (widthOf r)) few, sym padding ∙ t)
+            simp (eq-eqb (length r) recordSize size, width, le-leb (countOf r) (allowedIn erasureBytes r) few, sym padding ∙ t)
 
 -- ---- a record that passed them
 
@@ -126,15 +126,15 @@ pub record Asked (r : List ℕ) : Type 0 where
   pub tail : allAre 0 (tailOf r) ≡ true
 
 pub asked : (r : List ℕ) → recordAsked r ≡ Passed → Asked r
-unfolding recordAsked
+unfolding askedIn
 asked r p1 =
     let p2 = ask-next (eqb (length r) recordSize) Length _ p1 in
     let p3 = ask-next (isWidth (widthOf r)) Width _ p2 in
-    let p4 = ask-next (leb (countOf r) (maxErasures (widthOf r))) ErasureCount _ p3 in
+    let p4 = ask-next (leb (countOf r) (allowedIn erasureBytes r)) ErasureCount _ p3 in
     record {
       size = eqb-true (length r) recordSize (ask-yes (eqb (length r) recordSize) Length _ p1);
       width = ask-yes (isWidth (widthOf r)) Width _ p2;
-      few = leb-true (countOf r) (maxErasures (widthOf r)) (ask-yes (leb (countOf r) (maxErasures (widthOf r))) ErasureCount _ p3);
+      few = leb-true (countOf r) (allowedIn erasureBytes r) (ask-yes (leb (countOf r) (allowedIn erasureBytes r)) ErasureCount _ p3);
       tail = and-true-right (allAre 255 (unusedOf r)) (allAre 0 (tailOf r))
           (ask-yes (allAre 255 (unusedOf r) && allAre 0 (tailOf r)) Padding Passed p4);
     }

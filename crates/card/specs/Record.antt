@@ -2,7 +2,7 @@
 use mathlib.Core.Path.{_≡_}
 use mathlib.Core.Bool.{Bool, true, _&&_}
 use mathlib.Core.List.{List, [], _∷_, _++_}
-use Prim.Native.Nat.{ℕ, _+_, _-_}
+use Prim.Native.Nat.{ℕ, _+_, _-_, min}
 use lib.Dec.{eqb, leb}
 use lib.ListN.{length, getD, take, drop, replicate}
 use Rattle.field.specs.Question.{Outcome, accepted, refused, ask, after, isWidth}
@@ -13,19 +13,15 @@ use Rattle.code.specs.Word.{places, longest}
 use Rattle.code.specs.Call.{maxErasures, restoreOf, restoreWritten, repair}
 use Rattle.code.specs.declared.Repair.{Repair}
 
--- ---- the layout
-
--- the number of erasure bytes, document 01's mark bytes
-abbrev pub erasureBytes : ℕ
-erasureBytes = 4
+-- ---- the layout, with k erasure bytes, document 01's mark bytes
 
 -- byte 0 is the width, byte 1 the number of erasures; then come the erasure bytes, and at this byte the symbols start
-abbrev pub headerSize : ℕ
-headerSize = 2 + erasureBytes
+abbrev pub headerOf : ℕ → ℕ
+headerOf k = 2 + k
 
 -- the number of bytes of a record
-abbrev pub recordSize : ℕ
-recordSize = headerSize + longest
+abbrev pub sizeOf : ℕ → ℕ
+sizeOf k = headerOf k + longest
 
 -- the width, byte 0
 abbrev pub widthOf : List ℕ → ℕ
@@ -40,31 +36,59 @@ abbrev pub erasuresOf : List ℕ → List ℕ
 erasuresOf r = take (countOf r) (drop 2 r)
 
 -- the erasure bytes that are not used
-abbrev pub unusedOf : List ℕ → List ℕ
-unusedOf r = take (erasureBytes - countOf r) (drop (2 + countOf r) r)
+abbrev pub unusedIn : ℕ → List ℕ → List ℕ
+unusedIn k r = take (k - countOf r) (drop (2 + countOf r) r)
 
 -- the symbols
-abbrev pub wordOf : List ℕ → List ℕ
-wordOf r = take (places (widthOf r)) (drop headerSize r)
+abbrev pub wordIn : ℕ → List ℕ → List ℕ
+wordIn k r = take (places (widthOf r)) (drop (headerOf k) r)
 
 -- the rest, behind the last symbol
-abbrev pub tailOf : List ℕ → List ℕ
-tailOf r = drop (headerSize + places (widthOf r)) r
+abbrev pub tailIn : ℕ → List ℕ → List ℕ
+tailIn k r = drop (headerOf k + places (widthOf r)) r
+
+-- question 3's bound: there are no more erasures than bytes for them
+abbrev pub allowedIn : ℕ → List ℕ → ℕ
+allowedIn k r = min k (maxErasures (widthOf r))
 
 -- every entry is x
 abbrev pub allAre : ℕ → List ℕ → Bool
 allAre x [] = true
 allAre x (y ∷ ys) = eqb y x && allAre x ys
 
--- ---- restoring a record
-
--- a record's length is asked first, then questions 1, 3 and 4; the others are put to its word
-unfoldable pub recordAsked : List ℕ → Verdict
-recordAsked r =
-    ask (eqb (length r) recordSize) Length
+-- a record's length is asked first, then questions 1, 3 and 4
+unfoldable pub askedIn : ℕ → List ℕ → Verdict
+askedIn k r =
+    ask (eqb (length r) (sizeOf k)) Length
     (ask (isWidth (widthOf r)) Width
-    (ask (leb (countOf r) (maxErasures (widthOf r))) ErasureCount
-    (ask (allAre 255 (unusedOf r) && allAre 0 (tailOf r)) Padding Passed)))
+    (ask (leb (countOf r) (allowedIn k r)) ErasureCount
+    (ask (allAre 255 (unusedIn k r) && allAre 0 (tailIn k r)) Padding Passed)))
+
+-- ---- today's edition
+
+-- five erasure bytes
+abbrev pub erasureBytes : ℕ
+erasureBytes = 5
+
+abbrev pub headerSize : ℕ
+headerSize = headerOf erasureBytes
+
+abbrev pub recordSize : ℕ
+recordSize = sizeOf erasureBytes
+
+abbrev pub unusedOf : List ℕ → List ℕ
+unusedOf r = unusedIn erasureBytes r
+
+abbrev pub wordOf : List ℕ → List ℕ
+wordOf r = wordIn erasureBytes r
+
+abbrev pub tailOf : List ℕ → List ℕ
+tailOf r = tailIn erasureBytes r
+
+-- ---- restoring a record: its own questions, then those that are put to its word
+
+abbrev pub recordAsked : List ℕ → Verdict
+recordAsked r = askedIn erasureBytes r
 
 -- what restoring the record answers
 unfoldable pub recordOf : List ℕ → Outcome

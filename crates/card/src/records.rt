@@ -14,7 +14,7 @@ use field::Question;
 use field::Verdict;
 
 // The layout of a record.
-const ERASURE_BYTES: usize = 4;
+const ERASURE_BYTES: usize = 5;
 
 const HEADER: usize = 2 + ERASURE_BYTES;
 
@@ -64,7 +64,7 @@ fn ask_record(bytes: &[u8]) -> Verdict
         return Verdict::Refused(Question::Width);
     }
     let count = bytes[1] as usize;
-    if 4 < count {
+    if 5 < count {
         return Verdict::Refused(Question::ErasureCount);
     }
     if padded(bytes, count, HEADER + n) {
@@ -79,7 +79,7 @@ fn erasure_row(bytes: &[u8]) -> [u8; ERASURE_BYTES]
     requires { ⌜ headerSize ≤ length (now bytes) ⌝ }
     ensures { λ r. ⌜ r ≡ take erasureBytes (drop 2 (now (bytes .entry))) ⌝ }
 {
-    [bytes[2], bytes[3], bytes[4], bytes[5]]
+    [bytes[2], bytes[3], bytes[4], bytes[5], bytes[6]]
 }
 
 // No erasures: the header of a restored record.
@@ -87,8 +87,8 @@ fn clear_header(bytes: &mut [u8], width: u8)
     requires { ⌜ headerSize ≤ length (now bytes) ⌝ }
     ensures { λ r. ⌜ now (bytes .exit) ≡ (width ∷ 0 ∷ replicate erasureBytes 255) ++ drop headerSize (now (bytes .entry)) ⌝ }
 {
-    let header = [width, 0, 255, 255, 255, 255];
-    copy(&mut bytes[..6], &header);
+    let header = [width, 0, 255, 255, 255, 255, 255];
+    copy(&mut bytes[..7], &header);
 }
 
 // The word of a record that passed is restored in its place.

@@ -77,7 +77,7 @@ fn list_batch(s: Progress) -> Turn
     requires { ⌜ Within (2 ^ 62) s ⌝ }
     ensures { λ r. ⌜ Continues batchSize s (r .progress) (r .going) ⌝ }
 {
-    let mut batch = [0u8; 55200];
+    let mut batch = [0u8; 55600];
     let mut out = [0u8; 33600];
     let input = read_batch(&mut batch);
     let n = input.count;
@@ -91,7 +91,7 @@ fn list_batch(s: Progress) -> Turn
     let progress = listed.progress;
     Turn {
         progress,
-        going: n == 55200,
+        going: n == 55600,
         written,
     }
 }

@@ -7,7 +7,7 @@ use Prim.Native.Nat.{ℕ, zero, suc, _≤_, _<_}
 use native.Mathlib.Nat.{not-suc-le-zero, le-of-suc-le-suc}
 use native.Mathlib.Omega.{arith}
 use borrow.Author.Tests.{eq-eqb}
-use lib.Dec.{T, eqb, leb, eqb→eq, leb→le, T-not}
+use lib.Dec.{T, eqb, leb, ltb, eqb→eq, leb→le, ltb→lt, T-not}
 use lib.ListN.{length}
 use Rattle.field.specs.Field.{order}
 use Rattle.field.specs.Question.{Outcome, accepted, refused, refusal, allBelow}
@@ -19,19 +19,18 @@ use Rattle.field.proofs.Check.{and-left, and-right, all, all-at}
 use Rattle.field.proofs.Widths.{field-of}
 use Rattle.code.specs.Word.{places, items, five, at, Codeword, encode}
 use Rattle.code.specs.Erasure.{changes, maskedSyndrome}
-use Rattle.code.specs.Near.{radius}
+use Rattle.code.specs.Near.{distance, radius, Near}
 use Rattle.code.specs.Call.{written, done, zeroSyndromes, restoreAsked}
 use Rattle.code.specs.Demands.{Data, Passes}
 use Rattle.code.specs.Cases.{Case, encoding, restoring, Holds, Table}
 use Rattle.code.proofs.Questions.{allBelow-means}
 use Rattle.code.proofs.Horner.{five-cong}
 use Rattle.code.proofs.Columns.{combine}
-use Rattle.code.proofs.Unique.{Within, near-within}
 use Rattle.code.specs.Correction.{Lent}
 use Rattle.code.proofs.Filling.{Each, Solution, codeword-solution}
 use Rattle.code.proofs.Extra.{Falling, Beside, within-beside, wrong}
 use Rattle.code.proofs.Passing.{syndromes-zero, encode-passes, given}
-use Rattle.code.proofs.Demands.{accepts, refuses-seven, refused-unchanged}
+use Rattle.code.proofs.Demands.{never-two, accepts, refuses-seven, refused-unchanged}
 
 and-three : (a b c : Bool) → T (a && (b && c)) → T a × T b × T c
 and-three a b c t = (and-left a (b && c) t, and-left b c (and-right a (b && c) t), and-right b c (and-right a (b && c) t))
@@ -63,21 +62,21 @@ same-to {xs} e = subst (λ (ys : List ℕ). T (same? xs ys)) e (go xs)
 
 -- ---- the questions are passed
 
-abbrev passed? : Verdict → Bool
+abbrev pub passed? : Verdict → Bool
 passed? Passed = true
 passed? (Refused q) = false
 
-passed-of : (v : Verdict) → T (passed? v) → v ≡ Passed
+pub passed-of : (v : Verdict) → T (passed? v) → v ≡ Passed
 passed-of Passed t = refl
 passed-of (Refused q) t = absurd t
 
 -- ---- a word is a codeword
 
 module _ (m : ℕ) (w : List ℕ) where
-  abbrev codeword? : Bool
+  abbrev pub codeword? : Bool
   codeword? = eqb (length w) (places m) && (allBelow (order m) w && zeroSyndromes m w)
 
-  codeword-of : T codeword? → Codeword m w
+  pub codeword-of : T codeword? → Codeword m w
   codeword-of t =
       let ts = and-three (eqb (length w) (places m)) (allBelow (order m) w) (zeroSyndromes m w) t in
       let size : length w ≡ places m = eqb→eq (length w) (places m) (ts .0) in
@@ -129,7 +128,7 @@ module _ (m : ℕ) (ls w : List ℕ) where
 abbrev none-within? : ℕ → List ℕ → List ℕ → ℕ → Bool
 none-within? m w es r = all-places r (places m) (λ extra. no-solution? m (extra ++ es) w)
 
-none-within : {m : ℕ} → IsField m → (w es : List ℕ) (r : ℕ) → Lent m w es → T (none-within? m w es r) → (c : List ℕ) → Within m es w r c → ⊥
+none-within : {m : ℕ} → IsField m → (w es : List ℕ) (r : ℕ) → Lent m w es → T (none-within? m w es r) → (c : List ℕ) → Near m es w r c → ⊥
 none-within {m} F w es r W t c N = no-solution m (extra ++ es) w
     (places-at r (places m) extra (B .falling) (B .few) (λ extra. no-solution? m (extra ++ es) w) t) (map (at c) (extra ++ es))
     (codeword-solution F (B .lent) (N .codeword) (B .agrees))
@@ -171,33 +170,35 @@ module _ (w es : List ℕ) where
   restores? (accepted k) c = codeword? 3 c && (leb (changes 3 es w c) r && eqb k (changes 3 es w c))
   restores? (refused n) c = none-within? 3 w es r && (eqb n (refusal Correctable) && same? c w)
 
-  restores-of : Passes 3 w es → (o : Outcome) (c : List ℕ) → T (restores? o c) → Holds (restoring w es o c)
-  restores-of p (accepted k) c t =
+  restores-of : Passes 3 w es → length es < distance 3 → (o : Outcome) (c : List ℕ) → T (restores? o c) → Holds (restoring w es o c)
+  restores-of p few (accepted k) c t =
       let ts = and-three (codeword? 3 c) (leb (changes 3 es w c) r) (eqb k (changes 3 es w c)) t in
+      let near : Near 3 es w r c = record { codeword = codeword-of 3 c (ts .0); few = leb→le _ _ (ts .1) } in
       accepts 3 w es k c .1 (
         p,
         record {
-          near = record { codeword = codeword-of 3 c (ts .0); few = leb→le _ _ (ts .1) };
+          near = near;
+          only = λ d N. never-two 3 w es p few d c N near;
           count = eqb→eq k (changes 3 es w c) (ts .2);
         },
       )
-  restores-of p (refused n) c t =
+  restores-of p few (refused n) c t =
       let ts = and-three (none-within? 3 w es r) (eqb n (refusal Correctable)) (same? c w) t in
-      let e = refuses-seven 3 w es .1 (p, λ d N. none-within (field-of 3 refl) w es r (given 3 w es p .lent) (ts .0) d (near-within N)) in
+      let e = refuses-seven 3 w es .1 (p, λ d N. none-within (field-of 3 refl) w es r (given 3 w es p .lent) (ts .0) d N) in
       (e ∙ ap refused (sym (eqb→eq n (refusal Correctable) (ts .1))), refused-unchanged 3 w es 7 e ∙ sym (same-of c w (ts .2)))
 
 -- ---- the table
 
 abbrev holds? : Case → Bool
 holds? (encoding ds w) = data? ds && same? (encode 3 ds) w
-holds? (restoring w es o c) = passed? (restoreAsked 3 w es) && restores? w es o c
+holds? (restoring w es o c) = passed? (restoreAsked 3 w es) && (ltb (length es) (distance 3) && restores? w es o c)
 
 holds-of : (x : Case) → T (holds? x) → Holds x
 holds-of (encoding ds w) t = encodes-of ds w t
 holds-of (restoring w es o c) t =
     let v = restoreAsked 3 w es in
-    let p = passed-of v (and-left (passed? v) (restores? w es o c) t) in
-    restores-of w es p o c (and-right (passed? v) (restores? w es o c) t)
+    let ts = and-three (passed? v) (ltb (length es) (distance 3)) (restores? w es o c) t in
+    restores-of w es (passed-of v (ts .0)) (ltb→lt _ _ (ts .1)) o c (ts .2)
 
 abbrev pub table? : List Case → Bool
 table? [] = true

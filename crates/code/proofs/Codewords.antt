@@ -17,10 +17,8 @@ use Rattle.field.specs.Field.{order}
 use Rattle.field.proofs.Laws.{IsField}
 use Rattle.code.specs.Word.{items, at, Codeword, encode, dataOf}
 use Rattle.code.specs.Erasure.{changes}
-use Rattle.code.specs.Near.{radius, prefixed, tuples, codewords, keep, near, none, one, several, found, restoration}
-use Rattle.code.specs.Demands.{Near}
+use Rattle.code.specs.Near.{prefixed, tuples, codewords, keep, Near, nearby, none, one, several, found, restoration}
 use Rattle.code.proofs.Questions.{both-ways}
-use Rattle.code.proofs.Unique.{Within, near-within, within-near}
 use Rattle.code.proofs.Encoding.{encode-codeword, codeword-encode, codeword-data}
 
 -- the word is in the list
@@ -145,11 +143,27 @@ tuples-nodup q (suc n) = prefixed-nodup q (tuples q n) (tuples-nodup q n)
 -- ---- what is found in a list
 
 -- where all are equal and none is there twice, there is just one
-found-one : (xs : List (List ℕ)) (c : List ℕ) → NoDup xs → ((d e : List ℕ) → In d xs → In e xs → d ≡ e) → In c xs → found xs ≡ one c
-found-one [] c h same i = absurd (List·Memᴰ·not-nil i)
-found-one (x ∷ []) c h same i = ap one (sym (List·Memᴰ·eq-of-singleton i))
-found-one (x ∷ y ∷ xs) c h same i =
-    absurd (h .0 (List·Memᴰ·head (same x y (List·Memᴰ·head refl) (List·Memᴰ·tail (List·Memᴰ·head refl)))))
+found-one : (xs : List (List ℕ)) (c : List ℕ) → NoDup xs → ((d : List ℕ) → In d xs → d ≡ c) → In c xs → found xs ≡ one c
+found-one [] c h only i = absurd (List·Memᴰ·not-nil i)
+found-one (x ∷ []) c h only i = ap one (sym (List·Memᴰ·eq-of-singleton i))
+found-one (x ∷ y ∷ xs) c h only i =
+    absurd (h .0 (List·Memᴰ·head (only x (List·Memᴰ·head refl) ∙ sym (only y (List·Memᴰ·tail (List·Memᴰ·head refl))))))
+
+found-only : (xs : List (List ℕ)) (c d : List ℕ) → found xs ≡ one c → In d xs → d ≡ c
+found-only [] c d e i = absurd (List·Memᴰ·not-nil i)
+found-only (x ∷ []) c d e i = let p : x ≡ c = cc in List·Memᴰ·eq-of-singleton i ∙ p
+found-only (x ∷ y ∷ xs) c d e i = let z : _≡_ {A = ℕ} 0 1 = cc in absurd (omega arith)
+
+-- several are found just where two are different
+found-several : (xs : List (List ℕ)) (c d : List ℕ) → In c xs → In d xs → c ≢ d → found xs ≡ several
+found-several [] c d i j n = absurd (List·Memᴰ·not-nil i)
+found-several (x ∷ []) c d i j n = absurd (n (List·Memᴰ·eq-of-singleton i ∙ sym (List·Memᴰ·eq-of-singleton j)))
+found-several (x ∷ y ∷ xs) c d i j n = refl
+
+found-two : (xs : List (List ℕ)) → NoDup xs → found xs ≡ several → (c d : List ℕ) × In c xs × In d xs × (c ≢ d)
+found-two [] h e = let z : _≡_ {A = ℕ} 0 1 = cc in absurd (omega arith)
+found-two (x ∷ []) h e = let z : _≡_ {A = ℕ} 0 1 = cc in absurd (omega arith)
+found-two (x ∷ y ∷ xs) h e = (x, y, List·Memᴰ·head refl, List·Memᴰ·tail (List·Memᴰ·head refl), λ p. h .0 (List·Memᴰ·head p))
 
 found-in : (xs : List (List ℕ)) (c : List ℕ) → found xs ≡ one c → In c xs
 found-in [] c e = let z : _≡_ {A = ℕ} 0 1 = cc in absurd (omega arith)
@@ -166,19 +180,15 @@ found-empty [] e c i = List·Memᴰ·not-nil i
 found-empty (x ∷ []) e c i = let z : _≡_ {A = ℕ} 0 1 = cc in omega arith
 found-empty (x ∷ y ∷ xs) e c i = let z : _≡_ {A = ℕ} 0 1 = cc in omega arith
 
-any-in : (xs : List (List ℕ)) → ((c : List ℕ) × In c xs) ⊎ ((c : List ℕ) → In c xs → ⊥)
-any-in [] = inr (λ c i. List·Memᴰ·not-nil i)
-any-in (x ∷ xs) = inl (x, List·Memᴰ·head refl)
-
 -- ---- the codewords of a width, and the near ones
 
 pub codewords-nodup : (m : ℕ) → NoDup (codewords m)
 unfolding codewords
 codewords-nodup m = nodup-map (encode m) (λ c d e. ap dataOf e) (tuples (order m) (items m)) (tuples-nodup (order m) (items m))
 
-pub near-nodup : (m : ℕ) (es w : List ℕ) (r : ℕ) → NoDup (near m es w r)
-unfolding near
-near-nodup m es w r = keep-nodup (λ d. leb (changes m es w d) r) (codewords m) (codewords-nodup m)
+pub nearby-nodup : (m : ℕ) (es w : List ℕ) (r : ℕ) → NoDup (nearby m es w r)
+unfolding nearby
+nearby-nodup m es w r = keep-nodup (λ d. leb (changes m es w d) r) (codewords m) (codewords-nodup m)
 
 module _ {m : ℕ} (F : IsField m) where
   pub in-codewords : (c : List ℕ) → In c (codewords m) ↔ Codeword m c
@@ -194,50 +204,48 @@ module _ {m : ℕ} (F : IsField m) where
   )
 
   module _ (es w : List ℕ) where
-    pub in-near : (r : ℕ) (c : List ℕ) → In c (near m es w r) ↔ Within m es w r c
-    unfolding near
-    in-near r c = (
+    pub in-nearby : (r : ℕ) (c : List ℕ) → In c (nearby m es w r) ↔ Near m es w r c
+    unfolding nearby
+    in-nearby r c = (
       λ i.
           let k = keep-out _ (codewords m) i in
           record { codeword = in-codewords c .0 (k .0); few = leb-true (changes m es w c) r (k .1) },
       λ N. keep-in (λ d. leb (changes m es w d) r) (codewords m) (in-codewords c .1 (N .codeword)) (le-leb (changes m es w c) r (N .few)),
     )
 
-    -- ---- what restoring finds
+    -- ---- what restoring finds, within r places
 
-    abbrev nearby : List (List ℕ)
-    nearby = near m es w (radius m (length es))
+    module _ (r : ℕ) where
+      to-near : (c : List ℕ) → In c (nearby m es w r) → Near m es w r c
+      to-near c = in-nearby r c .0
 
-    to-near : (c : List ℕ) → In c nearby → Near m es w c
-    to-near c i = within-near (in-near (radius m (length es)) c .0 i)
+      of-near : (c : List ℕ) → Near m es w r c → In c (nearby m es w r)
+      of-near c = in-nearby r c .1
 
-    of-near : (c : List ℕ) → Near m es w c → In c nearby
-    of-near c N = in-near (radius m (length es)) c .1 (near-within N)
+      is-found : restoration m es w r ≡ found (nearby m es w r)
+      unfolding restoration
+      is-found = refl
 
-    is-found : restoration m es w ≡ found nearby
-    unfolding restoration
-    is-found = refl
+      pub restoration-none : ((c : List ℕ) → Near m es w r c → ⊥) → restoration m es w r ≡ none
+      restoration-none n = is-found ∙ found-none (nearby m es w r) (λ c i. n c (to-near c i))
 
-    -- a codeword is near, or none is
-    any-near : ((c : List ℕ) × Near m es w c) ⊎ ((c : List ℕ) → Near m es w c → ⊥)
-    any-near = ⊎-elim (λ r. inl (r .0, to-near (r .0) (r .1))) (λ n. inr (λ c N. n c (of-near c N))) (any-in nearby)
+      pub restoration-far : restoration m es w r ≡ none → (c : List ℕ) → Near m es w r c → ⊥
+      restoration-far e c N = found-empty (nearby m es w r) (sym is-found ∙ e) c (of-near c N)
 
-    pub restoration-none : ((c : List ℕ) → Near m es w c → ⊥) → restoration m es w ≡ none
-    restoration-none n = is-found ∙ found-none nearby (λ c i. n c (to-near c i))
+      pub restoration-near : (c : List ℕ) → restoration m es w r ≡ one c → Near m es w r c
+      restoration-near c e = to-near c (found-in (nearby m es w r) c (sym is-found ∙ e))
 
-    pub restoration-far : restoration m es w ≡ none → (c : List ℕ) → Near m es w c → ⊥
-    restoration-far e c N = found-empty nearby (sym is-found ∙ e) c (of-near c N)
+      pub restoration-only : (c : List ℕ) → restoration m es w r ≡ one c → (d : List ℕ) → Near m es w r d → d ≡ c
+      restoration-only c e d N = found-only (nearby m es w r) c d (sym is-found ∙ e) (of-near d N)
 
-    pub restoration-near : (c : List ℕ) → restoration m es w ≡ one c → Near m es w c
-    restoration-near c e = to-near c (found-in nearby c (sym is-found ∙ e))
+      pub restoration-one : (c : List ℕ) → Near m es w r c → ((d : List ℕ) → Near m es w r d → d ≡ c) → restoration m es w r ≡ one c
+      restoration-one c N only =
+          is-found ∙ found-one (nearby m es w r) c (nearby-nodup m es w r) (λ d i. only d (to-near d i)) (of-near c N)
 
-    module _ (unique : (c d : List ℕ) → Near m es w c → Near m es w d → c ≡ d) where
-      pub restoration-one : (c : List ℕ) → Near m es w c → restoration m es w ≡ one c
-      restoration-one c N =
-          is-found
-          ∙ found-one nearby c (near-nodup m es w (radius m (length es))) (λ d e i j. unique d e (to-near d i) (to-near e j)) (of-near c N)
+      pub restoration-several : (c d : List ℕ) → Near m es w r c → Near m es w r d → c ≢ d → restoration m es w r ≡ several
+      restoration-several c d N N′ n = is-found ∙ found-several (nearby m es w r) c d (of-near c N) (of-near d N′) n
 
-      pub never-several : restoration m es w ≢ several
-      never-several e =
-          ⊎-elim (λ r. let f = restoration-one (r .0) (r .1) in let z : _≡_ {A = ℕ} 0 1 = cc in omega arith)
-          (λ n. let f = restoration-none n in let z : _≡_ {A = ℕ} 0 1 = cc in omega arith) any-near
+      pub restoration-two : restoration m es w r ≡ several → (c d : List ℕ) × Near m es w r c × Near m es w r d × (c ≢ d)
+      restoration-two e =
+          let f = found-two (nearby m es w r) (nearby-nodup m es w r) (sym is-found ∙ e) in
+          (f .0, f .1, to-near (f .0) (f .2), to-near (f .1) (f .3), f .4)

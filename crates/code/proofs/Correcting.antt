@@ -9,7 +9,7 @@ use native.Mathlib.Nat.{not-suc-le-zero, le-of-suc-le-suc, le-refl}
 use native.Mathlib.Omega.{arith}
 use borrow.Author.Tests.{eq-eqb, ne-eqb, le-leb, lt-leb}
 use lib.Dec.{eqb, leb}
-use lib.ListN.{length, getD, take}
+use lib.ListN.{length, getD, take, length-take}
 use lib.Seq.{getD-take, length-take-le}
 use Rattle.field.specs.Polynomial.{add}
 use Rattle.field.specs.Field.{order, product}
@@ -18,19 +18,20 @@ use Rattle.field.proofs.Laws.{IsField}
 use Rattle.field.proofs.Widths.{field-of}
 use Rattle.code.specs.declared.restorer.Trial.{Trial}
 use Rattle.code.specs.declared.solver.Solutions.{Solutions}
-use Rattle.code.specs.declared.solver.Solutions.the-variants.{None, One, Dependent}
+use Rattle.code.specs.declared.solver.Solutions.the-variants.{None, One, Several}
 use Rattle.code.specs.Word.{at}
 use Rattle.code.specs.Place.{column}
 use Rattle.code.specs.Erasure.{maskedSyndrome}
 use Rattle.code.specs.Near.{distance}
 use Rattle.code.specs.Matrix.{rows, unknowns, columns, entry, Matrix, dot, Values, Means}
-use Rattle.code.specs.Correction.{tried, Ready, systemEntry, SystemMatrix, NoneAt, Searched}
+use Rattle.code.specs.Correction.{fill, tried, Ready, systemEntry, SystemMatrix, NoneAt, OneAt, SeveralAt, Searched}
 use Rattle.code.proofs.DistanceLaw.{distance-of}
 use Rattle.code.proofs.Sums.{parity-lt}
 use Rattle.code.proofs.Horner.{five-at}
 use Rattle.code.proofs.Columns.{combine, column-lt}
-use Rattle.code.proofs.Filling.{Each, Solution, fill-other, masked-lt, solution-codeword, codeword-solution, independent}
-use Rattle.code.proofs.LinearSystem.{System, Meets, system-none, system-solved, system-kernel}
+use Rattle.code.proofs.Filling.{Each, Solution, fill-agrees, agrees-changes, masked-lt, solution-values, solution-codeword, codeword-solution, codeword-fill}
+use Rattle.code.proofs.LinearSystem.{System, Meets, meets-solves, system-none, system-solved, system-several}
+use Rattle.code.proofs.Unique.{same-near}
 
 -- ---- the entries of the system
 
@@ -110,7 +111,7 @@ module _ (m : ℕ) (t : Trial) (few : t .count ≤ unknowns) (a : List (List ℕ
   F = field-of m (R .width)
 
   size : length (tried t) ≡ t .count
-  size = length-take-le (t .count) (t .places) (omega (arith, A .four))
+  size = length-take-le (t .count) (t .places) (omega (arith, A .room))
 
   entries : (k j : ℕ) → k < rows → j < columns → entry a k j ≡ systemEntry m (tried t) (at (t .sums) k) k j
   entries k j h l = A .each k h .entries (R .width) j l
@@ -177,52 +178,48 @@ module _ (m : ℕ) (t : Trial) (few : t .count ≤ unknowns) (a : List (List ℕ
       let S = solution-meets (map (at c) (tried t)) (codeword-solution F (R .lent) C G) in
       system-none m F a (t .count) (maskedSyndrome m (tried t) w) columnsOf system vs N (map (at c) (tried t)) (S .0) (S .1)
 
-  -- one solution: the word filled with it is a codeword
-  tried-one : Means m One a (t .count) vs → Solution m w (tried t) (take (t .count) vs)
-  tried-one O =
-      meets-solution (take (t .count) vs) (O .values) (system-solved m F a (t .count) (maskedSyndrome m (tried t) w) columnsOf system vs O)
-
-  -- as many columns as are tried are never dependent
-  tried-dependent : Means m Dependent a (t .count) vs → ⊥
-  unfolding columnsOf
-  tried-dependent K =
-      K .nonzero
-      (each-at (λ z. z ≡ 0) (tried t) (K .kernel)
-      (independent F (distance m) (distance-of m (R .width)) (tried t) (K .kernel) (R .lent .distinct) (R .lent .below) (omega (arith, size))
-      (values-small (K .kernel) (K .values))
-      (λ k h. combine-dot m (tried t) (K .kernel) k ∙ system-kernel m F a (t .count) (maskedSyndrome m (tried t) w) columnsOf system vs K k h))
-      (K .place) (subst (λ (i : ℕ). K .place < i) (sym size) (K .below)))
-
--- is it the answer that there is one solution?
-abbrev pub isOne : Solutions → Bool
-isOne None = false
-isOne One = true
-isOne Dependent = false
-
-module _ (m : ℕ) (t : Trial) (few : t .count ≤ unknowns) (a : List (List ℕ)) (A : SystemMatrix m (t .places) (t .count) (t .sums) a)
-    (vs : List ℕ) where
-  answered : (f : Solutions) → (isWidth m ≡ true → Matrix m a → Means m f a (t .count) vs) → (w : List ℕ) → Ready m w t
-      → Searched m w (tried t) 0 (NoneAt m w (tried t)) (record { found = isOne f; count = t .count; places = t .places; values = vs })
-  answered None S w R = record {
-    yes = λ g. absurd (false≢true g);
-    no = λ g. tried-none m t few a A vs w R (S (R .width) (matrix m t few a A vs w R));
+  -- one solution: the word filled with it is the one codeword that agrees outside the places
+  tried-one : Means m One a (t .count) vs → OneAt m w (tried t) (take (t .count) vs)
+  tried-one O = record {
+    codeword = solution-codeword F (R .lent)
+        (meets-solution zs (O .values) (system-solved m F a (t .count) (maskedSyndrome m (tried t) w) columnsOf system vs O));
+    agrees = fill-agrees m w (tried t) zs;
+    only = λ c C G. (let S = solution-meets (map (at c) (tried t)) (codeword-solution F (R .lent) C G) in
+        sym (codeword-fill F (R .lent) C G)
+        ∙ ap (fill w (tried t)) (O .only (map (at c) (tried t)) (S .0)
+        (meets-solves m F a (t .count) (maskedSyndrome m (tried t) w) columnsOf system (map (at c) (tried t)) (S .0) (S .1))));
   }
-  answered One S w R = record {
-    yes = λ g. record {
-      below = R .lent .below;
-      codeword = solution-codeword (field-of m (R .width)) (R .lent) (tried-one m t few a A vs w R (S (R .width) (matrix m t few a A vs w R)));
-      extra = [];
-      few = le-refl 0;
-      agrees = λ p h o. fill-other w (tried t) (take (t .count) vs) p o;
-    };
-    no = λ g. absurd (true≢false g);
-  }
-  answered Dependent S w R = record {
-    yes = λ g. absurd (false≢true g);
-    no = λ g. absurd (tried-dependent m t few a A vs w R (S (R .width) (matrix m t few a A vs w R)));
-  }
+    where
+      zs : List ℕ
+      zs = take (t .count) vs
 
-  -- the solver's answer g, known to be f, decides whether a codeword is found
-  pub attempted : (g : Solutions) → (isWidth m ≡ true → Matrix m a → Means m g a (t .count) vs) → (f : Solutions) → g ≡ f → (w : List ℕ) → Ready m w t
-      → Searched m w (tried t) 0 (NoneAt m w (tried t)) (record { found = isOne f; count = t .count; places = t .places; values = vs })
-  attempted g S f e = answered f (subst (λ (h : Solutions). isWidth m ≡ true → Matrix m a → Means m h a (t .count) vs) e S)
+  -- several solutions: the word filled with two of them is two codewords
+  tried-several : Means m Several a (t .count) vs → SeveralAt m w (tried t)
+  tried-several T = record {
+    first = fill w (tried t) (T .first);
+    second = fill w (tried t) (T .second);
+    first-codeword = solution-codeword F (R .lent) (both .0);
+    second-codeword = solution-codeword F (R .lent) (both .1);
+    first-agrees = fill-agrees m w (tried t) (T .first);
+    second-agrees = fill-agrees m w (tried t) (T .second);
+    different = λ e. T .different
+        (sym (solution-values (R .lent) (both .0)) ∙ ap (λ (c : List ℕ). map (at c) (tried t)) e ∙ solution-values (R .lent) (both .1));
+  }
+    where
+      both : Solution m w (tried t) (T .first) × Solution m w (tried t) (T .second)
+      both =
+          let S = system-several m F a (t .count) (maskedSyndrome m (tried t) w) columnsOf system vs T in
+          (meets-solution (T .first) (T .first-values) (S .0), meets-solution (T .second) (T .second-values) (S .1))
+
+  -- the solver's answer f, as a search with no extra places
+  pub attempted : (f : Solutions) → (isWidth m ≡ true → Matrix m a → Means m f a (t .count) vs)
+      → Searched m w (tried t) 0 (NoneAt m w (tried t)) (record { found = f; count = t .count; places = t .places; values = vs })
+  attempted f S = record {
+    none = λ e. tried-none (means e);
+    one = λ e. (let O = tried-one (means e) in
+        record { below = R .lent .below; codeword = O .codeword; extra = []; few = le-refl 0; agrees = O .agrees; only = O .only });
+    several = λ e. record { extra = []; few = le-refl 0; two = tried-several (means e) };
+  }
+    where
+      means : {g : Solutions} → f ≡ g → Means m g a (t .count) vs
+      means e = subst (λ (h : Solutions). Means m h a (t .count) vs) e (S (R .width) matrix)

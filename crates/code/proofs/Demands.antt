@@ -12,7 +12,8 @@ use Rattle.field.proofs.Widths.{field-of}
 use Rattle.code.specs.Word.{places, at, syndrome, Codeword, encode, dataOf}
 use Rattle.code.specs.Erasure.{syndromesOf}
 use Rattle.code.specs.Call.{written, done, restoreWritten, shown, allZero, zeroSyndromes, encodeOf, encodeWritten, testOf}
-use Rattle.code.specs.Demands.{Data, EncoderMakes, EncoderMade, ReadBack, TestsCodeword, NeverTwo, Accepts, RefusesSeven, RefusedUnchanged, FewChanged, SameRestored, DisplaysPlain, DisplaysZero, SameDisplayed}
+use Rattle.code.specs.Demands.{Data, EncoderMakes, EncoderMade, ReadBack, TestsCodeword, NeverTwo, Accepts, RefusesSeven, RefusesFourteen, FewErasures}
+use Rattle.code.specs.Demands.{RefusedUnchanged, FewChanged, SameRestored, DisplaysPlain, DisplaysZero, SameDisplayed}
 use Rattle.code.proofs.Encoding.{encode-codeword, encode-data, codeword-data, codeword-encode}
 use Rattle.code.proofs.Horner.{five-cong}
 use Rattle.code.proofs.Passing.{encode-passes, read-passes, test-codeword, zero-syndromes, five-zero, given}
@@ -69,6 +70,12 @@ accepts = Restoring.accepts
 
 pub refuses-seven : RefusesSeven
 refuses-seven = Restoring.refuses-seven
+
+pub refuses-fourteen : RefusesFourteen
+refuses-fourteen = Restoring.refuses-fourteen
+
+pub few-erasures : FewErasures
+few-erasures = Restoring.few-erasures
 
 pub refused-unchanged : RefusedUnchanged
 refused-unchanged = Restoring.refused-unchanged

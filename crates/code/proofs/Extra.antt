@@ -17,7 +17,8 @@ use Rattle.code.specs.Erasure.{member, distinct, total, differ}
 use Rattle.code.proofs.Sums.{total-le}
 use Rattle.code.proofs.Questions.{or-false-left}
 use Rattle.code.proofs.Members.{append-left, append-right, member-append, members-le, distinct-cons, below-cons}
-use Rattle.code.proofs.Unique.{Within, differ-eq, differ-le}
+use Rattle.code.specs.Near.{Near}
+use Rattle.code.proofs.Unique.{differ-eq, differ-le}
 use Rattle.code.specs.Correction.{Agrees, Lent}
 
 -- the places below n, the highest first
@@ -112,7 +113,7 @@ pub record Beside (m : ℕ) (es w : List ℕ) (r : ℕ) (c extra : List ℕ) : T
   pub agrees : Agrees m (extra ++ es) w c
 
 -- the wrong places of a codeword within r places
-pub within-beside : {m : ℕ} {es w c : List ℕ} {r : ℕ} → Lent m w es → Within m es w r c → Beside m es w r c (wrong es w c (places m))
+pub within-beside : {m : ℕ} {es w c : List ℕ} {r : ℕ} → Lent m w es → Near m es w r c → Beside m es w r c (wrong es w c (places m))
 within-beside {m} {es} {w} {c} {r} W N = record {
   few = subst (λ (n : ℕ). n ≤ r) (sym (length-wrong es w c (places m))) (N .few);
   falling = falling-wrong es w c (places m);
@@ -127,7 +128,7 @@ within-beside {m} {es} {w} {c} {r} W N = record {
 
 -- and the other way
 pub agrees-within : {m : ℕ} {es w c : List ℕ} {r : ℕ} (extra : List ℕ)
-    → length extra ≤ r → Codeword m c → Agrees m (extra ++ es) w c → Within m es w r c
+    → length extra ≤ r → Codeword m c → Agrees m (extra ++ es) w c → Near m es w r c
 agrees-within {m} {es} {w} {c} extra h C a = record {
   codeword = C;
   few = le-trans
@@ -140,3 +141,14 @@ agrees-within {m} {es} {w} {c} extra h C a = record {
     go p true t e = zero-le
     go p false true e = differ-le (at w p) (at c p)
     go p false false e = omega (arith, differ-eq (at w p) (at c p) (sym (e refl refl)))
+
+-- within no place at all: agreement outside the erasures
+pub within-agrees : {m : ℕ} {es w : List ℕ} {r : ℕ} → Lent m w es → (c : List ℕ) → Near m es w r c → r ≡ 0 → Agrees m es w c
+within-agrees {m} {es} {w} {r} W c N z p h o = wrong-agrees es w c (places m) p h (subst (λ (xs : List ℕ). member p (xs ++ es) ≡ false) (sym empty) o)
+  where
+    empty : wrong es w c (places m) ≡ []
+    empty = none (wrong es w c (places m)) (within-beside W N .few)
+      where
+        none : (xs : List ℕ) → length xs ≤ r → xs ≡ []
+        none [] l = refl
+        none (x ∷ xs) l = absurd (omega arith)

@@ -7,7 +7,7 @@ use Prim.Native.Nat.{ℕ, _≤_, _<_, zero-le}
 use native.Mathlib.Decide.{ℕ-discrete}
 use native.Mathlib.Omega.{arith}
 use borrow.Author.Tests.{ne-eqb}
-use lib.ListN.{length, set, length-set, replicate, length-replicate, getD-replicate}
+use lib.ListN.{length, set, length-set}
 use lib.Seq.{ext-getD, getD-set-same, getD-set-other}
 use Rattle.field.specs.Polynomial.{add}
 use Rattle.field.specs.Field.{order}
@@ -16,11 +16,10 @@ use Rattle.field.proofs.Laws.{IsField}
 use Rattle.code.specs.Word.{checks, places, at, syndrome, Codeword}
 use Rattle.code.specs.Erasure.{member, distinct, differ, changes, masked, maskedSyndrome}
 use Rattle.code.specs.Correction.{fill, Agrees, Lent}
-use Rattle.code.proofs.Sums.{total-le, total-zero, syndrome-cong, syndrome-zero}
+use Rattle.code.proofs.Sums.{total-le, total-zero, syndrome-cong}
 use Rattle.code.proofs.Questions.{not-member-head, not-member-tail}
 use Rattle.code.proofs.Members.{distinct-head, distinct-tail, below-head, below-tail}
-use Rattle.code.proofs.DistanceLaw.{Distance}
-use Rattle.code.proofs.Unique.{differ-eq, same-near}
+use Rattle.code.proofs.Unique.{differ-eq}
 use Rattle.code.proofs.Columns.{combine, masked-small, syndrome-masked}
 
 -- ---- a word filled
@@ -96,10 +95,10 @@ pub record Solution (m : ℕ) (w ls zs : List ℕ) : Type 0 where
   pub values : Each (λ p z. z < order m) ls zs
   pub rows : (k : ℕ) → k < checks → combine m ls zs k ≡ maskedSyndrome m ls w k
 
-fill-agrees : (m : ℕ) (w ls zs : List ℕ) → Agrees m ls w (fill w ls zs)
+pub fill-agrees : (m : ℕ) (w ls zs : List ℕ) → Agrees m ls w (fill w ls zs)
 fill-agrees m w ls zs p h e = fill-other w ls zs p e
 
-solution-values : {m : ℕ} {w ls zs : List ℕ} → Lent m w ls → Solution m w ls zs → map (at (fill w ls zs)) ls ≡ zs
+pub solution-values : {m : ℕ} {w ls zs : List ℕ} → Lent m w ls → Solution m w ls zs → map (at (fill w ls zs)) ls ≡ zs
 solution-values {m} {w} {ls} {zs} W S =
     fill-values (λ p z. z < order m) w ls zs (S .values) (W .distinct) (subst (λ (n : ℕ). allBelow n ls ≡ true) (sym (W .size)) (W .below))
 
@@ -153,53 +152,3 @@ module _ {m : ℕ} (F : IsField m) where
       go : (p : ℕ) → p < length w → at (fill w ls zs) p ≡ at c p
       go p h = fill-each (λ p z. z ≡ at c p) w ls zs (each-map (λ p z. z ≡ at c p) (at c) (places m) ls (W .below) (λ p l. refl)) p h
           (λ e. sym (a p (omega arith) e))
-
-  -- with fewer places than the distance there is at most one solution
-  pub solution-unique : (d : ℕ) → Distance m d → {w ls zs zs′ : List ℕ}
-      → Lent m w ls → length ls < d → Solution m w ls zs → Solution m w ls zs′ → zs ≡ zs′
-  solution-unique d dist {w} {ls} {zs} {zs′} W few S S′ =
-      sym (solution-values W S) ∙ ap (λ (c : List ℕ). map (at c) ls) same ∙ solution-values W S′
-    where
-      unchanged : (zs : List ℕ) → changes m ls w (fill w ls zs) ≤ 0
-      unchanged zs = agrees-changes m ls w (fill w ls zs) (fill-agrees m w ls zs)
-
-      same : fill w ls zs ≡ fill w ls zs′
-      same =
-          same-near F d dist (solution-codeword W S) (solution-codeword W S′) ls w 0 0 (omega arith) (unchanged zs) (unchanged zs′)
-
--- ---- fewer columns than the distance are independent
-
-abbrev zeros : ℕ → List ℕ
-zeros m = replicate (places m) 0
-
-zeros-at : (m p : ℕ) → p < places m → at (zeros m) p ≡ 0
-zeros-at m p h = getD-replicate (places m) p 0 0 h
-
-masked-zeros : (m : ℕ) (ls : List ℕ) (p : ℕ) → p < places m → masked ls (at (zeros m)) p ≡ 0
-masked-zeros m ls p h = go (member p ls)
-  where
-    go : (t : Bool) → cond t 0 (at (zeros m) p) ≡ 0
-    go true = refl
-    go false = zeros-at m p h
-
-module _ {m : ℕ} (F : IsField m) where
-  zeros-codeword : Codeword m (zeros m)
-  zeros-codeword = record {
-    size = length-replicate (places m) 0;
-    symbols = λ p h. subst (λ (n : ℕ). n < order m) (sym (zeros-at m p h)) (omega arith);
-    zero-syndromes = syndrome-zero F (at (zeros m)) (zeros-at m);
-  }
-
-  -- a combination of the columns at distinct places, fewer than the distance, is 0 in all rows only if all its values are 0
-  pub independent : (d : ℕ) → Distance m d → (ls zs : List ℕ) → distinct ls ≡ true → allBelow (places m) ls ≡ true → length ls < d
-      → Each (λ p z. z < order m) ls zs → ((k : ℕ) → k < checks → combine m ls zs k ≡ 0) → Each (λ p z. z ≡ 0) ls zs
-  independent d dist ls zs ds bs few vs rows =
-      subst (Each (λ p z. z ≡ 0) ls) (sym same) (each-map (λ p z. z ≡ 0) (at (zeros m)) (places m) ls bs (zeros-at m))
-    where
-      W : Lent m (zeros m) ls
-      W = record { size = zeros-codeword .size; symbols = λ p h e. zeros-codeword .symbols p h; distinct = ds; below = bs }
-
-      same : zs ≡ map (at (zeros m)) ls
-      same = solution-unique F d dist W few
-          (record { values = vs; rows = λ k h. rows k h ∙ sym (syndrome-zero F _ (masked-zeros m ls) k h) })
-          (codeword-solution F W zeros-codeword (λ p h e. refl))

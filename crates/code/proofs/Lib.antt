@@ -22,6 +22,7 @@ pub mod Codewords
 pub mod Restoring
 pub mod Demands
 pub mod CaseTable
+pub mod FiveErasures
 pub mod Cases
 -- the questions of the calls
 pub mod Asking

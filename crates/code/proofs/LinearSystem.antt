@@ -7,7 +7,7 @@ use native.Mathlib.Omega.{arith}
 use native.Mathlib.Numerals.{add-one}
 use lib.ListN.{getD, take}
 use Rattle.field.proofs.Laws.{IsField}
-use Rattle.code.specs.declared.solver.Solutions.the-variants.{None, One, Dependent}
+use Rattle.code.specs.declared.solver.Solutions.the-variants.{None, One, Several}
 use Rattle.code.specs.Matrix.{rows, entry, coefficients, rightSide, dot, Values, Solves, Means}
 use Rattle.code.proofs.RowLaws.{getD-tail, dot-same}
 
@@ -25,15 +25,18 @@ module _ (m : ℕ) (F : IsField m) (a : List (List ℕ)) (s : ℕ) (b : ℕ → 
   row-dot zs D i h =
       dot-same m F (coefficients a i) (cs i) zs (λ j l. getD-tail (getD a i []) j ∙ rw (← add-one) (Y .left i j h (omega (arith, D .size))))
 
-  meets-solves : (zs : List ℕ) → Values m s zs → Meets m b cs zs → Solves m a zs
+  pub meets-solves : (zs : List ℕ) → Values m s zs → Meets m b cs zs → Solves m a zs
   meets-solves zs D S i h = row-dot zs D i h ∙ S i h ∙ sym (Y .right i h)
+
+  solves-meets : (zs : List ℕ) → Values m s zs → Solves m a zs → Meets m b cs zs
+  solves-meets zs D S i h = sym (row-dot zs D i h) ∙ S i h ∙ Y .right i h
 
   module _ (vs : List ℕ) where
     pub system-none : Means m None a s vs → (ys : List ℕ) → Values m s ys → Meets m b cs ys → ⊥
     system-none N ys D S = N ys D (meets-solves ys D S)
 
     pub system-solved : Means m One a s vs → Meets m b cs (take s vs)
-    system-solved O i h = sym (row-dot (take s vs) (O .values) i h) ∙ O .solves i h ∙ Y .right i h
+    system-solved O = solves-meets (take s vs) (O .values) (O .solves)
 
-    pub system-kernel : (K : Means m Dependent a s vs) → Meets m (λ i. 0) cs (K .kernel)
-    system-kernel K i h = sym (row-dot (K .kernel) (K .values) i h) ∙ K .zeros i h
+    pub system-several : (T : Means m Several a s vs) → Meets m b cs (T .first) × Meets m b cs (T .second)
+    system-several T = (solves-meets (T .first) (T .first-values) (T .first-solves), solves-meets (T .second) (T .second-values) (T .second-solves))

@@ -3,9 +3,10 @@
 use mathlib.Core.Path.{_≡_, refl, sym, ap, ap₂, _∙_, subst}
 use mathlib.Core.Logic.{_≢_}
 use mathlib.Core.Bool.{Bool, true, false, cond, _||_, or-true}
-use mathlib.Core.List.{List, [], _∷_}
+use mathlib.Core.List.{List, [], _∷_, _++_}
 use Prim.Native.Nat.{ℕ, zero, suc, _+_, _-_, _≤_, _<_, zero-le}
 use native.Mathlib.Nat.{le-refl, le-trans}
+use native.Mathlib.Decide.{decLt}
 use native.Mathlib.Numerals.{add-one}
 use native.Mathlib.Omega.{arith}
 use borrow.Author.Tests.{eq-eqb}
@@ -14,7 +15,7 @@ use lib.ListN.{length, getD, set, take, drop, replicate, drop-of-length-le}
 use lib.Seq.{drop-cons, getD-take, take-set-lt, length-take-le}
 use Rattle.field.specs.Field.{order}
 use Rattle.field.specs.Question.{accepted, after, isWidth, allBelow}
-use Rattle.field.specs.declared.Question.the-variants.{Correctable}
+use Rattle.field.specs.declared.Question.the-variants.{Correctable, Unique}
 use Rattle.field.specs.declared.Question.{Question}
 use Rattle.field.specs.declared.Verdict.{Verdict}
 use Rattle.field.specs.declared.Verdict.the-variants.{Passed, Refused as RefusedBy}
@@ -25,18 +26,20 @@ use Rattle.code.specs.declared.restorer.Trial.{Trial}
 use Rattle.code.specs.declared.restorer.Correction.{Correction}
 use Rattle.code.specs.Word.{checks, five, places, at, syndrome, Codeword}
 use Rattle.code.specs.Erasure.{member, differ, total, changesBelow, changes, masked, maskedSyndrome, syndromesOf}
-use Rattle.code.specs.Near.{radius, Restoration, none, one, restoration}
+use Rattle.code.specs.Near.{distance, radius, Near, Restoration, none, one, several, restoration}
 use Rattle.code.specs.Call.{allZero, written, done, shown, Displays, decided, restored, restoreAsked, repair, Restores}
-use Rattle.code.specs.Demands.{Passes, Near}
-use Rattle.code.specs.Correction.{fill, Lent, tried, Ready, corrected, Corrects, NoneWithin, Workable}
+use Rattle.code.specs.Demands.{Passes, TwoNear}
+use Rattle.code.specs.Correction.{fill, Lent, tried, Ready, corrected, SeveralAt, Corrects, Ambiguous, NoneWithin, Workable}
+use Rattle.code.specs.Matrix.{unknowns}
 use Rattle.code.proofs.Sums.{syndrome-cong}
 use Rattle.code.proofs.Horner.{five-cong}
 use Rattle.code.proofs.Questions.{allBelow-means, allBelow-holds}
 use Rattle.code.proofs.Unique.{differ-eq, differ-ne, differ-le}
 use Rattle.code.proofs.Filling.{Each, length-fill, fill-each, masked-lt, agrees-changes}
-use Rattle.code.proofs.Extra.{agrees-within}
+use Rattle.code.proofs.Extra.{agrees-within, within-agrees}
 use Rattle.code.proofs.Passing.{five-zero, given}
-use Rattle.code.proofs.Restoring.{finds-one, finds-none}
+use Rattle.code.proofs.Restoring.{never-two, finds-one, finds-none, finds-several}
+use Rattle.code.proofs.Members.{append-right}
 
 -- ---- a word copied and filled
 
@@ -87,8 +90,8 @@ module _ (n c : ℕ) (xs zs : List ℕ) (lx : c ≤ length xs) (lz : c ≤ lengt
 
 -- ---- the syndromes without the erasures: those of the word with zeros there
 
-pub zero-values : (n j : ℕ) → at (take n (0 ∷ 0 ∷ 0 ∷ 0 ∷ [])) j ≡ 0
-zero-values n j = zeros-at n 4 j
+pub zero-values : (n j : ℕ) → at (take n (replicate unknowns 0)) j ≡ 0
+zero-values n j = zeros-at n unknowns j
   where
     zeros-at : (n k j : ℕ) → at (take n (replicate k 0)) j ≡ 0
     zeros-at zero k j = refl
@@ -190,40 +193,72 @@ pub restores-refused : (m : ℕ) (w es : List ℕ) (v : Verdict) (q : Question) 
     → Restores m w es (Refused q) new
 restores-refused m w es v q e p new h =
     let f : RefusedBy q ≡ restoreAsked m w es = sym p ∙ e in
+    let x = restoration m es w (radius m (length es)) in
     record {
-      answer = ap (λ (u : Verdict). after u (decided m w es (restoration m es w))) f;
-      word = h ∙ ap (λ (u : Verdict). written u w (restored w (restoration m es w))) f;
+      answer = ap (λ (u : Verdict). after u (decided m w es x)) f;
+      word = h ∙ ap (λ (u : Verdict). written u w (restored w x)) f;
     }
 
 -- the questions before question 8 were answered yes
 module _ (m : ℕ) (w es : List ℕ) (P : Passes m w es) where
-  answers : (x : Restoration) → restoration m es w ≡ x → (r : Repair) (new : List ℕ) → repair r ≡ decided m w es x → new ≡ restored w x
-      → Restores m w es r new
-  answers x e r new a b = record {
-    answer = a ∙ ap (decided m w es) (sym e) ∙ sym (ap (λ (v : Verdict). after v (decided m w es (restoration m es w))) P);
-    word = b ∙ ap (restored w) (sym e) ∙ sym (ap (λ (v : Verdict). written v w (restored w (restoration m es w))) P);
+  abbrev r : ℕ
+  r = radius m (length es)
+
+  answers : (x : Restoration) → restoration m es w r ≡ x → (a : Repair) (new : List ℕ) → repair a ≡ decided m w es x → new ≡ restored w x
+      → Restores m w es a new
+  answers x e a new f g = record {
+    answer = f ∙ ap (decided m w es) (sym e) ∙ sym (ap (λ (v : Verdict). after v (decided m w es (restoration m es w r))) P);
+    word = g ∙ ap (restored w) (sym e) ∙ sym (ap (λ (v : Verdict). written v w (restored w (restoration m es w r))) P);
   }
 
-  near-answers : (c : List ℕ) → Near m es w c → (k : ℕ) (new : List ℕ) → k ≡ changes m es w c → new ≡ c → Restores m w es (Restored k) new
-  near-answers c N k new ek en = answers (one c) (finds-one m w es P c N) (Restored k) new (ap accepted ek) en
+  near-answers : (c : List ℕ) → Near m es w r c → ((d : List ℕ) → Near m es w r d → d ≡ c) → (k : ℕ) (new : List ℕ) → k ≡ changes m es w c
+      → new ≡ c → Restores m w es (Restored k) new
+  near-answers c N only k new ek en = answers (one c) (finds-one m w es P c N only) (Restored k) new (ap accepted ek) en
+
+  -- with few erasures a near codeword is the only one
+  few-only : length es < distance m → (c : List ℕ) → Near m es w r c → (d : List ℕ) → Near m es w r d → d ≡ c
+  few-only h c N d N′ = never-two m w es P h d c N′ N
 
   -- a correction was found and written
-  pub restores-found : (c : Correction) (k : ℕ) (new : List ℕ) → Corrects m w es (radius m (length es)) c → new ≡ corrected w c
+  pub restores-found : (c : Correction) (k : ℕ) (new : List ℕ) → Corrects m w es r c → new ≡ corrected w c
       → k ≡ changesBelow (length w) es w (corrected w c) → Restores m w es (Restored k) new
   restores-found c k new C e f =
-      let few = agrees-within {w = w} (C .extra) (C .few) (C .codeword) (C .agrees) .few in
-      near-answers (corrected w c) (record { codeword = C .codeword; few = few }) k new
+      near-answers (corrected w c) near (only (decLt (length es) (distance m))) k new
       (f ∙ ap (λ (n : ℕ). changesBelow n es w (corrected w c)) (given m w es P .lent .size)) e
+    where
+      near : Near m es w r (corrected w c)
+      near = agrees-within (C .extra) (C .few) (C .codeword) (C .agrees)
+
+      -- with as many erasures as the distance there are no extra places
+      only : Dec (length es < distance m) → (d : List ℕ) → Near m es w r d → d ≡ corrected w c
+      only (yes h) = few-only h (corrected w c) near
+      only (no n) = λ d N. C .only d (N .codeword) (λ p h o. within-agrees (given m w es P .lent) d N (omega arith) p h (append-right (C .extra) es p o))
 
   -- nothing is near
-  pub restores-none : NoneWithin m w es (radius m (length es)) → (new : List ℕ) → new ≡ w → Restores m w es (Refused Correctable) new
-  restores-none N new e = answers none (finds-none m w es P .1 (λ c D. N c (D .codeword) (D .few))) (Refused Correctable) new refl e
+  pub restores-none : NoneWithin m w es r → (new : List ℕ) → new ≡ w → Restores m w es (Refused Correctable) new
+  restores-none N new e = answers none (finds-none m w es P .1 N) (Refused Correctable) new refl e
+
+  -- several codewords are near
+  pub restores-several : Ambiguous m w es r → (new : List ℕ) → new ≡ w → Restores m w es (Refused Unique) new
+  restores-several A new e = answers several (finds-several m w es P .1 two) (Refused Unique) new refl e
+    where
+      T : SeveralAt m w (A .extra ++ es)
+      T = A .two
+
+      two : TwoNear m es w
+      two = record {
+        first = T .first;
+        second = T .second;
+        first-near = agrees-within (A .extra) (A .few) (T .first-codeword) (T .first-agrees);
+        second-near = agrees-within (A .extra) (A .few) (T .second-codeword) (T .second-agrees);
+        different = T .different;
+      }
 
   -- a codeword without erasures
   pub restores-clean : (t : Trial) → tried t ≡ es → Ready m w t → length es ≡ 0 → allZero (t .sums) ≡ true → (new : List ℕ) → new ≡ w
       → Restores m w es (Restored 0) new
   restores-clean t et R l z new e =
-      near-answers w (record { codeword = word; few = le-trans still zero-le }) 0 new (omega (arith, still)) e
+      near-answers w near (few-only (omega arith) w near) 0 new (omega (arith, still)) e
     where
       empty : (xs : List ℕ) → length xs ≡ 0 → xs ≡ []
       empty [] l = refl
@@ -241,11 +276,14 @@ module _ (m : ℕ) (w es : List ℕ) (P : Passes m w es) where
             ∙ five-zero (maskedSyndrome m (tried t) w) (sym (ap allZero (R .sums)) ∙ z) k h;
       }
 
+      near : Near m es w r w
+      near = record { codeword = word; few = le-trans still zero-le }
+
   pub workable : Workable w es
   workable =
       let g = given m w es P in
       record {
-        few = g .few;
+        few = omega (arith, g .few);
         long = omega (arith, g .lent .size, field-of m (g .width) .one-lt);
         short = omega (arith, g .lent .size, order-small m (g .width));
         below = subst (λ (n : ℕ). allBelow n es ≡ true) (sym (g .lent .size)) (g .lent .below);

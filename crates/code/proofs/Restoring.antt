@@ -7,6 +7,7 @@ use mathlib.Core.List.{List}
 use Prim.Native.Nat.{ℕ, _<_}
 use native.Mathlib.Decide.{decLt}
 use native.Mathlib.Omega.{arith}
+use borrow.Author.Tests.{le-leb}
 use lib.Dec.{eqb, leb}
 use lib.ListN.{length, List·getD-eq-default}
 use Rattle.field.specs.Field.{order}
@@ -19,17 +20,19 @@ use Rattle.field.proofs.Laws.{IsField}
 use Rattle.field.proofs.Widths.{field-of}
 use Rattle.code.specs.Word.{places, at}
 use Rattle.code.specs.Erasure.{member, distinct, symbolsFrom, differ, changes, masked, syndromesOf}
-use Rattle.code.specs.Near.{distance, radius, codewords, near, Restoration, none, one, several, found, restoration}
+use Rattle.code.specs.Near.{distance, radius, codewords, Near, nearby, Restoration, none, one, several, found, restoration}
 use Rattle.code.specs.Call.{maxErasures, written, done, shown, decided, restored, restoreAsked, restoreWritten}
-use Rattle.code.specs.Demands.{Passes, Near, NeverTwo, Accepts, RefusesSeven, RefusedUnchanged, SameErasures, AgreeOutside, SameRestored, SameDisplayed}
+use Rattle.code.specs.Demands.{Passes, NeverTwo, Nearest, Accepts, RefusesSeven, TwoNear, RefusesFourteen, FewErasures, RefusedUnchanged}
+use Rattle.code.specs.Demands.{SameErasures, AgreeOutside, SameRestored, SameDisplayed}
 use Rattle.code.proofs.Sums.{total-cong, syndrome-cong}
 use Rattle.code.proofs.Horner.{five-cong}
 use Rattle.code.proofs.Questions.{bool-eq, allBelow-means, allBelow-holds, member-means, member-at, symbols-means, symbols-holds}
 use Rattle.code.proofs.Members.{distinct-once, once-distinct, same-member, same-length}
 use Rattle.code.proofs.DistanceLaw.{distance-of}
-use Rattle.code.proofs.Unique.{near-within, near-unique, radius-few}
+use Rattle.code.proofs.Unique.{near-unique, radius-few}
 use Rattle.code.proofs.Passing.{given}
-use Rattle.code.proofs.Codewords.{keep-cong, restoration-none, restoration-far, restoration-near, restoration-one, never-several}
+use Rattle.code.proofs.Codewords.{keep-cong, restoration-none, restoration-far, restoration-near, restoration-only, restoration-one}
+use Rattle.code.proofs.Codewords.{restoration-several, restoration-two}
 
 -- ---- what an outcome says of the questions and of the restoration
 
@@ -47,79 +50,132 @@ module _ (m : ℕ) (w es : List ℕ) where
   refused-means Passed several n e = refl
   refused-means (Refused q) r n e = refl
 
-  written-one : (c : List ℕ) → Passes m w es → restoration m es w ≡ one c → restoreWritten m w es ≡ c
+  written-one : (c : List ℕ) → Passes m w es → restoration m es w (radius m (length es)) ≡ one c → restoreWritten m w es ≡ c
   written-one c p f = simp (p, f)
 
 -- what is refused stays as it was
 pub refused-unchanged : RefusedUnchanged
-refused-unchanged m w es n e = refused-means m w es (restoreAsked m w es) (restoration m es w) n e
+refused-unchanged m w es n e = refused-means m w es (restoreAsked m w es) (restoration m es w (radius m (length es))) n e
 
--- question 8 comes after all others, and no other question has its number
-seven-step : (b : Bool) (q : Question) (v : Verdict) (o : Outcome) → refusal q ≢ 7 → (after v o ≡ refused 7 → v ≡ Passed)
-    → after (ask b q v) o ≡ refused 7 → ask b q v ≡ Passed
-seven-step true q v o n h e = h e
-seven-step false q v o n h e = absurd (n (cc))
+-- a number that no question before question 8 has
+record Late (n : ℕ) : Type 0 where
+  width : refusal Width ≢ n
+  length : refusal Length ≢ n
+  count : refusal ErasureCount ≢ n
+  place : refusal ErasurePlace ≢ n
+  distinct : refusal ErasureDistinct ≢ n
+  symbol : refusal Symbol ≢ n
 
-seven-passed : (m : ℕ) (w es : List ℕ) (o : Outcome) → after (restoreAsked m w es) o ≡ refused 7 → Passes m w es
+late-step : (n : ℕ) (b : Bool) (q : Question) (v : Verdict) (o : Outcome) → refusal q ≢ n → (after v o ≡ refused n → v ≡ Passed)
+    → after (ask b q v) o ≡ refused n → ask b q v ≡ Passed
+late-step n true q v o d h e = h e
+late-step n false q v o d h e = absurd (d (cc))
+
+-- a call that answers with it has passed those questions
+late-passed : (n : ℕ) → Late n → (m : ℕ) (w es : List ℕ) (o : Outcome) → after (restoreAsked m w es) o ≡ refused n → Passes m w es
 unfolding restoreAsked
-seven-passed m w es o =
-    seven-step (isWidth m) Width _ o (λ e. omega arith)
-    (seven-step (eqb (length w) (places m)) Length _ o (λ e. omega arith)
-    (seven-step (leb (length es) (maxErasures m)) ErasureCount _ o (λ e. omega arith)
-    (seven-step (allBelow (places m) es) ErasurePlace _ o (λ e. omega arith)
-    (seven-step (distinct es) ErasureDistinct _ o (λ e. omega arith)
-    (seven-step (symbolsFrom (order m) es 0 w) Symbol Passed o (λ e. omega arith) (λ e. refl))))))
+late-passed n L m w es o =
+    late-step n (isWidth m) Width _ o (L .width)
+    (late-step n (eqb (length w) (places m)) Length _ o (L .length)
+    (late-step n (leb (length es) (maxErasures m)) ErasureCount _ o (L .count)
+    (late-step n (allBelow (places m) es) ErasurePlace _ o (L .place)
+    (late-step n (distinct es) ErasureDistinct _ o (L .distinct)
+    (late-step n (symbolsFrom (order m) es 0 w) Symbol Passed o (L .symbol) (λ e. refl))))))
+
+late : (n : ℕ) → 6 < n → Late n
+late n h = record {
+  width = λ e. omega arith;
+  length = λ e. omega arith;
+  count = λ e. omega arith;
+  place = λ e. omega arith;
+  distinct = λ e. omega arith;
+  symbol = λ e. omega arith;
+}
 
 -- ---- what restoring finds, of an input that passes
 
--- there is never more than one near codeword
+-- with fewer erasures than the distance there is never more than one near codeword
 pub never-two : NeverTwo
-never-two m w es p c d N N′ =
+never-two m w es p h c d N N′ =
     let G = given m w es p in
-    near-unique (field-of m (G .width)) (distance m) (distance-of m (G .width)) (near-within N) (near-within N′) (radius-few m (length es) (G .few))
+    near-unique (field-of m (G .width)) (distance m) (distance-of m (G .width)) N N′ (radius-few m (length es) h)
 
 module _ (m : ℕ) (w es : List ℕ) (p : Passes m w es) where
+  abbrev r : ℕ
+  r = radius m (length es)
+
   F : IsField m
   F = field-of m (given m w es p .width)
 
-  finds-near : (c : List ℕ) → restoration m es w ≡ one c → Near m es w c
-  finds-near = restoration-near F es w
+  finds-nearest : (c : List ℕ) (k : ℕ) → restoration m es w r ≡ one c → k ≡ changes m es w c → Nearest m w es c k
+  finds-nearest c k f e = record { near = restoration-near F es w r c f; only = restoration-only F es w r c f; count = e }
 
-  pub finds-one : (c : List ℕ) → Near m es w c → restoration m es w ≡ one c
-  finds-one = restoration-one F es w (never-two m w es p)
+  pub finds-one : (c : List ℕ) → Near m es w r c → ((d : List ℕ) → Near m es w r d → d ≡ c) → restoration m es w r ≡ one c
+  finds-one = restoration-one F es w r
 
-  pub finds-none : restoration m es w ≡ none ↔ ((c : List ℕ) → Near m es w c → ⊥)
-  finds-none = (restoration-far F es w, restoration-none F es w)
+  pub finds-none : restoration m es w r ≡ none ↔ ((c : List ℕ) → Near m es w r c → ⊥)
+  finds-none = (restoration-far F es w r, restoration-none F es w r)
 
-  finds-no-two : restoration m es w ≢ several
-  finds-no-two = never-several F es w (never-two m w es p)
+  pub finds-several : restoration m es w r ≡ several ↔ TwoNear m es w
+  finds-several = (
+    λ e.
+        let t = restoration-two F es w r e in
+        record { first = t .0; second = t .1; first-near = t .2; second-near = t .3; different = t .4 },
+    λ T. restoration-several F es w r (T .first) (T .second) (T .first-near) (T .second-near) (T .different),
+  )
 
--- accepted exactly when a codeword is near, and then the word ends equal to it
+-- accepted exactly when one codeword alone is near, and then the word ends equal to it
 pub accepts : Accepts
 accepts m w es k c = (
   λ h.
-      let r = accepted-means m w es (restoreAsked m w es) (restoration m es w) k (h .0) in
+      let r = accepted-means m w es (restoreAsked m w es) (restoration m es w (radius m (length es))) k (h .0) in
       let d : r .1 ≡ c = sym (written-one m w es (r .1) (r .0) (r .2)) ∙ h .1 in
-      let f : restoration m es w ≡ one c = r .2 ∙ ap one d in
-      (r .0, record { near = finds-near m w es (r .0) c f; count = r .3 ∙ ap (changes m es w) d }),
+      (r .0, finds-nearest m w es (r .0) c k (r .2 ∙ ap one d) (r .3 ∙ ap (changes m es w) d)),
   λ h.
-      let f = finds-one m w es (h .0) c (h .1 .near) in
+      let f = finds-one m w es (h .0) c (h .1 .near) (h .1 .only) in
       (simp (h .0, f, h .1 .count), written-one m w es c (h .0) f),
 )
+
+-- the number that question 8 or the one behind it gives tells what was found
+module _ (m : ℕ) (w es : List ℕ) where
+  tells-none : (x : Restoration) → decided m w es x ≡ refused 7 → x ≡ none
+  tells-none none e = refl
+  tells-none (one c) e = let z : _≡_ {A = ℕ} 0 1 = cc in absurd (omega arith)
+  tells-none several e = let z : _≡_ {A = ℕ} 14 7 = cc in absurd (omega arith)
+
+  tells-several : (x : Restoration) → decided m w es x ≡ refused 14 → x ≡ several
+  tells-several none e = let z : _≡_ {A = ℕ} 7 14 = cc in absurd (omega arith)
+  tells-several (one c) e = let z : _≡_ {A = ℕ} 0 1 = cc in absurd (omega arith)
+  tells-several several e = refl
 
 -- refused with 7 exactly when none is near
 pub refuses-seven : RefusesSeven
 refuses-seven m w es = (
   λ e.
-      let p = seven-passed m w es (decided m w es (restoration m es w)) e in
-      (p, finds-none m w es p .0 (go (restoration m es w) refl p (simp p at e))),
+      let x = restoration m es w (radius m (length es)) in
+      let p = late-passed 7 (late 7 (omega arith)) m w es (decided m w es x) e in
+      (p, finds-none m w es p .0 (tells-none m w es x (simp p at e))),
   λ h. let f = finds-none m w es (h .0) .1 (h .1) in simp (h .0, f),
 )
-  where
-    go : (r : Restoration) → restoration m es w ≡ r → Passes m w es → decided m w es r ≡ refused 7 → restoration m es w ≡ none
-    go none f p e = f
-    go (one c) f p e = let z : _≡_ {A = ℕ} 0 1 = cc in absurd (omega arith)
-    go several f p e = absurd (finds-no-two m w es p f)
+
+-- refused with 14 exactly when several are near
+pub refuses-fourteen : RefusesFourteen
+refuses-fourteen m w es = (
+  λ e.
+      let x = restoration m es w (radius m (length es)) in
+      let p = late-passed 14 (late 14 (omega arith)) m w es (decided m w es x) e in
+      (p, finds-several m w es p .0 (tells-several m w es x (simp p at e))),
+  λ h. let f = finds-several m w es (h .0) .1 (h .1) in simp (h .0, f),
+)
+
+-- which does not happen with fewer erasures than the distance
+pub few-erasures : FewErasures
+few-erasures m w es h = (
+  le-leb (length es) (maxErasures m) (omega arith),
+  λ e.
+      let t = refuses-fourteen m w es .0 e in
+      t .1 .different (never-two m w es (t .0) h (t .1 .first) (t .1 .second) (t .1 .first-near) (t .1 .second-near)),
+)
 
 -- ---- words that agree outside the same erasures
 
@@ -170,11 +226,9 @@ module _ {w w′ es es′ : List ℕ} (a : Alike w w′ es es′) where
         go p true e = refl
         go p false e = ap (λ (x : ℕ). differ x (at c p)) (same-at p e)
 
-    same-restoration : restoration m es w ≡ restoration m es′ w′
-    unfolding restoration near
-    same-restoration =
-        rw (← same-length es es′ (a .erasures))
-        (ap found (keep-cong _ _ (λ c. ap (λ (n : ℕ). leb n (radius m (length es))) (same-changes c)) (codewords m)))
+    same-restoration : (r : ℕ) → restoration m es w r ≡ restoration m es′ w′ r
+    unfolding restoration nearby
+    same-restoration r = ap found (keep-cong _ _ (λ c. ap (λ (n : ℕ). leb n r) (same-changes c)) (codewords m))
 
     same-decided : (r : Restoration) → decided m w es r ≡ decided m w′ es′ r
     same-decided none = refl
@@ -195,9 +249,9 @@ same-asked {w} {w′} {es} {es′} a m =
 -- words that agree outside the same erasures get the same answers and, if accepted, end equal
 pub same-restored : SameRestored
 same-restored m w w′ es es′ l same agree = (
-  ap₂ after asked (ap (decided m w es) found′ ∙ same-decided a m (restoration m es′ w′)),
+  ap₂ after asked (ap (decided m w es) found′ ∙ same-decided a m (restoration m es′ w′ (radius m (length es′)))),
   λ k e.
-      let r = accepted-means m w es (restoreAsked m w es) (restoration m es w) k e in
+      let r = accepted-means m w es (restoreAsked m w es) (restoration m es w (radius m (length es))) k e in
       written-one m w es (r .1) (r .0) (r .2) ∙ sym (written-one m w′ es′ (r .1) (sym asked ∙ r .0) (sym found′ ∙ r .2)),
 )
   where
@@ -207,8 +261,10 @@ same-restored m w w′ es es′ l same agree = (
     asked : restoreAsked m w es ≡ restoreAsked m w′ es′
     asked = same-asked a m
 
-    found′ : restoration m es w ≡ restoration m es′ w′
-    found′ = same-restoration a m
+    found′ : restoration m es w (radius m (length es)) ≡ restoration m es′ w′ (radius m (length es′))
+    found′ =
+        same-restoration a m (radius m (length es))
+        ∙ ap (λ (n : ℕ). restoration m es′ w′ (radius m n)) (same-length es es′ (a .erasures))
 
 -- ---- the display
 

@@ -1,11 +1,11 @@
 -- Rows and columns: their entries, and the products of rows with a list of values. Assumes nothing.
 use mathlib.Core.Path.{_≡_, refl, sym, _∙_, ap, ap₂}
 use mathlib.Core.Logic.{_≢_}
-use mathlib.Core.List.{List, [], _∷_, _++_}
+use mathlib.Core.List.{List, [], _∷_}
 use Prim.Native.Nat.{ℕ, zero, suc, _≤_, _<_}
 use native.Mathlib.Nat.{le-of-suc-le-suc, not-suc-le-zero}
 use native.Mathlib.Omega.{arith}
-use lib.ListN.{length, getD, take, drop, replicate, length-map, List·getD-map}
+use lib.ListN.{length, getD, set, take, drop, replicate, length-map, List·getD-map}
 use lib.Seq.{length-take-le, getD-take, getD-drop}
 use Rattle.field.specs.Polynomial.{add}
 use Rattle.field.specs.Field.{order, product}
@@ -39,6 +39,10 @@ length-column a j n tall h = length-take-le n (columnOf a j) (simp length-map (o
 pub getD-column : (a : List (List ℕ)) (j n i : ℕ) → i < n → getD (take n (columnOf a j)) i 0 ≡ entry a i j
 getD-column a j n i h = getD-take n (columnOf a j) i 0 h ∙ List·getD-map (λ (row : List ℕ). getD row j 0) a i []
 
+-- the values with v added to the value at place j
+abbrev pub raised : List ℕ → ℕ → ℕ → List ℕ
+raised zs j v = set zs j (add (getD zs j 0) v)
+
 module _ (m : ℕ) (F : IsField m) where
   pub dot-lt : (xs zs : List ℕ) → dot m xs zs < order m
   dot-lt [] zs = omega (arith, F .one-lt)
@@ -68,12 +72,6 @@ module _ (m : ℕ) (F : IsField m) where
   pub dot-head : (xs : List ℕ) (z : ℕ) (zs : List ℕ) → dot m xs (z ∷ zs) ≡ add (product m (getD xs 0 0) z) (dot m (drop 1 xs) zs)
   dot-head [] z zs = sym (F .add-zero _ ∙ F .zero-product z)
   dot-head (x ∷ xs) z zs = refl
-
-  pub dot-append : (xs ys zs : List ℕ) → dot m xs (ys ++ zs) ≡ add (dot m xs ys) (dot m (drop (length ys) xs) zs)
-  dot-append [] [] zs = sym (F .add-zero 0)
-  dot-append [] (y ∷ ys) zs = sym (F .add-zero 0)
-  dot-append (x ∷ xs) [] zs = sym (F .zero-add _)
-  dot-append (x ∷ xs) (y ∷ ys) zs = ap (add (product m x y)) (dot-append xs ys zs) ∙ sym (F .add-assoc _ _ _)
 
   -- rows that agree wherever there is a value
   pub dot-same : (xs ys zs : List ℕ) → ((j : ℕ) → j < length zs → getD xs j 0 ≡ getD ys j 0) → dot m xs zs ≡ dot m ys zs
@@ -105,11 +103,17 @@ module _ (m : ℕ) (F : IsField m) where
       (dot-unit xs zs i (omega arith) s e (λ j k n. h (suc j) (omega arith) (omega arith)))
       ∙ F .zero-add _
 
-  -- values of which only the first is not 0
-  pub dot-first : (xs : List ℕ) (n : ℕ) → getD xs 0 0 < order m → dot m xs (1 ∷ replicate n 0) ≡ getD xs 0 0
-  dot-first xs n s = dot-head xs 1 (replicate n 0) ∙ ap₂ add (F .product-one _ s) (zeros (drop 1 xs) n) ∙ F .add-zero _
-    where
-      zeros : (xs : List ℕ) (n : ℕ) → dot m xs (replicate n 0) ≡ 0
-      zeros [] n = refl
-      zeros (x ∷ xs) zero = refl
-      zeros (x ∷ xs) (suc n) = ap₂ add (F .product-zero x) (zeros xs n) ∙ F .add-zero 0
+  -- values that are all 0
+  pub dot-zeros : (xs : List ℕ) (n : ℕ) → dot m xs (replicate n 0) ≡ 0
+  dot-zeros [] n = refl
+  dot-zeros (x ∷ xs) zero = refl
+  dot-zeros (x ∷ xs) (suc n) = ap₂ add (F .product-zero x) (dot-zeros xs n) ∙ F .add-zero 0
+
+  -- one value raised by v
+  pub dot-raised : (xs zs : List ℕ) (j v : ℕ) → j < length zs → dot m xs (raised zs j v) ≡ add (dot m xs zs) (product m (getD xs j 0) v)
+  dot-raised xs [] j v l = absurd (not-suc-le-zero l)
+  dot-raised [] (z ∷ zs) zero v l = sym (F .zero-add _ ∙ F .zero-product v)
+  dot-raised [] (z ∷ zs) (suc j) v l = sym (F .zero-add _ ∙ F .zero-product v)
+  dot-raised (x ∷ xs) (z ∷ zs) zero v l = simp (F .product-add, F .add-assoc) (ap (add (product m x z)) (F .add-comm _ _))
+  dot-raised (x ∷ xs) (z ∷ zs) (suc j) v l =
+      ap (add (product m x z)) (dot-raised xs zs j v (le-of-suc-le-suc l)) ∙ sym (F .add-assoc _ _ _)

@@ -13,12 +13,12 @@ use Rattle.field.specs.Answer.{Operand}
 use Rattle.field.specs.Bytes.{inverted}
 use Rattle.field.proofs.Widths.{field-of}
 use Rattle.field.proofs.Bytes.{inverted-inverse}
-use Rattle.code.specs.declared.solver.Solutions.the-variants.{None, One, Dependent}
+use Rattle.code.specs.declared.solver.Solutions.the-variants.{None, One, Several}
 use Rattle.code.specs.Matrix.{rows, unknowns, columns, entry, Matrix, Operands, rowAdd, scale}
 use Rattle.code.specs.Matrix.{unitRow, Cleared, swapped, Pivot, columnOf, Means}
 use Rattle.code.proofs.Loops.{Filled, filled-on, Sought, sought-start, sought-on}
 use Rattle.code.proofs.RowLaws.{getD-scale}
-use Rattle.code.proofs.Elimination.{Reduced, Swaps, swaps, reduced-start, reduced-step, means-none, means-one, means-dependent}
+use Rattle.code.proofs.Elimination.{Reduced, Swaps, swaps, reduced-start, reduced-missing, reduced-step, means-none, means-one, means-several}
 
 -- the search for a pivot: column c is 0 in rows r to i-1
 pub record Seeking (a : List (List ℕ)) (c r i : ℕ) : Type 0 where
@@ -92,36 +92,51 @@ module _ (m : ℕ) (a : List (List ℕ)) (c p : ℕ) (hc : c < columns) (hp : p 
           others = λ k h n. getD-set-other out p k unit [] n ∙ g .same (w, M) k (omega arith);
         }
 
--- the elimination, column by column
-pub record Solving (m : ℕ) (a₀ a : List (List ℕ)) (s c : ℕ) : Type 0 where
+-- the elimination, column by column: r of the first c have had a pivot
+pub record Solving (m : ℕ) (a₀ a : List (List ℕ)) (s r c : ℕ) : Type 0 where
   pub below : c ≤ s
-  pub state : isWidth m ≡ true → Matrix m a₀ → Reduced m a₀ a c
+  pub few : r ≤ c
+  pub state : isWidth m ≡ true → Matrix m a₀ → Reduced m a₀ a c r
 
-pub solving-start : (m : ℕ) (a : List (List ℕ)) (s : ℕ) → Solving m a a s 0
-solving-start m a s = record { below = omega arith; state = λ w. reduced-start m a }
+pub solving-start : (m : ℕ) (a : List (List ℕ)) (s : ℕ) → Solving m a a s 0 0
+solving-start m a s = record { below = omega arith; few = omega arith; state = λ w. reduced-start m a }
 
-module _ (m : ℕ) (a₀ a : List (List ℕ)) (s c : ℕ) (S : Solving m a₀ a s c) (hs : s ≤ unknowns) where
-  module _ (h : c < s) (p : ℕ) (P : Pivot a (c + 1) c p) where
-    pub solving-on : p ≢ rows → (u b : List (List ℕ)) → u ≡ swapped a c p
-        → (isWidth m ≡ true → Matrix m u → Cleared m u (c + 1) c b) → Solving m a₀ b s (c + 1)
-    solving-on n u b e C =
+module _ (m : ℕ) (a₀ a : List (List ℕ)) (s r c : ℕ) (S : Solving m a₀ a s r c) (hs : s ≤ unknowns) where
+  module _ (h : c < s) (p : ℕ) (P : Pivot a (c + 1) r p) where
+    pub solving-on : p < rows → (u b : List (List ℕ)) → u ≡ swapped a r p
+        → (isWidth m ≡ true → Matrix m u → Cleared m u (c + 1) r b) → Solving m a₀ b s (r + 1) (c + 1)
+    solving-on l u b e C =
         record {
           below = omega arith;
+          few = omega (arith, S .few);
           state = λ w M. (let R = S .state w M in
-              let E : Swaps a c p u = rw e (swaps a (R .matrix .tall) c p (omega arith) (omega (arith, P .upto))) in
-              reduced-step m (field-of m w) a₀ a c p R (omega arith) (omega (arith, P .upto)) P u E b (C w));
+              let hr : r < rows = omega (arith, P .from) in
+              let E : Swaps a r p u = rw e (swaps a (R .matrix .tall) r p hr l) in
+              reduced-step m (field-of m w) a₀ a c r p R (omega arith) hr l P u E b (C w));
         }
 
-    pub solved-dependent : p ≡ rows → (zs : List ℕ) → isWidth m ≡ true → Matrix m a₀ → Means m Dependent a₀ s zs
-    solved-dependent e zs w M =
-        means-dependent m (field-of m w) a₀ a c (S .state w M) (omega arith) M (subst (Pivot a (c + 1) c) e P) s h hs zs
+    pub solving-past : rows ≤ p → Solving m a₀ a s r (c + 1)
+    solving-past l =
+        record {
+          below = omega arith;
+          few = omega (arith, S .few);
+          state = λ w M. reduced-missing m a₀ a c r (S .state w M) (subst (Pivot a (c + 1) r) (omega (arith, P .upto)) P);
+        }
 
-  module _ (h : s ≤ c) (p : ℕ) (P : Pivot a 0 s p) where
-    at-end : isWidth m ≡ true → Matrix m a₀ → Reduced m a₀ a s
-    at-end w M = subst (Reduced m a₀ a) (omega (arith, S .below)) (S .state w M)
+  module _ (h : s ≤ c) (p : ℕ) (P : Pivot a 0 r p) where
+    at-end : isWidth m ≡ true → Matrix m a₀ → Reduced m a₀ a s r
+    at-end w M = subst (λ (n : ℕ). Reduced m a₀ a n r) (omega (arith, S .below)) (S .state w M)
 
-    pub solved-none : p ≢ rows → (zs : List ℕ) → isWidth m ≡ true → Matrix m a₀ → Means m None a₀ s zs
-    solved-none n zs w M = means-none m (field-of m w) a₀ a s (at-end w M) hs M p P (omega (arith, P .upto)) zs
+    pub solved-none : p < rows → (zs : List ℕ) → isWidth m ≡ true → Matrix m a₀ → Means m None a₀ s zs
+    solved-none l zs w M = means-none m (field-of m w) a₀ a s r (at-end w M) hs M p P l zs
 
-    pub solved-one : p ≡ rows → (zs : List ℕ) → zs ≡ take unknowns (columnOf a 0) → isWidth m ≡ true → Matrix m a₀ → Means m One a₀ s zs
-    solved-one e zs ez w M = means-one m (field-of m w) a₀ a s (at-end w M) hs M (subst (Pivot a 0 s) e P) zs ez
+    module _ (l : rows ≤ p) where
+      at-rows : Pivot a 0 r rows
+      at-rows = subst (Pivot a 0 r) (omega (arith, P .upto)) P
+
+      pub solved-several : r < s → (zs : List ℕ) → isWidth m ≡ true → Matrix m a₀ → Means m Several a₀ s zs
+      solved-several b zs w M = means-several m (field-of m w) a₀ a s r (at-end w M) hs M at-rows b zs
+
+      pub solved-one : s ≤ r → (zs : List ℕ) → zs ≡ take unknowns (columnOf a 0) → isWidth m ≡ true → Matrix m a₀ → Means m One a₀ s zs
+      solved-one b zs ez w M =
+          means-one m (field-of m w) a₀ a s r (at-end w M) hs M at-rows (omega (arith, S .few, S .below)) zs ez

@@ -59,11 +59,16 @@ sum-cong zero f g h = refl
 sum-cong (suc n) f g h = ap₂ add (sum-cong n f g (λ i l. h i (omega arith))) (h n (le-refl (suc n)))
 
 module _ {m : ℕ} (F : IsField m) where
-  sum-add : (n : ℕ) (f g : ℕ → ℕ) → sum n (λ i. add (f i) (g i)) ≡ add (sum n f) (sum n g)
+  pub sum-add : (n : ℕ) (f g : ℕ → ℕ) → sum n (λ i. add (f i) (g i)) ≡ add (sum n f) (sum n g)
   unfolding sum
   sum-add zero f g = sym (F .add-zero 0)
   sum-add (suc n) f g =
       ap (λ (x : ℕ). add x (add (f n) (g n))) (sum-add n f g) ∙ simp (F .add-assoc, F .add-left-comm, F .add-comm)
+
+  pub sum-times : (n : ℕ) (f : ℕ → ℕ) (z : ℕ) → sum n (λ i. product m (f i) z) ≡ product m (sum n f) z
+  unfolding sum
+  sum-times zero f z = sym (F .zero-product z)
+  sum-times (suc n) f z = ap (λ (x : ℕ). add x (product m (f n) z)) (sum-times n f z) ∙ sym (F .add-product (sum n f) (f n) z)
 
   pub sum-zero : (n : ℕ) → sum n (λ i. 0) ≡ 0
   unfolding sum

@@ -1,7 +1,7 @@
 -- Trials with extra places: a trial extended by a place is a trial, and a search with at most r extra places finds every codeword that is
 -- near. Assumes nothing.
-use mathlib.Core.Path.{_≡_, sym, ap, ap₂, _∙_, subst}
-use mathlib.Core.Bool.{Bool, true, false}
+use mathlib.Core.Path.{_≡_, refl, sym, ap, ap₂, _∙_, subst}
+use mathlib.Core.Bool.{Bool, true, false, true≢false}
 use mathlib.Core.List.{List, [], _∷_, _++_, append-assoc}
 use Prim.Native.Nat.{ℕ, zero, suc, _+_, _-_, _≤_, _<_}
 use native.Mathlib.Nat.{le-refl, le-trans}
@@ -14,13 +14,15 @@ use Rattle.field.specs.Question.{allBelow}
 use Rattle.field.proofs.Widths.{field-of}
 use Rattle.code.specs.declared.restorer.Trial.{Trial}
 use Rattle.code.specs.declared.restorer.Correction.{Correction}
-use Rattle.code.specs.Word.{five, places, at}
+use Rattle.code.specs.Word.{five, places, at, Codeword}
 use Rattle.code.specs.Place.{column}
 use Rattle.code.specs.Erasure.{member, distinct, maskedSyndrome}
-use Rattle.code.specs.Correction.{Agrees, Lent, tried, Ready, corrected, Corrects}
-use Rattle.code.specs.Correction.{NoneAt, NoneFrom, Searched, NoneWithin}
+use Rattle.code.specs.Correction.{Agrees, Lent, tried, Ready, corrected}
+use Rattle.code.specs.Correction.{NoneAt, SeveralAt, NoneFrom, isSolved, Searched, NoneWithin}
+use Rattle.code.specs.declared.solver.Solutions.{Solutions}
+use Rattle.code.specs.declared.solver.Solutions.the-variants.{None, One, Several}
 use Rattle.code.proofs.Horner.{five-at, five-cong}
-use Rattle.code.proofs.Questions.{or-false-right, both-ways}
+use Rattle.code.proofs.Questions.{or-false-right}
 use Rattle.code.proofs.Members.{distinct-head, distinct-tail, distinct-cons, below-head, below-tail, below-cons}
 use Rattle.code.proofs.Columns.{masked-more}
 use Rattle.code.proofs.Filling.{masked-lt}
@@ -56,37 +58,64 @@ module _ (m : ℕ) (w : List ℕ) (t u : Trial) (p x : ℕ) (R : Ready m w t) (h
 
 -- ---- searches
 
--- nothing is found, and nothing is there
-pub searched-none : {m : ℕ} {w ls : List ℕ} {n : ℕ} {Far : Type 0} {c : Correction} → c .found ≡ false → Far → Searched m w ls n Far c
-searched-none f x = record { yes = λ g. absurd (both-ways g f); no = λ g. x }
+-- the answer is none, or there are solutions
+solved-none : (f : Solutions) → isSolved f ≡ false → f ≡ None
+solved-none None e = refl
+solved-none One e = absurd (true≢false e)
+solved-none Several e = absurd (true≢false e)
 
-corrects-more : {m : ℕ} {w ls : List ℕ} {n r : ℕ} {c : Correction} → n ≤ r → Corrects m w ls n c → Corrects m w ls r c
-corrects-more h C =
-    record { below = C .below; codeword = C .codeword; extra = C .extra; few = le-trans (C .few) h; agrees = C .agrees }
+solved-not : (f : Solutions) → isSolved f ≡ true → f ≡ None → ⊥
+solved-not f e n = true≢false (sym e ∙ ap isSolved n)
 
--- a correction was found
-pub searched-found : {m : ℕ} {w ls : List ℕ} {n r : ℕ} {Far : Type 0} {c : Correction} → n ≤ r → c .found ≡ true → Corrects m w ls n c
-    → Searched m w ls r Far c
-searched-found h f C = record { yes = λ g. corrects-more h C; no = λ g. absurd (both-ways f g) }
+-- nothing is found
+pub searched-nothing : (c : Correction) (b : Bool) → b ≡ isSolved (c .found) → b ≡ false → c .found ≡ None
+searched-nothing c b e f = solved-none (c .found) (sym e ∙ f)
+
+-- and nothing is there
+pub searched-none : {m : ℕ} {w ls : List ℕ} {n : ℕ} {Far : Type 0} {c : Correction} → c .found ≡ None → Far → Searched m w ls n Far c
+searched-none e x = record {
+  none = λ g. x;
+  one = λ g. (let z : _≡_ {A = ℕ} 0 1 = cc in absurd (omega arith));
+  several = λ g. (let z : _≡_ {A = ℕ} 0 1 = cc in absurd (omega arith));
+}
+
+-- something was found
+pub searched-found : {m : ℕ} {w ls : List ℕ} {n r : ℕ} {Far Other : Type 0} {c : Correction} → n ≤ r → (b : Bool) → b ≡ isSolved (c .found)
+    → b ≡ true → Searched m w ls n Far c → Searched m w ls r Other c
+searched-found {c = c} h b e f S = record {
+  none = λ g. absurd (solved-not (c .found) (sym e ∙ f) g);
+  one = λ g. let C = S .one g in
+      record { below = C .below; codeword = C .codeword; extra = C .extra; few = le-trans (C .few) h; agrees = C .agrees; only = C .only };
+  several = λ g. let A = S .several g in record { extra = A .extra; few = le-trans (A .few) h; two = A .two };
+}
 
 -- a search with the trial u, which has the place p beside those of t, is one from t with one extra place more
 pub searched-place : (m : ℕ) (w : List ℕ) (t u : Trial) (n : ℕ) (Far : List ℕ → Type 0) (c : Correction) (p : ℕ)
     → (tried u ≡ p ∷ tried t) × Ready m w u → (Ready m w u → Searched m w (tried u) n (Far (tried u)) c)
     → Searched m w (tried t) (suc n) (member p (tried t) ≡ false → Far (p ∷ tried t)) c
 searched-place m w t u n Far c p E S = record {
-  yes = λ g. (let C = T .yes g in
+  none = λ g o. T .none g;
+  one = λ g. (let C = T .one g in
       record {
         below = C .below;
         codeword = C .codeword;
         extra = C .extra ++ (p ∷ []);
-        few = simp length-append (omega (arith, C .few));
-        agrees = subst (λ (xs : List ℕ). Agrees m xs w (corrected w c)) (sym (append-assoc (C .extra) (p ∷ []) (tried t))) (C .agrees);
+        few = more (C .extra) (C .few);
+        agrees = subst (λ (xs : List ℕ). Agrees m xs w (corrected w c)) (moved (C .extra)) (C .agrees);
+        only = subst (λ (xs : List ℕ). (d : List ℕ) → Codeword m d → Agrees m xs w d → d ≡ corrected w c) (moved (C .extra)) (C .only);
       });
-  no = λ g o. T .no g;
+  several = λ g. (let A = T .several g in
+      record { extra = A .extra ++ (p ∷ []); few = more (A .extra) (A .few); two = subst (SeveralAt m w) (moved (A .extra)) (A .two) });
 }
   where
     T : Searched m w (p ∷ tried t) n (Far (p ∷ tried t)) c
     T = subst (λ (ls : List ℕ). Searched m w ls n (Far ls) c) (E .0) (S (E .1))
+
+    more : (xs : List ℕ) → length xs ≤ n → length (xs ++ (p ∷ [])) ≤ suc n
+    more xs h = simp length-append (omega arith)
+
+    moved : (xs : List ℕ) → xs ++ (p ∷ tried t) ≡ (xs ++ (p ∷ [])) ++ tried t
+    moved xs = sym (append-assoc xs (p ∷ []) (tried t))
 
 -- ---- no more than n extra places
 
@@ -131,11 +160,11 @@ module _ (m : ℕ) (w : List ℕ) where
 
   -- a codeword within r places agrees outside the erasures and at most r extra places
   pub none-within : (es : List ℕ) → Lent m w es → (r : ℕ) → NoneFrom m w es 0 r → NoneWithin m w es r
-  none-within es W r N c C few =
+  none-within es W r N c near =
       let extra = wrong es w c (places m) in
-      let B = within-beside W (record { codeword = C; few = few }) in
+      let B = within-beside W near in
       let e : r ≡ length extra + (r - length extra) = omega (arith, B .few) in
       none-first (extra ++ es) (places m) (r - length extra)
       (none-beside es extra (places m) (r - length extra) (B .falling) (B .lent .distinct) (B .lent .below)
       (subst (NoneFrom m w es 0) e N))
-      c C (B .agrees)
+      c (near .codeword) (B .agrees)

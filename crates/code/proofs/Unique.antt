@@ -16,24 +16,11 @@ use Rattle.field.specs.Polynomial.{add}
 use Rattle.field.proofs.Laws.{IsField}
 use Rattle.code.specs.Word.{places, at, Codeword}
 use Rattle.code.specs.Erasure.{member, total, differ, changes}
-use Rattle.code.specs.Near.{distance, radius}
-use Rattle.code.specs.Call.{maxErasures}
-use Rattle.code.specs.Demands.{Near}
+use Rattle.code.specs.Near.{distance, radius, Near}
 use Rattle.code.proofs.Algebra.{add-of-eq}
 use Rattle.code.proofs.Sums.{total-le, total-add, syndrome-add}
 use Rattle.code.proofs.Members.{members-le}
 use Rattle.code.proofs.DistanceLaw.{nonzero, Distance}
-
--- c is a codeword that differs from w, outside the erasures, at no more than r places
-pub record Within (m : ℕ) (es w : List ℕ) (r : ℕ) (c : List ℕ) : Type 0 where
-  pub codeword : Codeword m c
-  pub few : changes m es w c ≤ r
-
-pub near-within : {m : ℕ} {es w c : List ℕ} → Near m es w c → Within m es w (radius m (length es)) c
-near-within N = record { codeword = N .codeword; few = N .few }
-
-pub within-near : {m : ℕ} {es w c : List ℕ} → Within m es w (radius m (length es)) c → Near m es w c
-within-near N = record { codeword = N .codeword; few = N .few }
 
 -- ---- where two symbols differ
 
@@ -110,9 +97,9 @@ module _ {m : ℕ} (F : IsField m) (d : ℕ) (dist : Distance m d) {c c′ : Lis
 
 -- with s erasures and s + 2r below the distance, there is at most one codeword within r places
 pub near-unique : {m : ℕ} → IsField m → (d : ℕ) → Distance m d → {es w c c′ : List ℕ} {r : ℕ}
-    → Within m es w r c → Within m es w r c′ → length es + r + r < d → c ≡ c′
+    → Near m es w r c → Near m es w r c′ → length es + r + r < d → c ≡ c′
 near-unique F d dist {es} {w} {r = r} N N′ h = same-near F d dist (N .codeword) (N′ .codeword) es w r r h (N .few) (N′ .few)
 
 -- s + 2r is below the distance
-pub radius-few : (m s : ℕ) → s ≤ maxErasures m → s + radius m s + radius m s < distance m
+pub radius-few : (m s : ℕ) → s < distance m → s + radius m s + radius m s < distance m
 radius-few m s h = omega arith

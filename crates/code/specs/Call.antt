@@ -2,12 +2,12 @@
 use mathlib.Core.Path.{_≡_}
 use mathlib.Core.Bool.{Bool, true, cond, _&&_}
 use mathlib.Core.List.{List, [], _∷_}
-use Prim.Native.Nat.{ℕ, _-_}
+use Prim.Native.Nat.{ℕ}
 use lib.Dec.{eqb, leb}
 use lib.ListN.{length, replicate}
 use Rattle.field.specs.Field.{order}
 use Rattle.field.specs.Question.{Outcome, accepted, refused, refusal, ask, after, isWidth, allBelow}
-use Rattle.field.specs.declared.Question.the-variants.{Width, Length, ErasureCount, ErasurePlace, ErasureDistinct, Symbol, Correctable, Syndrome}
+use Rattle.field.specs.declared.Question.the-variants.{Width, Length, ErasureCount, ErasurePlace, ErasureDistinct, Symbol, Correctable, Unique, Syndrome}
 use Rattle.field.specs.declared.Verdict.{Verdict}
 use Rattle.field.specs.declared.Verdict.the-variants.{Passed, Refused as RefusedBy}
 use Rattle.code.specs.declared.Syndromes.{Syndromes}
@@ -17,7 +17,7 @@ use Rattle.code.specs.declared.Membership.{Membership}
 use Rattle.code.specs.declared.Membership.the-variants.{Codeword, Other, Refused}
 use Rattle.code.specs.Word.{checks, places, items, encode, dataOf}
 use Rattle.code.specs.Erasure.{distinct, symbolsFrom, changes, syndromesOf}
-use Rattle.code.specs.Near.{distance, Restoration, none, one, several, restoration}
+use Rattle.code.specs.Near.{radius, Restoration, none, one, several, restoration}
 
 -- a lent slice after the call: written where all questions passed, else as it was
 abbrev pub written : Verdict → List ℕ → List ℕ → List ℕ
@@ -101,9 +101,9 @@ pub record Reads (m : ℕ) (word old : List ℕ) (v : Verdict) (new : List ℕ) 
 
 -- ---- a word with erasures: questions 1, 2, 3, 5, 6 and 7
 
--- question 3's bound, four: as many erasures as are always restored
+-- question 3's bound: five erasures
 abbrev pub maxErasures : ℕ → ℕ
-maxErasures m = distance m - 1
+maxErasures m = 5
 
 -- questions 3, 5, 6 and 7, put to the erasures and the word
 abbrev pub erasuresAsked : ℕ → List ℕ → List ℕ → Verdict
@@ -139,11 +139,11 @@ pub record Displays (m : ℕ) (word es : List ℕ) (r : Syndromes) : Type 0 wher
 
 -- ---- the restorer: question 8
 
--- question 8, and the number of changed places. That there are never several near codewords is proved: `NeverTwo` of Demands.antt
+-- question 8, then document 02's question whether there are not several near codewords, and the number of changed places
 abbrev pub decided : ℕ → List ℕ → List ℕ → Restoration → Outcome
 decided m word es none = refused (refusal Correctable)
 decided m word es (one c) = accepted (changes m es word c)
-decided m word es several = refused (refusal Correctable)
+decided m word es several = refused (refusal Unique)
 
 -- the word after question 8: the near codeword, or as it was
 abbrev pub restored : List ℕ → Restoration → List ℕ
@@ -153,11 +153,11 @@ restored word several = word
 
 -- what the restorer answers
 abbrev pub restoreOf : ℕ → List ℕ → List ℕ → Outcome
-restoreOf m word es = after (restoreAsked m word es) (decided m word es (restoration m es word))
+restoreOf m word es = after (restoreAsked m word es) (decided m word es (restoration m es word (radius m (length es))))
 
 -- the word after the call
 abbrev pub restoreWritten : ℕ → List ℕ → List ℕ → List ℕ
-restoreWritten m word es = written (restoreAsked m word es) word (restored word (restoration m es word))
+restoreWritten m word es = written (restoreAsked m word es) word (restored word (restoration m es word (radius m (length es))))
 
 -- the outcome that the restorer's answer stands for
 abbrev pub repair : Repair → Outcome

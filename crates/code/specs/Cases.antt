@@ -1,7 +1,7 @@
--- The starred cases of document 01, all at width 3: the table `cases` and what it says. proofs/Cases.antt proves it, in one theorem
--- `cases-hold : Table cases`. Assumes nothing.
+-- The starred cases of document 01 and document 02's words with five erasures, all at width 3: the table `cases` and what it says.
+-- proofs/Cases.antt proves it, in one theorem `cases-hold : Table cases`. Assumes nothing.
 use mathlib.Core.Path.{_≡_}
-use mathlib.Core.List.{List, [], _∷_}
+use mathlib.Core.List.{List, [], _∷_, _++_}
 use Prim.Native.Nat.{ℕ}
 use lib.ListN.{length, set}
 use Rattle.field.specs.Question.{Outcome, accepted, refused}
@@ -43,8 +43,8 @@ abbrev pub wordD : List ℕ
 wordD = word 1 0 0 0 0 (symbols 1 1 1 1 1 1 1)
 
 -- the rows A to N
-abbrev pub cases : List Case
-cases =
+abbrev pub starred : List Case
+starred =
     encoding (symbols 0 0 0 0 0 0 0) zeros  -- A
     ∷ encoding (symbols 1 0 0 0 0 0 0) (word 1 1 1 1 1 (symbols 1 0 0 0 0 0 0))  -- B
     ∷ encoding (symbols 0 1 0 0 0 0 0) wordC  -- C
@@ -60,6 +60,17 @@ cases =
     ∷ restoring (word 1 2 0 3 6 (symbols 0 0 0 0 0 0 0)) (2 ∷ 5 ∷ 6 ∷ 8 ∷ []) (accepted 0) wordC  -- M
     ∷ refusing (zeros but 4 is 1) (0 ∷ 1 ∷ 2 ∷ 3 ∷ []) 7  -- N
     ∷ []
+
+-- five erasures: several codewords agree outside them, or none, or one, where all check symbols are lost
+abbrev pub fiveErasures : List Case
+fiveErasures =
+    refusing zeros (2 ∷ 4 ∷ 5 ∷ 6 ∷ 8 ∷ []) 14
+    ∷ refusing (zeros but 0 is 1) (2 ∷ 4 ∷ 5 ∷ 6 ∷ 8 ∷ []) 7
+    ∷ restoring (word 0 0 0 0 0 (symbols 0 1 0 0 0 0 0)) (0 ∷ 1 ∷ 2 ∷ 3 ∷ 4 ∷ []) (accepted 0) wordC
+    ∷ []
+
+abbrev pub cases : List Case
+cases = starred ++ fiveErasures
 
 -- what a row says: the encoder accepts the data, whatever the output held before, and writes the word; the restorer answers the outcome
 -- and leaves the word

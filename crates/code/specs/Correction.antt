@@ -1,7 +1,8 @@
 -- What the functions below the restorer work on and give: a trial, which is places taken as erased, and a correction. This is vocabulary of
 -- internal contracts: the contracts of the public calls rest on Word, Erasure, Near, Call and Demands alone. Assumes nothing.
 use mathlib.Core.Path.{_≡_}
-use mathlib.Core.Bool.{true, false, cond}
+use mathlib.Core.Logic.{_≢_}
+use mathlib.Core.Bool.{Bool, true, false, cond}
 use mathlib.Core.List.{List, [], _∷_, _++_}
 use Prim.Native.Nat.{ℕ, zero, suc, _+_, _-_, _≤_, _<_}
 use lib.Dec.{eqb, leb}
@@ -10,9 +11,12 @@ use Rattle.field.specs.Field.{order}
 use Rattle.field.specs.Question.{isWidth, allBelow}
 use Rattle.code.specs.declared.restorer.Trial.{Trial}
 use Rattle.code.specs.declared.restorer.Correction.{Correction}
+use Rattle.code.specs.declared.solver.Solutions.{Solutions}
+use Rattle.code.specs.declared.solver.Solutions.the-variants.{None, One, Several}
 use Rattle.code.specs.Word.{checks, places, longest, at, Codeword}
 use Rattle.code.specs.Place.{column}
-use Rattle.code.specs.Erasure.{member, distinct, changes, syndromesOf}
+use Rattle.code.specs.Erasure.{member, distinct, syndromesOf}
+use Rattle.code.specs.Near.{Near}
 use Rattle.code.specs.Matrix.{rows, columns, unknowns}
 
 -- the word with the values zs at the places ls
@@ -55,7 +59,7 @@ pub record SystemRow (m : ℕ) (ls : List ℕ) (b k : ℕ) (row : List ℕ) : Ty
 
 -- the matrix of a trial of the first n places
 pub record SystemMatrix (m : ℕ) (ps : List ℕ) (n : ℕ) (sums : List ℕ) (a : List (List ℕ)) : Type 0 where
-  pub four : length ps ≡ unknowns
+  pub room : length ps ≡ unknowns
   pub tall : length a ≡ rows
   pub each : (k : ℕ) → k < rows → SystemRow m (take n ps) (at sums k) k (getD a k [])
 
@@ -65,32 +69,64 @@ pub record SystemMatrix (m : ℕ) (ps : List ℕ) (n : ℕ) (sums : List ℕ) (a
 abbrev pub corrected : List ℕ → Correction → List ℕ
 corrected w c = fill w (take (c .count) (c .places)) (take (c .count) (c .values))
 
--- the corrected word is a codeword, and agrees with w outside the places ls and at most n extra ones
+-- no codeword agrees with w outside the places ls
+abbrev pub NoneAt : ℕ → List ℕ → List ℕ → Type 0
+NoneAt m w ls = (c : List ℕ) → Codeword m c → Agrees m ls w c → ⊥
+
+-- the word with the values zs at the places ls is the one codeword that agrees with w outside them
+pub record OneAt (m : ℕ) (w ls zs : List ℕ) : Type 0 where
+  pub codeword : Codeword m (fill w ls zs)
+  pub agrees : Agrees m ls w (fill w ls zs)
+  pub only : (c : List ℕ) → Codeword m c → Agrees m ls w c → c ≡ fill w ls zs
+
+-- two different codewords agree with w outside the places ls
+pub record SeveralAt (m : ℕ) (w ls : List ℕ) : Type 0 where
+  pub first : List ℕ
+  pub second : List ℕ
+  pub first-codeword : Codeword m first
+  pub second-codeword : Codeword m second
+  pub first-agrees : Agrees m ls w first
+  pub second-agrees : Agrees m ls w second
+  pub different : first ≢ second
+
+-- ---- a search for a correction
+
+-- the corrected word is the one codeword that agrees with w outside the places ls and certain extra ones, at most n
 pub record Corrects (m : ℕ) (w ls : List ℕ) (n : ℕ) (c : Correction) : Type 0 where
   pub below : allBelow (places m) (take (c .count) (c .places)) ≡ true
   pub codeword : Codeword m (corrected w c)
   pub extra : List ℕ
   pub few : length extra ≤ n
   pub agrees : Agrees m (extra ++ ls) w (corrected w c)
+  pub only : (d : List ℕ) → Codeword m d → Agrees m (extra ++ ls) w d → d ≡ corrected w c
 
--- no codeword agrees with w outside the places ls
-abbrev pub NoneAt : ℕ → List ℕ → List ℕ → Type 0
-NoneAt m w ls = (c : List ℕ) → Codeword m c → Agrees m ls w c → ⊥
+-- two different codewords agree with w outside the places ls and certain extra ones, at most n
+pub record Ambiguous (m : ℕ) (w ls : List ℕ) (n : ℕ) : Type 0 where
+  pub extra : List ℕ
+  pub few : length extra ≤ n
+  pub two : SeveralAt m w (extra ++ ls)
 
--- nor outside them and at most n extra places, in rising order, the first of them the place `from` or a later one
+-- the answer is that there are solutions, one or several
+abbrev pub isSolved : Solutions → Bool
+isSolved None = false
+isSolved One = true
+isSolved Several = true
+
+-- what a search with at most n extra places has found; where it is nothing, Far holds
+pub record Searched (m : ℕ) (w ls : List ℕ) (n : ℕ) (Far : Type 0) (c : Correction) : Type 0 where
+  pub none : c .found ≡ None → Far
+  pub one : c .found ≡ One → Corrects m w ls n c
+  pub several : c .found ≡ Several → Ambiguous m w ls n
+
+-- no codeword agrees with w outside the places ls and at most n extra ones, in rising order, the first of them the place `from` or a later one
 unfoldable pub NoneFrom : ℕ → List ℕ → List ℕ → ℕ → ℕ → Type 0
 NoneFrom m w ls from zero = NoneAt m w ls
 NoneFrom m w ls from (suc n) =
     NoneAt m w ls × ((p : ℕ) → from ≤ p → p < places m → member p ls ≡ false → NoneFrom m w (p ∷ ls) (p + 1) n)
 
--- a search for a correction with at most n extra places: one is found, or Far holds
-pub record Searched (m : ℕ) (w ls : List ℕ) (n : ℕ) (Far : Type 0) (c : Correction) : Type 0 where
-  pub yes : c .found ≡ true → Corrects m w ls n c
-  pub no : c .found ≡ false → Far
-
 -- no codeword differs from w, outside the erasures, at r places or fewer
 abbrev pub NoneWithin : ℕ → List ℕ → List ℕ → ℕ → Type 0
-NoneWithin m w es r = (c : List ℕ) → Codeword m c → changes m es w c ≤ r → ⊥
+NoneWithin m w es r = (c : List ℕ) → Near m es w r c → ⊥
 
 -- a word and erasures that can be worked on without leaving the memory lent
 pub record Workable (w es : List ℕ) : Type 0 where

@@ -1,19 +1,19 @@
 -- The demands on encoder, reader and restorer, as statements about the definitions. The calls' contracts say that they answer by these
 -- definitions; proofs/Demands.antt proves each statement under the same name in small letters. Assumes nothing.
 use mathlib.Core.Path.{_≡_}
-use mathlib.Core.Logic.{_↔_}
+use mathlib.Core.Logic.{_↔_, _≢_}
 use mathlib.Core.Bool.{true, false, cond}
 use mathlib.Core.List.{List, [], _∷_}
 use Prim.Native.Nat.{ℕ, _+_, _≤_, _<_}
-use lib.Dec.{eqb}
+use lib.Dec.{eqb, leb}
 use lib.ListN.{length, replicate}
 use Rattle.field.specs.Field.{order}
 use Rattle.field.specs.Question.{accepted, refused, isWidth}
 use Rattle.field.specs.declared.Verdict.the-variants.{Passed}
 use Rattle.code.specs.Word.{checks, five, places, items, at, syndrome, Codeword, dataOf}
 use Rattle.code.specs.Erasure.{member, changes}
-use Rattle.code.specs.Near.{radius}
-use Rattle.code.specs.Call.{encodeOf, encodeWritten, testAsked, testOf, readOf, readWritten, restoreAsked, displayOf, displayed, restoreOf, restoreWritten}
+use Rattle.code.specs.Near.{distance, radius, Near}
+use Rattle.code.specs.Call.{maxErasures, encodeOf, encodeWritten, testAsked, testOf, readOf, readWritten, restoreAsked, displayOf, displayed, restoreOf, restoreWritten}
 
 -- ---- demand 2
 
@@ -52,22 +52,23 @@ TestsCodeword =
 abbrev pub Passes : ℕ → List ℕ → List ℕ → Type 0
 Passes m w es = restoreAsked m w es ≡ Passed
 
--- c is a near codeword: it differs from w, outside the erasures, at no more than r places
-pub record Near (m : ℕ) (es w c : List ℕ) : Type 0 where
-  pub codeword : Codeword m c
-  pub few : changes m es w c ≤ radius m (length es)
+-- c is near with the radius that the number of erasures leaves
+abbrev pub NearBy : ℕ → List ℕ → List ℕ → List ℕ → Type 0
+NearBy m es w c = Near m es w (radius m (length es)) c
 
--- there is never more than one near codeword
+-- with fewer erasures than the distance there is never more than one near codeword
 abbrev pub NeverTwo : Type 0
-NeverTwo = (m : ℕ) (w es : List ℕ) → Passes m w es → (c d : List ℕ) → Near m es w c → Near m es w d → c ≡ d
+NeverTwo =
+    (m : ℕ) (w es : List ℕ) → Passes m w es → length es < distance m → (c d : List ℕ) → NearBy m es w c → NearBy m es w d → c ≡ d
 
--- c is near, and the answer k is the number of places, outside the erasures, where c differs from w
+-- c alone is near, and the answer k is the number of places, outside the erasures, where c differs from w
 pub record Nearest (m : ℕ) (w es c : List ℕ) (k : ℕ) : Type 0 where
-  pub near : Near m es w c
+  pub near : NearBy m es w c
+  pub only : (d : List ℕ) → NearBy m es w d → d ≡ c
   pub count : k ≡ changes m es w c
 
--- the restorer accepts exactly when the input passes and a codeword is near (just one, by NeverTwo); the word then ends equal to it, and
--- the answer counts the changed places
+-- the restorer accepts exactly when the input passes and exactly one codeword is near; the word then ends equal to it, and the answer counts
+-- the changed places
 abbrev pub Accepts : Type 0
 Accepts =
     (m : ℕ) (w es : List ℕ) (k : ℕ) (c : List ℕ)
@@ -76,7 +77,26 @@ Accepts =
 -- it refuses with 7 exactly when the input passes and no codeword is near
 abbrev pub RefusesSeven : Type 0
 RefusesSeven =
-    (m : ℕ) (w es : List ℕ) → (restoreOf m w es ≡ refused 7) ↔ (Passes m w es × ((c : List ℕ) → Near m es w c → ⊥))
+    (m : ℕ) (w es : List ℕ) → (restoreOf m w es ≡ refused 7) ↔ (Passes m w es × ((c : List ℕ) → NearBy m es w c → ⊥))
+
+-- two different codewords are near
+pub record TwoNear (m : ℕ) (es w : List ℕ) : Type 0 where
+  pub first : List ℕ
+  pub second : List ℕ
+  pub first-near : NearBy m es w first
+  pub second-near : NearBy m es w second
+  pub different : first ≢ second
+
+-- it refuses with 14 exactly when the input passes and several codewords are near
+abbrev pub RefusesFourteen : Type 0
+RefusesFourteen = (m : ℕ) (w es : List ℕ) → (restoreOf m w es ≡ refused 14) ↔ (Passes m w es × TwoNear m es w)
+
+-- words lent with up to four erasures get what they got before a fifth was allowed: question 3 lets them pass, and several codewords are
+-- never near, so that the answer is never 14
+abbrev pub FewErasures : Type 0
+FewErasures =
+    (m : ℕ) (w es : List ℕ) → length es < distance m
+    → (leb (length es) (maxErasures m) ≡ true) × (restoreOf m w es ≡ refused 14 → ⊥)
 
 -- what is refused stays as it was
 abbrev pub RefusedUnchanged : Type 0

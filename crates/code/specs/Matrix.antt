@@ -10,15 +10,15 @@ use Rattle.field.specs.Polynomial.{add}
 use Rattle.field.specs.Field.{order, product, inverse}
 use Rattle.field.specs.Answer.{Operand}
 use Rattle.code.specs.declared.solver.Solutions.{Solutions}
-use Rattle.code.specs.declared.solver.Solutions.the-variants.{None, One, Dependent}
+use Rattle.code.specs.declared.solver.Solutions.the-variants.{None, One, Several}
 
 -- a system has five equations, one in each row of its matrix
 abbrev pub rows : ℕ
 rows = 5
 
--- and at most four unknowns
+-- and at most five unknowns
 abbrev pub unknowns : ℕ
-unknowns = 4
+unknowns = 5
 
 -- column 0 is the right-hand side, and column 1 + j has the coefficients of unknown j
 abbrev pub columns : ℕ
@@ -107,18 +107,19 @@ pub record OnlySolution (m : ℕ) (a : List (List ℕ)) (s : ℕ) (zs : List ℕ
   pub solves : Solves m a zs
   pub only : (ys : List ℕ) → Values m s ys → Solves m a ys → ys ≡ zs
 
--- the columns of the first s unknowns are linearly dependent: the kernel holds values that are not all 0
-pub record Dependence (m : ℕ) (a : List (List ℕ)) (s : ℕ) : Type 0 where
-  pub kernel : List ℕ
-  pub values : Values m s kernel
-  pub zeros : (i : ℕ) → i < rows → dot m (coefficients a i) kernel ≡ 0
-  pub place : ℕ
-  pub below : place < s
-  pub nonzero : getD kernel place 0 ≢ 0
+-- two different lists of values solve the system in the first s unknowns
+pub record TwoSolutions (m : ℕ) (a : List (List ℕ)) (s : ℕ) : Type 0 where
+  pub first : List ℕ
+  pub second : List ℕ
+  pub first-values : Values m s first
+  pub second-values : Values m s second
+  pub first-solves : Solves m a first
+  pub second-solves : Solves m a second
+  pub different : first ≢ second
 
 -- what the answer says of the system a in its first s unknowns. None: nothing solves it. One: the first s of the values do, and nothing
--- else does. Dependent: the columns are dependent, so that it has no solution or several, and the values say nothing
+-- else does. Several: there are two different solutions or more, and the values say nothing
 abbrev pub Means : ℕ → Solutions → List (List ℕ) → ℕ → List ℕ → Type 0
 Means m None a s zs = (ys : List ℕ) → Values m s ys → Solves m a ys → ⊥
 Means m One a s zs = OnlySolution m a s (take s zs)
-Means m Dependent a s zs = Dependence m a s
+Means m Several a s zs = TwoSolutions m a s

@@ -3,18 +3,17 @@
 -- the restorer does, on every input, without them. Assumes nothing.
 use mathlib.Core.Bool.{Bool, cond}
 use mathlib.Core.List.{List, [], _∷_, _++_, map}
-use Prim.Native.Nat.{ℕ, zero, suc, _-_, _/_}
+use Prim.Native.Nat.{ℕ, zero, suc, _-_, _/_, _≤_}
 use lib.Dec.{leb}
-use lib.ListN.{length}
 use Rattle.field.specs.Field.{order}
-use Rattle.code.specs.Word.{items, encode}
+use Rattle.code.specs.Word.{items, Codeword, encode}
 use Rattle.code.specs.Erasure.{changes}
 
 -- the code's distance: any two codewords differ at five places or more
 abbrev pub distance : ℕ → ℕ
 distance m = 5
 
--- the radius r, the number of silent wrong symbols that are restored beside s erasures: 2, 1, 1, 0, 0 for s from 0 to 4
+-- the radius r, the number of silent wrong symbols that are restored beside s erasures: 2, 1, 1, 0, 0, 0 for s from 0 to 5
 abbrev pub radius : ℕ → ℕ → ℕ
 radius m s = (distance m - 1 - s) / 2
 
@@ -37,9 +36,14 @@ unfoldable pub keep : (List ℕ → Bool) → List (List ℕ) → List (List ℕ
 keep f [] = []
 keep f (x ∷ xs) = cond (f x) (x ∷ keep f xs) (keep f xs)
 
--- the near codewords: those that differ from w, outside the erasures, at no more than r places
-unfoldable pub near : ℕ → List ℕ → List ℕ → ℕ → List (List ℕ)
-near m es w r = keep (λ c. leb (changes m es w c) r) (codewords m)
+-- c is near w: a codeword that differs from w, outside the erasures, at no more than r places
+pub record Near (m : ℕ) (es w : List ℕ) (r : ℕ) (c : List ℕ) : Type 0 where
+  pub codeword : Codeword m c
+  pub few : changes m es w c ≤ r
+
+-- the near codewords
+unfoldable pub nearby : ℕ → List ℕ → List ℕ → ℕ → List (List ℕ)
+nearby m es w r = keep (λ c. leb (changes m es w c) r) (codewords m)
 
 -- what restoring finds: no near codeword, just one, or more
 pub data Restoration : Type 0 where
@@ -53,6 +57,6 @@ found [] = none
 found (c ∷ []) = one c
 found (c ∷ d ∷ cs) = several
 
--- of the word w with the erasures es
-unfoldable pub restoration : ℕ → List ℕ → List ℕ → Restoration
-restoration m es w = found (near m es w (radius m (length es)))
+-- of the word w with the erasures es, within r places
+unfoldable pub restoration : ℕ → List ℕ → List ℕ → ℕ → Restoration
+restoration m es w r = found (nearby m es w r)

@@ -13,6 +13,7 @@ ghost use Rattle.field.specs.declared.Verdict.the-variants.{Passed};
 ghost use Rattle.code.specs.Word.{checks, places, longest, wordLength, items, encode as encodeM};
 ghost use Rattle.code.specs.Call.{zeroSyndromes, wordAsked, dataAsked, Encodes, testAsked, testOf, membership, readAsked, Reads};
 ghost use Rattle.code.specs.Call.{erasuresAsked, restoreAsked, Displays, Restores};
+ghost use Rattle.code.specs.Near.{radius};
 ghost use Rattle.code.specs.Demands.{Passes};
 
 mod place;
@@ -34,6 +35,7 @@ use restorer::search;
 use restorer::started;
 use restorer::write;
 use slice::copy;
+use solver::Solutions;
 use syndrome::parities;
 use syndrome::syndromes;
 
@@ -210,7 +212,7 @@ fn ask_erasures(width: u8, word: &[u8], erasures: &[u8]) -> Verdict
         )
         ⌝ }
 {
-    if 4 < erasures.len() {
+    if 5 < erasures.len() {
         return Verdict::Refused(Question::ErasureCount);
     }
     if !below(erasures, word.len() as u8) {
@@ -262,7 +264,14 @@ pub fn masked_syndromes(width: u8, word: &[u8], erasures: &[u8]) -> Syndromes
     }
 }
 
-// Question 8: the near codeword is written, if there is one.
+// r, the number of silent wrong symbols that are restored beside s erasures.
+fn radius_of(s: usize) -> usize
+    ensures { λ r. ⌜ ((m : ℕ) → r ≡ radius m s) ⌝ }
+{
+    if s < 4 { (4 - s) / 2 } else { 0 }
+}
+
+// Question 8, and whether there is just one near codeword: then it is written.
 fn correct(width: u8, word: &mut [u8], erasures: &[u8]) -> Repair
     requires { ⌜ Passes width (now word) (now erasures) ⌝ }
     ensures { λ r. ⌜ Restores width (now (word .entry)) (now (erasures .entry)) r (now (word .exit)) ⌝ }
@@ -271,13 +280,12 @@ fn correct(width: u8, word: &mut [u8], erasures: &[u8]) -> Repair
     if is_clean(t) {
         return Repair::Restored(0);
     }
-    let radius = (4 - erasures.len()) / 2;
-    let c = search(width, word, t, 0, radius);
+    let c = search(width, word, t, 0, radius_of(erasures.len()));
     let found = c.found;
-    if found {
-        Repair::Restored(write(word, erasures, c))
-    } else {
-        Repair::Refused(Question::Correctable)
+    match found {
+        Solutions::None => Repair::Refused(Question::Correctable),
+        Solutions::One => Repair::Restored(write(word, erasures, c)),
+        Solutions::Several => Repair::Refused(Question::Unique),
     }
 }
 

@@ -14,12 +14,14 @@ ghost use Rattle.code.specs.Erasure.{member, differ, changesBelow, syndr
 ghost use Rattle.code.specs.Call.{allZero};
 ghost use Rattle.code.specs.Matrix.{unknowns};
 ghost use Rattle.code.specs.Correction.{fill, Lent, tried, Ready, systemEntry, SystemRow, SystemMatrix, corrected};
-ghost use Rattle.code.specs.Correction.{NoneAt, NoneFrom, Searched, Workable};
+ghost use Rattle.code.specs.Correction.{NoneAt, NoneFrom, Searched, isSolved, Workable};
 use crate::place::Place;
 use crate::place::column;
 use crate::question::all_zero;
 use crate::question::contains;
 use crate::slice::copy;
+use crate::solver::COLUMNS;
+use crate::solver::ROWS;
 use crate::solver::Solutions;
 use crate::solver::UNKNOWNS;
 use crate::solver::solve;
@@ -33,9 +35,9 @@ pub struct Trial {
     pub sums: [u8; 5],
 }
 
-// Whether a codeword was found, and the symbols that belong at the first `count` places.
+// Whether a codeword was found or several, and, where it was one, the symbols that belong at the first `count` places.
 pub struct Correction {
-    pub found: bool,
+    pub found: Solutions,
     pub count: usize,
     pub places: [u8; UNKNOWNS],
     pub values: [u8; UNKNOWNS],
@@ -56,13 +58,13 @@ fn entry_of(width: u8, places: [u8; UNKNOWNS], count: usize, sum: u8, k: u8, j: 
 }
 
 // Row k of the system of a trial.
-fn row_of(width: u8, places: [u8; UNKNOWNS], count: usize, sum: u8, k: u8) -> [u8; 5]
+fn row_of(width: u8, places: [u8; UNKNOWNS], count: usize, sum: u8, k: u8) -> [u8; COLUMNS]
     requires { ⌜ count ≤ unknowns ⌝ }
     ensures { λ r. ⌜ SystemRow width (take count places) sum k r ⌝ }
 {
-    let mut row = [0u8; 5];
+    let mut row = [0u8; COLUMNS];
     let mut j = 0;
-    while j < 5 {
+    while j < COLUMNS {
         row[j] = entry_of(width, places, count, sum, k, j);
         j += 1;
     }
@@ -70,7 +72,12 @@ fn row_of(width: u8, places: [u8; UNKNOWNS], count: usize, sum: u8, k: u8) -> [u
 }
 
 // The system of a trial: the columns at its places, and its syndromes on the right.
-fn matrix_of(width: u8, places: [u8; UNKNOWNS], count: usize, sums: [u8; 5]) -> [[u8; 5]; 5]
+fn matrix_of(
+    width: u8,
+    places: [u8; UNKNOWNS],
+    count: usize,
+    sums: [u8; 5],
+) -> [[u8; COLUMNS]; ROWS]
     requires { ⌜ count ≤ unknowns ⌝ }
     ensures { λ r. ⌜ SystemMatrix width places count sums r ⌝ }
 {
@@ -82,7 +89,7 @@ fn matrix_of(width: u8, places: [u8; UNKNOWNS], count: usize, sums: [u8; 5]) -> 
     [r0, r1, r2, r3, r4]
 }
 
-// The codeword that agrees with the word outside the places of the trial, if there is one.
+// The codeword that agrees with the word outside the places of the trial, if there is just one.
 pub fn attempt(width: u8, t: Trial) -> Correction
     requires { ⌜ t .count ≤ unknowns ⌝ }
     ensures { λ r. ⌜ (r .count ≤ unknowns) × ((w : List ℕ) → Ready width w t → Searched width w (tried t) 0 (NoneAt width w (tried t)) r) ⌝ }
@@ -91,27 +98,25 @@ pub fn attempt(width: u8, t: Trial) -> Correction
     let count = t.count;
     let sums = t.sums;
     let s = solve(width, matrix_of(width, places, count, sums), count);
-    let solutions = s.found;
+    let found = s.found;
     let values = s.values;
-    match solutions {
-        Solutions::One => Correction {
-            found: true,
-            count,
-            places,
-            values,
-        },
-        Solutions::None => Correction {
-            found: false,
-            count,
-            places,
-            values,
-        },
-        Solutions::Dependent => Correction {
-            found: false,
-            count,
-            places,
-            values,
-        },
+    Correction {
+        found,
+        count,
+        places,
+        values,
+    }
+}
+
+// Has a codeword been found, or several?
+fn solved(c: Correction) -> bool
+    ensures { λ r. ⌜ r ≡ isSolved (c .found) ⌝ }
+{
+    let found = c.found;
+    match found {
+        Solutions::None => false,
+        Solutions::One => true,
+        Solutions::Several => true,
     }
 }
 
@@ -199,8 +204,7 @@ pub fn search(width: u8, word: &[u8], t: Trial, from: usize, left: usize) -> Cor
         ⌝ }
 {
     let c = attempt(width, t);
-    let exact = c.found;
-    if exact {
+    if solved(c) {
         return c;
     }
     if left == 0 {
@@ -214,8 +218,7 @@ pub fn search(width: u8, word: &[u8], t: Trial, from: usize, left: usize) -> Cor
         if !listed(places, count, place) {
             let u = extended(width, t, place, word[p]);
             let d = search(width, word, u, p + 1, left - 1);
-            let found = d.found;
-            if found {
+            if solved(d) {
                 return d;
             }
         }
@@ -275,7 +278,7 @@ fn masked_sums(width: u8, word: &[u8], places: [u8; UNKNOWNS], count: usize) -> 
     syndromes(width, &row[..n])
 }
 
-// The erasures, copied to the front of an array that has room for four.
+// The erasures, copied to the front of an array that has room for them.
 fn row_of_places(erasures: &[u8]) -> [u8; UNKNOWNS]
     requires { ⌜ length (now erasures) ≤ unknowns ⌝ }
     ensures { λ r. ⌜ take (length (now (erasures .entry))) r ≡ now (erasures .entry) ⌝ }

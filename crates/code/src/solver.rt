@@ -11,17 +11,17 @@ use field::arithmetic::invert;
 use field::arithmetic::multiply;
 
 // The shape of a matrix: a row for each equation, with the right-hand side in column 0 and then a column for each unknown.
-const ROWS: usize = 5;
+pub const ROWS: usize = 5;
 
-pub const UNKNOWNS: usize = 4;
+pub const UNKNOWNS: usize = 5;
 
-const COLUMNS: usize = UNKNOWNS + 1;
+pub const COLUMNS: usize = UNKNOWNS + 1;
 
-// How many solutions a system has: none, one, or, where the columns of the unknowns are dependent, none or several.
+// How many solutions a system has: none, one, or several.
 pub enum Solutions {
     None,
     One,
-    Dependent,
+    Several,
 }
 
 // With one solution, its values are the first of the values, one for each unknown; with none or several the values say nothing.
@@ -116,35 +116,39 @@ fn first_column(a: [[u8; COLUMNS]; ROWS]) -> [u8; UNKNOWNS]
     out
 }
 
-// Solves the system a in its first s unknowns. Each unknown in turn gets a row, whose symbol in the unknown's column is not 0, and is
-// cleared from all the others. The rows that are left have no unknown, so that their right-hand sides have to be 0.
+// Solves the system a in its first s unknowns. Column after column, a row from row r on whose symbol there is not 0 becomes row r, and the
+// column is cleared from all the others; a column with no such row is passed over. At the end the rows from r on have no unknown, so that
+// their right-hand sides have to be 0, and a column that was passed over leaves its unknown free.
 pub fn solve(width: u8, a: [[u8; COLUMNS]; ROWS], s: usize) -> Solution
     requires { ⌜ s ≤ unknowns ⌝ }
     ensures { λ r. ⌜ (isWidth width ≡ true → Matrix width a → Means width (r .found) a s (r .values)) ⌝ }
 {
     let mut t = a;
+    let mut r = 0;
     let mut c = 0;
     while c < s {
-        let p = find_pivot(t, c + 1, c);
-        if p == ROWS {
-            return Solution {
-                found: Solutions::Dependent,
-                values: [0; UNKNOWNS],
-            };
+        let p = find_pivot(t, c + 1, r);
+        if p < ROWS {
+            let u = swap_rows(t, r, p);
+            t = clear_column(width, u, c + 1, r);
+            r += 1;
         }
-        let u = swap_rows(t, c, p);
-        t = clear_column(width, u, c + 1, c);
         c += 1;
     }
-    let p = find_pivot(t, 0, s);
-    if p == ROWS {
+    if find_pivot(t, 0, r) < ROWS {
         return Solution {
-            found: Solutions::One,
-            values: first_column(t),
+            found: Solutions::None,
+            values: [0; UNKNOWNS],
+        };
+    }
+    if r < s {
+        return Solution {
+            found: Solutions::Several,
+            values: [0; UNKNOWNS],
         };
     }
     Solution {
-        found: Solutions::None,
-        values: [0; UNKNOWNS],
+        found: Solutions::One,
+        values: first_column(t),
     }
 }

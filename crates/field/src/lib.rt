@@ -18,7 +18,7 @@ pub enum Question {
     Width,
     // Has each lent slice its exact length?
     Length,
-    // Are there at most four erasures?
+    // Are there at most five erasures?
     ErasureCount,
     // Are the record's unused erasure bytes 255 and its tail bytes 0?
     Padding,
@@ -40,6 +40,8 @@ pub enum Question {
     Date,
     // Are the day sheet's unused symbols zero?
     Unused,
+    // Is there just one near codeword?
+    Unique,
 }
 
 // Every question so far was answered yes, or one was answered no.
@@ -75,6 +77,7 @@ pub fn refusal_number(q: Question) -> u8
         Question::SheetWidth => 11,
         Question::Date => 12,
         Question::Unused => 13,
+        Question::Unique => 14,
     }
 }
 

@@ -137,6 +137,16 @@ fn restored_words() {
     restore(b"N", [0, 0, 0, 0, 1, 0, 0, 0, 0, 0, 0, 0], &[0, 1, 2, 3]);
 }
 
+// The words of document 02 with five marks: several codewords, or none.
+fn five_marks() {
+    restore(b"several", [0; 12], &[2, 4, 5, 6, 8]);
+    restore(
+        b"none of several",
+        [1, 0, 0, 0, 0, 0, 0, 0, 0, 0, 0, 0],
+        &[2, 4, 5, 6, 8],
+    );
+}
+
 // What is asked before question 8, at its bounds.
 fn restorer_bounds() {
     let zeros = [0u8; 12];
@@ -144,6 +154,7 @@ fn restorer_bounds() {
     restore(b"mark 12", zeros, &[12]);
     restore(b"four marks", zeros, &[0, 1, 2, 3]);
     restore(b"five marks", zeros, &[0, 1, 2, 3, 4]);
+    restore(b"six marks", zeros, &[0, 1, 2, 3, 4, 5]);
     restore(b"marks 3, 3", zeros, &[3, 3]);
     restore(
         b"marks 3, 3 and an unmarked 8",
@@ -181,6 +192,7 @@ fn main() {
     field_calls();
     codewords();
     restored_words();
+    five_marks();
     restorer_bounds();
     other_bounds();
 }

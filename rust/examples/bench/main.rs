@@ -28,6 +28,16 @@ fn codeword(chance: &mut Chance, width: u8) -> Vec<u8> {
     word
 }
 
+/// So many places to spoil. Beside five erasures there may be several codewords: such places are drawn again.
+fn restorable(chance: &mut Chance, width: u8, clean: &[u8], count: usize) -> Vec<u8> {
+    loop {
+        let drawn = chance.places(count, places(width));
+        if count < 5 || xrs::restore_word(width, &mut clean.to_vec(), &drawn).is_ok() {
+            return drawn;
+        }
+    }
+}
+
 /// Words of one kind: `wrong` wrong symbols beside `marks` erasures, whose symbols are wrong too. The words stand one behind the other.
 struct Words {
     width: u8,
@@ -43,7 +53,7 @@ impl Words {
         let mut words = Words { width, wrong, codewords: Vec::new(), worn: Vec::new(), marks: Vec::new() };
         for _ in 0..WORDS {
             let clean = codeword(&mut chance, width);
-            let spoiled = chance.places(wrong + marks, places(width));
+            let spoiled = restorable(&mut chance, width, &clean, wrong + marks);
             let mut worn = clean.clone();
             for &place in &spoiled {
                 worn[place as usize] ^= 1 + chance.below(order(width) - 1) as u8;
@@ -89,7 +99,7 @@ fn time_words() {
             Words::new(width, wrong, 0).time("ours", |word, marks| xrs::restore_word(width, word, marks).ok());
         }
     }
-    for marks in 1..=4 {
+    for marks in 1..=5 {
         Words::new(7, 0, marks).time("ours", |word, marks| xrs::restore_word(7, word, marks).ok());
     }
     for (wrong, marks) in [(0, 0), (1, 0), (2, 0), (0, 1), (0, 2), (0, 3), (0, 4)] {
@@ -102,7 +112,7 @@ fn write_card(path: &str) -> std::io::Result<()> {
     let mut chance = Chance::new();
     let mut card = BufWriter::new(std::fs::File::create(path)?);
     for _ in 0..RECORDS {
-        card.write_all(&[7, 0, 255, 255, 255, 255])?;
+        card.write_all(&[7, 0, 255, 255, 255, 255, 255])?;
         card.write_all(&codeword(&mut chance, 7))?;
     }
     card.flush()

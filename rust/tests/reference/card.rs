@@ -1,18 +1,24 @@
-//! Records, cards and listings, as document 01 describes them, with the blank slots of document 02. Words are restored by `search`.
+//! Records, cards and listings, as document 01 and requests (b) and (e) describe them. Words are restored by `search`.
 
 use super::{modulus, places, search};
 
+/// Bytes of a record for its marks.
+pub const MARKS: usize = 5;
+
+/// Where the symbols of a record start.
+pub const HEADER: usize = 2 + MARKS;
+
 /// Bytes of a record.
-pub const RECORD: usize = 138;
+pub const RECORD: usize = HEADER + 132;
 
 /// The limit of a listing.
 pub const LISTED: usize = 1_000_000;
 
-/// The record of a word with at most four marks.
+/// The record of a word with at most five marks.
 pub fn record(width: u8, word: &[u8], marks: &[u8]) -> Vec<u8> {
     let mut bytes = vec![width, marks.len() as u8];
     bytes.extend(marks);
-    bytes.resize(6, 255);
+    bytes.resize(HEADER, 255);
     bytes.extend(word);
     bytes.resize(RECORD, 0);
     bytes
@@ -37,16 +43,16 @@ pub fn restore(piece: &[u8]) -> Result<(u8, Vec<u8>), u8> {
     if modulus(width).is_none() {
         return Err(1);
     }
-    if count > 4 {
+    if count > search::MOST_MARKS {
         return Err(3);
     }
-    let end = 6 + places(width);
-    let unused = piece[2 + count..6].iter().all(|&byte| byte == 255);
+    let end = HEADER + places(width);
+    let unused = piece[2 + count..HEADER].iter().all(|&byte| byte == 255);
     let rest = piece[end..].iter().all(|&byte| byte == 0);
     if !unused || !rest {
         return Err(8);
     }
-    search::restore(width, &piece[6..end], &piece[2..2 + count]).map(|(changed, word)| (changed, record(width, &word, &[])))
+    search::restore(width, &piece[HEADER..end], &piece[2..2 + count]).map(|(changed, word)| (changed, record(width, &word, &[])))
 }
 
 /// The card check: the number of the first record that would be refused, if there is one. Blank slots are passed over, and counted.

@@ -1,24 +1,27 @@
-//! A restorer by search, which solves no equations. The errors that may have happened are cut into two parts of at most two places each.
+//! A restorer by search, which solves no equations. The errors that may have happened are cut into two parts of at most three places each.
 //! The syndromes of all first parts stand in a table, in which the syndromes that a second part leaves over are looked up.
 
-use super::{modulus, multiply, order, places, raise};
+use super::{modulus, multiply, order, places, raise, WIDTHS};
 use std::collections::HashMap;
+use std::hash::{BuildHasherDefault, Hasher};
 use std::sync::OnceLock;
 
-/// Five syndromes, eight bits each.
-type Syndromes = u64;
+/// The most marks that question 3 lets pass.
+pub const MOST_MARKS: usize = 5;
 
-/// Symbols that are added at two places. The symbol 0 changes nothing.
-type Part = [(u8, u8); 2];
-
-const NOTHING: (u8, u8) = (0, 0);
+/// r, the most silent wrong places that are undone beside so many marks.
+pub fn radius(marks: usize) -> usize {
+    [2, 1, 1, 0, 0, 0][marks]
+}
 
 /// The restored word with the number of changes, or the refusal number.
 pub fn restore(width: u8, word: &[u8], marks: &[u8]) -> Result<(u8, Vec<u8>), u8> {
-    static DECODERS: OnceLock<[Decoder; 3]> = OnceLock::new();
     ask(width, word, marks)?;
-    let decoders = DECODERS.get_or_init(|| [3, 5, 7].map(Decoder::new));
-    let restored = decoders[width as usize / 2 - 1].near(word, marks).ok_or(7)?;
+    let restored = match decoder(width).near(word, marks, radius(marks.len())) {
+        Near::None => return Err(7),
+        Near::One(codeword) => codeword,
+        Near::Several => return Err(14),
+    };
     let changed = (0..word.len()).filter(|&p| restored[p] != word[p] && !marks.contains(&(p as u8))).count();
     Ok((changed as u8, restored))
 }
@@ -33,7 +36,7 @@ pub fn ask(width: u8, word: &[u8], marks: &[u8]) -> Result<(), u8> {
     let too_large = |p: usize| word[p] as usize >= order(width) && !marks.contains(&(p as u8));
     match () {
         _ if word.len() != n => Err(2),
-        _ if marks.len() > 4 => Err(3),
+        _ if marks.len() > MOST_MARKS => Err(3),
         _ if marks.iter().any(|&mark| mark as usize >= n) => Err(4),
         _ if (0..marks.len()).any(twice) => Err(5),
         _ if (0..n).any(too_large) => Err(6),
@@ -41,35 +44,83 @@ pub fn ask(width: u8, word: &[u8], marks: &[u8]) -> Result<(), u8> {
     }
 }
 
+/// Five syndromes, eight bits each.
+type Syndromes = u64;
+
+/// Symbols that are added at three places. The symbol 0 changes nothing.
+type Part = [(u8, u8); 3];
+
+const NOTHING: Part = [(0, 0); 3];
+
+/// Parts by their syndromes.
+type Table = HashMap<Syndromes, Part, BuildHasherDefault<Spread>>;
+
+/// One product spreads the syndromes well enough, and is quick: a word of width 7 with five marks takes two million lookups.
+#[derive(Default)]
+struct Spread(u64);
+
+impl Hasher for Spread {
+    fn write(&mut self, _: &[u8]) {
+        unreachable!("syndromes are one number");
+    }
+
+    fn write_u64(&mut self, syndromes: u64) {
+        let product = syndromes.wrapping_mul(0x9E37_79B9_7F4A_7C15);
+        self.0 = product ^ product >> 32;
+    }
+
+    fn finish(&self) -> u64 {
+        self.0
+    }
+}
+
+/// The codewords that are near.
+enum Near {
+    None,
+    One(Vec<u8>),
+    Several,
+}
+
+/// The search at a width, made once.
+fn decoder(width: u8) -> &'static Decoder {
+    static DECODERS: [OnceLock<Decoder>; WIDTHS.len()] = [const { OnceLock::new() }; WIDTHS.len()];
+    let at = WIDTHS.iter().position(|&other| other == width).expect("a width of the code");
+    DECODERS[at].get_or_init(|| Decoder::new(width))
+}
+
 /// The search at one width.
 struct Decoder {
     /// The syndromes of each symbol alone at each place.
     alone: Vec<Vec<Syndromes>>,
     /// Every part at one place or none.
-    singles: HashMap<Syndromes, Part>,
+    singles: Table,
 }
 
 impl Decoder {
     fn new(width: u8) -> Decoder {
         let alone: Vec<Vec<Syndromes>> = (0..places(width)).map(|p| alone_at(width, p)).collect();
-        let mut singles = HashMap::new();
+        let mut singles = Table::default();
         for p in 0..alone.len() {
             singles.extend(parts(&alone, &[p as u8]));
         }
         Decoder { alone, singles }
     }
 
-    /// The codeword that differs from the word at no more than (4 - marks) / 2 places beside the marks. There must not be two.
-    fn near(&self, word: &[u8], marks: &[u8]) -> Option<Vec<u8>> {
+    /// The codewords that differ from the word at no more than `reach` places beside the marks. Two of these places leave no room for a
+    /// mark, and one for two marks at most.
+    fn near(&self, word: &[u8], marks: &[u8], reach: usize) -> Near {
         let mut unmarked = word.to_vec();
         for &mark in marks {
             unmarked[mark as usize] = 0;
         }
         let target = unmarked.iter().zip(&self.alone).fold(0, |sum, (&symbol, alone)| sum ^ alone[symbol as usize]);
-        match marks.len() {
-            0 => meet(&unmarked, target, &self.singles, self.singles.iter().map(|(&syndromes, &part)| (syndromes, part))),
-            1 | 2 => meet(&unmarked, target, &self.singles, parts(&self.alone, marks)),
-            _ => meet(&unmarked, target, &parts(&self.alone, &marks[2..]).collect(), parts(&self.alone, &marks[..2])),
+        match reach {
+            2 => meet(&unmarked, target, &self.singles, self.singles.iter().map(|(&syndromes, &part)| (syndromes, part))),
+            1 => meet(&unmarked, target, &self.singles, parts(&self.alone, marks)),
+            _ => {
+                let (first, second) = marks.split_at(marks.len().min(2));
+                meet(&unmarked, target, &parts(&self.alone, first).collect(), parts(&self.alone, second))
+            }
         }
     }
 }
@@ -80,25 +131,22 @@ fn alone_at(width: u8, p: usize) -> Vec<Syndromes> {
     (0..order(width)).map(|x| factors.iter().fold(0, |sum, &factor| sum << 8 | multiply(width, factor, x as u8) as Syndromes)).collect()
 }
 
-/// Every part at the one or two places.
-fn parts<'a>(alone: &'a [Vec<Syndromes>], at: &[u8]) -> impl Iterator<Item = (Syndromes, Part)> + 'a {
-    let (p, second) = (at[0], at.get(1).copied());
-    let others = second.map_or(1, |other| alone[other as usize].len());
-    (0..alone[p as usize].len()).flat_map(move |x| {
-        (0..others).map(move |y| {
-            let (syndromes, entry) = second.map_or((0, NOTHING), |other| (alone[other as usize][y], (other, y as u8)));
-            (alone[p as usize][x] ^ syndromes, [(p, x as u8), entry])
-        })
+/// Every part at these places, three at most: the digits of a number are the symbols.
+fn parts<'a>(alone: &'a [Vec<Syndromes>], at: &'a [u8]) -> impl Iterator<Item = (Syndromes, Part)> + 'a {
+    let width = alone[0].len().trailing_zeros() as usize;
+    (0..1usize << (width * at.len())).map(move |number| {
+        let (mut syndromes, mut part) = (0, NOTHING);
+        for (digit, &p) in at.iter().enumerate() {
+            let x = number >> (width * digit) & ((1 << width) - 1);
+            syndromes ^= alone[p as usize][x];
+            part[digit] = (p, x as u8);
+        }
+        (syndromes, part)
     })
 }
 
-/// The word with a first and a second part added whose syndromes together are the target.
-fn meet(
-    word: &[u8],
-    target: Syndromes,
-    firsts: &HashMap<Syndromes, Part>,
-    seconds: impl Iterator<Item = (Syndromes, Part)>,
-) -> Option<Vec<u8>> {
+/// The words that come of the word with a first and a second part added whose syndromes together are the target.
+fn meet(word: &[u8], target: Syndromes, firsts: &Table, seconds: impl Iterator<Item = (Syndromes, Part)>) -> Near {
     let mut found = None;
     for (syndromes, second) in seconds {
         if let Some(first) = firsts.get(&(target ^ syndromes)) {
@@ -106,9 +154,11 @@ fn meet(
             for (p, x) in first.iter().chain(&second) {
                 sum[*p as usize] ^= x;
             }
-            assert!(found.is_none() || found.as_ref() == Some(&sum), "two near codewords");
+            if found.as_ref().is_some_and(|other| *other != sum) {
+                return Near::Several;
+            }
             found = Some(sum);
         }
     }
-    found
+    found.map_or(Near::None, Near::One)
 }

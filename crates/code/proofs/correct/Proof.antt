@@ -7,11 +7,12 @@ use Prim.Native.Nat.{ℕ}
 use lib.ListN.{length, take}
 use native.Mathlib.Omega.{arith}
 use Rattle.field.specs.Question.{allBelow}
+use Rattle.code.specs.declared.solver.Solutions.the-variants.{None, One, Several}
 use Rattle.code.specs.Near.{radius}
-use Rattle.code.specs.Correction.{tried, Ready, Workable, Corrects, NoneWithin}
+use Rattle.code.specs.Correction.{tried, Ready, Workable, NoneFrom, Searched}
 use Rattle.code.proofs.Passing.{given}
 use Rattle.code.proofs.Trying.{none-within}
-use Rattle.code.proofs.Repairing.{workable, restores-clean, restores-found, restores-none}
+use Rattle.code.proofs.Repairing.{workable, restores-clean, restores-found, restores-none, restores-several}
 use Rattle.code.proofs.correct.Statement.{statement}
 use Rattle.code.proofs.correct.Tie as tie
 
@@ -19,15 +20,31 @@ use Rattle.code.proofs.correct.Tie as tie
 work : (s : tie.Start) → Workable (s .args .word .now) (s .args .erasures .now)
 work s = workable (s .args .width) (s .args .word .now) (s .args .erasures .now) (s .pre)
 
--- the trial of the erasures is one of the word
 abbrev start : tie.After-started → tie.Start
 start s = s .before .before .before .before
 
+-- the trial of the erasures is one of the word
 ready : (s : tie.After-started) → Ready (start s .args .width) (start s .args .word .now) (s .started .result)
 ready s =
     let a = start s .args in
     let g = given (a .width) (a .word .now) (a .erasures .now) (start s .pre) in
     s .started .ensures .2 (g .width) (g .lent)
+
+abbrev began : tie.After-search → tie.After-started
+began s = s .before .before .before .before .before
+
+-- what the search has found
+abbrev Found : tie.After-search → List ℕ → ℕ → Type 0
+Found s ls r =
+    let a = start (began s) .args in
+    Searched (a .width) (a .word .now) ls r (NoneFrom (a .width) (a .word .now) ls 0 r) (s .search .result)
+
+found : (s : tie.After-search)
+    → let a = start (began s) .args in Found s (a .erasures .now) (radius (a .width) (length (a .erasures .now)))
+found s =
+    let a = start (began s) .args in
+    subst (Found s (a .erasures .now)) (s .before .radius-of .ensures (a .width))
+    (subst (λ (ls : List ℕ). Found s ls (s .before .radius-of .result)) (began s .started .ensures .1) (s .search .ensures .1 (ready (began s))))
 
 started-requires : tie.Need-started-requires
 started-requires c κs = work (c .before .before .before)
@@ -46,52 +63,70 @@ returns c =
     let z = c .before .is-clean .ensures (c .if1 .taken) in
     restores-clean (a .width) (a .word .now) (a .erasures .now) (start s .pre) (s .started .result) (e .1) (ready s) (sym (e .0) ∙ z .0) (z .1) _ refl
 
-sub-radius : tie.Need-sub-radius
-sub-radius c = omega (arith, work (c .before .before .before .before .before .before) .few)
+radius-of-requires : tie.Need-radius-of-requires
+radius-of-requires c κs = search needs
 
 search-requires : tie.Need-search-requires
 search-requires c κs =
-    let s = c .before .before .before in
-    (omega (arith, work (start s) .few, s .started .ensures .0), omega (arith, work (start s) .short))
+    let s = c .before .before .before .before in
+    (omega (arith, work (start s) .few, s .started .ensures .0, c .radius-of .ensures 0), omega (arith, work (start s) .short))
+
+enum-told : tie.Need-enum-told
+enum-told c = search needs
+
+enum-told-2 : tie.Need-enum-told-2
+enum-told-2 c = search needs
 
 write-requires : tie.Need-write-requires
 write-requires c κs =
-    let x = c .before .before .search in
-    let s = c .before .before .before .before .before .before in
-    let C = x .ensures .1 (ready s) .yes (c .before .if2 .taken) in (
+    let s = c .before .before .before in
+    let x = s .search in
+    let e : x .result .found ≡ One = search needs in (
       x .ensures .0,
-      work (start s) .short,
-      subst (λ (n : ℕ). allBelow n (take (x .result .count) (x .result .places)) ≡ true) (sym (ready s .lent .size)) (C .below),
+      work (start (began s)) .short,
+      subst (λ (n : ℕ). allBelow n (take (x .result .count) (x .result .places)) ≡ true) (sym (ready (began s) .lent .size))
+          (found s .one e .below),
     )
+
+enum-told-3 : tie.Need-enum-told-3
+enum-told-3 c = search needs
 
 same-length-2 : tie.Need-same-length-2
 same-length-2 c = search needs
 
 returns-2 : tie.Need-returns-2
 returns-2 c =
-    let w = c .before .before .write in
-    let then = c .before .before .before .before in
-    let x = then .before .search in
-    let s = then .before .before .before .before .before in
-    let a = start s .args in
-    restores-found (a .width) (a .word .now) (a .erasures .now) (start s .pre) (x .result) (w .result) _
-    (subst (λ (ls : List ℕ). Corrects (a .width) (a .word .now) ls (radius (a .width) (length (a .erasures .now))) (x .result))
-    (s .started .ensures .1) (x .ensures .1 (ready s) .yes (then .if2 .taken)))
-    (w .ensures .0) (w .ensures .1)
+    let s = c .before .before in
+    let t = start (began s) in
+    let a = t .args in
+    let e : s .search .result .found ≡ None = search needs in
+    restores-none (a .width) (a .word .now) (a .erasures .now) (t .pre)
+    (none-within (a .width) (a .word .now) (a .erasures .now) (given (a .width) (a .word .now) (a .erasures .now) (t .pre) .lent) _ (found s .none e))
+    _ refl
 
 same-length-3 : tie.Need-same-length-3
 same-length-3 c = search needs
 
 returns-3 : tie.Need-returns-3
 returns-3 c =
-    let s = c .before .before .before .before .before in
-    let a = start s .args in
-    let t = s .started .result in
-    restores-none (a .width) (a .word .now) (a .erasures .now) (start s .pre)
-    (subst (λ (ls : List ℕ). NoneWithin (a .width) (a .word .now) ls (radius (a .width) (length (a .erasures .now))))
-    (s .started .ensures .1)
-    (none-within (a .width) (a .word .now) (tried t) (ready s .lent) _ (c .before .search .ensures .1 (ready s) .no (c .if2 .left))))
-    _ refl
+    let w = c .before .before .write in
+    let s = c .before .before .before .before .before .before in
+    let t = start (began s) in
+    let a = t .args in
+    let e : s .search .result .found ≡ One = search needs in
+    restores-found (a .width) (a .word .now) (a .erasures .now) (t .pre) (s .search .result) (w .result) _ (found s .one e)
+    (w .ensures .0) (w .ensures .1)
+
+same-length-4 : tie.Need-same-length-4
+same-length-4 c = search needs
+
+returns-4 : tie.Need-returns-4
+returns-4 c =
+    let s = c .before .before in
+    let t = start (began s) in
+    let a = t .args in
+    let e : s .search .result .found ≡ Several = search needs in
+    restores-several (a .width) (a .word .now) (a .erasures .now) (t .pre) (found s .several e) _ refl
 
 pub correct-spec : {M : Type 1} → statement M
 correct-spec =
@@ -101,10 +136,15 @@ correct-spec =
     is-clean-requires
     same-length
     returns
-    sub-radius
+    radius-of-requires
     search-requires
+    enum-told
+    enum-told-2
     write-requires
+    enum-told-3
     same-length-2
     returns-2
     same-length-3
-    returns-3)
+    returns-3
+    same-length-4
+    returns-4)

@@ -12,13 +12,13 @@ slice-relend-prefix-copy : tie.Need-slice-relend-prefix-copy
 slice-relend-prefix-copy c = search needs
 
 slice-aggregate-copy : tie.Need-slice-aggregate-copy
-slice-aggregate-copy c = sym (length-take-le 6 (c .before .before .args .bytes .now) (c .before .before .pre))
+slice-aggregate-copy c = sym (length-take-le 7 (c .before .before .args .bytes .now) (c .before .before .pre))
 
 slice-aggregate-copy-2 : tie.Need-slice-aggregate-copy-2
 slice-aggregate-copy-2 c = search needs
 
 copy-requires : tie.Need-copy-requires
-copy-requires c κs = length-take-le 6 (c .before .before .before .args .bytes .now) (c .before .before .before .pre)
+copy-requires c κs = length-take-le 7 (c .before .before .before .args .bytes .now) (c .before .before .before .pre)
 
 same-length : tie.Need-same-length
 same-length c = search needs
@@ -26,7 +26,7 @@ same-length c = search needs
 returns : tie.Need-returns
 returns c =
     let called = c .before .before in
-    ap (λ (u : List ℕ). u ++ drop 6 (called .before .before .before .before .args .bytes .now)) (called .copy .ensures)
+    ap (λ (u : List ℕ). u ++ drop 7 (called .before .before .before .before .args .bytes .now)) (called .copy .ensures)
 
 pub clear-header-spec : {M : Type 1} → statement M
 clear-header-spec =

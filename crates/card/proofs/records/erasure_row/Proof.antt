@@ -1,6 +1,6 @@
 -- `card::records::erasure_row` meets its contract. Assumes nothing.
 use borrow.Author.Needs.{needs}
-use Rattle.card.proofs.Layouts.{four-bytes}
+use Rattle.card.proofs.Layouts.{five-bytes}
 use Rattle.card.proofs.records.erasure_row.Statement.{statement}
 use Rattle.card.proofs.records.erasure_row.Tie as tie
 
@@ -16,8 +16,11 @@ shared-slice-read-t7 c = search needs
 shared-slice-read-t9 : tie.Need-shared-slice-read-t9
 shared-slice-read-t9 c = search needs
 
+shared-slice-read-t11 : tie.Need-shared-slice-read-t11
+shared-slice-read-t11 c = search needs
+
 returns : tie.Need-returns
-returns c = four-bytes (c .before .before .before .before .args .bytes .now) (c .before .before .before .before .pre)
+returns c = five-bytes (c .before .before .before .before .before .args .bytes .now) (c .before .before .before .before .before .pre)
 
 pub erasure-row-spec : {M : Type 1} → statement M
 erasure-row-spec =
@@ -27,4 +30,5 @@ erasure-row-spec =
     shared-slice-read-t5
     shared-slice-read-t7
     shared-slice-read-t9
+    shared-slice-read-t11
     returns)

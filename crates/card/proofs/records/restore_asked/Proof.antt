@@ -5,7 +5,7 @@ use native.Mathlib.Omega.{arith}
 use lib.ListN.{length}
 use lib.Seq.{length-take-le}
 use Rattle.code.proofs.Lengths.{length-most}
-use Rattle.card.specs.Record.{widthOf, countOf}
+use Rattle.card.specs.Record.{erasureBytes, widthOf, countOf}
 use Rattle.card.proofs.Layouts.{asked, word-fits, word-long}
 use Rattle.card.proofs.Recording.{restores-parts, word-refused, word-restored}
 use Rattle.card.proofs.records.restore_asked.Statement.{statement}
@@ -48,14 +48,14 @@ part-restore-end c =
 array-share-prefix-erasures : tie.Need-array-share-prefix-erasures
 array-share-prefix-erasures c =
     let s = c .before .before .before .before .before .before .before in
-    let l : 4 ≡ length (c .before .before .erasure-row .result) = search needs in
+    let l : erasureBytes ≡ length (c .before .before .erasure-row .result) = search needs in
     omega (arith, asked (s .args .bytes .now) (s .pre) .few)
 
 slice-aggregate-restore : tie.Need-slice-aggregate-restore
 slice-aggregate-restore c =
     let s = c .before .before .before .before .before .before .before .before in
     let e = c .before .before .before .erasure-row .result in
-    let l : 4 ≡ length e = search needs in
+    let l : erasureBytes ≡ length e = search needs in
     sym (length-take-le (countOf (s .args .bytes .now)) e (omega (arith, asked (s .args .bytes .now) (s .pre) .few)))
 
 restore-requires : tie.Need-restore-requires

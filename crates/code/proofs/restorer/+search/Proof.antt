@@ -15,8 +15,9 @@ use Rattle.code.specs.Erasure.{member}
 use Rattle.code.specs.Correction.{Ready, tried, NoneFrom, Searched}
 use Rattle.code.proofs.Loops.{Sought, sought-start, sought-on}
 use Rattle.code.proofs.Questions.{both-ways}
-use Rattle.code.proofs.Trying.{searched-none, searched-found, searched-place, none-from, none-exact}
+use Rattle.code.proofs.Trying.{searched-nothing, searched-none, searched-found, searched-place, none-from, none-exact}
 use Rattle.code.proofs.restorer.attempt.Reads as attempt
+use Rattle.code.proofs.restorer.solved.Reads as solved
 use Rattle.code.proofs.restorer.listed.Reads as listed
 use Rattle.code.proofs.restorer.extended.Reads as extended
 use Rattle.code.proofs.restorer.search.Reads as reads
@@ -36,6 +37,8 @@ abbrev claims : ℕ → lts.Claims
 claims n = (
   attempt.Asked,
   attempt.Learnt,
+  solved.Asked,
+  solved.Learnt,
   listed.Asked,
   listed.Learnt,
   extended.Asked,
@@ -45,36 +48,42 @@ claims n = (
 )
 
 abbrev Inv-loop : lts.InvT-loop
-Inv-loop width word t from left c exact places count p₀ p =
+Inv-loop width word t from left c places count p₀ p =
     Ready width word t → Sought (λ i. member i (tried t) ≡ false → NoneFrom width word (i ∷ tried t) (i + 1) (left - 1)) from p
 
 abbrev μ-loop : lts.MeasureT-loop
-μ-loop width word t from left c exact places count p₀ p = length word - p
+μ-loop width word t from left c places count p₀ p = length word - p
 
 module _ (n : ℕ) where
   attempt-requires : lts.Need-attempt-requires (claims n) (given n) reads.Post Inv-loop μ-loop
   attempt-requires c κs = search needs
 
+  solved-requires : lts.Need-solved-requires (claims n) (given n) reads.Post Inv-loop μ-loop
+  solved-requires c κs = search needs
+
   returns : lts.Need-returns (claims n) (given n) reads.Post Inv-loop μ-loop
   returns c =
-      let x = c .before .attempt in
-      (x .ensures .0, λ R. searched-found zero-le (c .if1 .taken) (x .ensures .1 _ R .yes (c .if1 .taken)))
+      let x = c .before .before .attempt in
+      let y = c .before .solved in
+      (x .ensures .0, λ R. searched-found zero-le (y .result) (y .ensures) (c .if1 .taken) (x .ensures .1 _ R))
 
   returns-2 : lts.Need-returns-2 (claims n) (given n) reads.Post Inv-loop μ-loop
   returns-2 c =
       let l = c .before in
-      let x = l .before .attempt in
-      let a = l .before .before .before .args in (
+      let x = l .before .before .attempt in
+      let y = l .before .solved in
+      let a = l .before .before .before .before .args in
+      let none = searched-nothing (x .result) (y .result) (y .ensures) (l .if1 .left) in (
         x .ensures .0,
-        λ R. searched-none (l .if1 .left)
-            (none-exact (a .width) (a .word .now) (tried (a .t)) (a .from) (a .left) (c .if2 .taken) (x .ensures .1 _ R .no (l .if1 .left))),
+        λ R. searched-none none
+            (none-exact (a .width) (a .word .now) (tried (a .t)) (a .from) (a .left) (c .if2 .taken) (x .ensures .1 _ R .none none)),
       )
 
   loop-holds : lts.Need-loop-holds (claims n) (given n) reads.Post Inv-loop μ-loop
   loop-holds c = λ R. sought-start _ _
 
-  cast-t18 : lts.Need-cast-t18 (claims n) (given n) reads.Post Inv-loop μ-loop
-  cast-t18 c = search needs
+  cast-t17 : lts.Need-cast-t17 (claims n) (given n) reads.Post Inv-loop μ-loop
+  cast-t17 c = search needs
 
   listed-requires : lts.Need-listed-requires (claims n) (given n) reads.Post Inv-loop μ-loop
   listed-requires c κs = search needs
@@ -97,7 +106,7 @@ module _ (n : ℕ) where
   -- what the search with one place more has found, for the trial as it was
   deeper : (s : lts.After-search (claims n) (given n) reads.Post Inv-loop μ-loop) →
       let l = s .before .before .before .before .before .before in
-      let a = l .before .before .before .before .before .before .args in
+      let a = l .before .before .before .before .before .before .before .args in
       Ready (a .width) (a .word .now) (a .t)
       → Searched (a .width) (a .word .now) (tried (a .t)) (suc (a .left - 1))
       (member (l .loop .p) (tried (a .t)) ≡ false → NoneFrom (a .width) (a .word .now) (l .loop .p ∷ tried (a .t)) (l .loop .p + 1) (a .left - 1))
@@ -105,7 +114,7 @@ module _ (n : ℕ) where
   deeper s R =
       let then = s .before .before .before in
       let l = then .before .before .before in
-      let start = l .before .before .before .before .before .before in
+      let start = l .before .before .before .before .before .before .before in
       let a = start .args in
       let u = s .before .extended in
       let fresh = not-true _ (sym (ap not (then .before .listed .ensures)) ∙ then .if3 .taken) in
@@ -113,10 +122,15 @@ module _ (n : ℕ) where
       (λ ls. NoneFrom (a .width) (a .word .now) ls (l .loop .p + 1) (a .left - 1)) (s .search .result) (l .loop .p)
       (u .ensures .1 (a .word .now) R (omega (arith, R .lent .size, then .before .before .loop-test .taken)) fresh refl) (s .search .ensures .1)
 
+  solved-requires-2 : lts.Need-solved-requires-2 (claims n) (given n) reads.Post Inv-loop μ-loop
+  solved-requires-2 c κs = search needs
+
   returns-3 : lts.Need-returns-3 (claims n) (given n) reads.Post Inv-loop μ-loop
   returns-3 c =
-      let left = c .before .before .before .before .before .before .before .before .before .if2 .left in
-      (c .before .search .ensures .0, λ R. searched-found (omega arith) (c .if4 .taken) (deeper (c .before) R .yes (c .if4 .taken)))
+      let s = c .before .before in
+      let y = c .before .solved2 in
+      let left = s .before .before .before .before .before .before .before .before .if2 .left in
+      (s .search .ensures .0, λ R. searched-found (omega arith) (y .result) (y .ensures) (c .if4 .taken) (deeper s R))
 
   add-p : lts.Need-add-p (claims n) (given n) reads.Post Inv-loop μ-loop
   add-p c = search needs
@@ -132,7 +146,7 @@ module _ (n : ℕ) where
       (λ w. deeper (record {
         before = record { before = record { before = record { before = c .before; if3 = w .0 }; shared-slice-known2 = w .1 }; extended = w .2 };
         search = w .3;
-      }) R .no (w .4 .left))
+      }) R .none (searched-nothing (w .3 .result) (w .4 .result) (w .4 .ensures) (w .5 .left)))
       (λ w o. absurd (both-ways (ap not (c .before .listed .ensures ∙ o)) (w .left)))
       (c .if3 .came)))
 
@@ -140,12 +154,14 @@ module _ (n : ℕ) where
   returns-4 c =
       let l = c .before in
       let else = l .before .before in
-      let x = else .before .before .attempt in
-      let a = else .before .before .before .before .args in (
+      let y = else .before .before .solved in
+      let x = else .before .before .before .attempt in
+      let a = else .before .before .before .before .before .args in
+      let none = searched-nothing (x .result) (y .result) (y .ensures) (else .before .if1 .left) in (
         x .ensures .0,
-        λ R. searched-none (else .before .if1 .left)
+        λ R. searched-none none
             (none-from (a .width) (a .word .now) (tried (a .t)) (a .from) (a .left) (omega (arith, else .if2 .left))
-            (x .ensures .1 _ R .no (else .before .if1 .left))
+            (x .ensures .1 _ R .none none)
             (λ p h b. l .loop .inv R p h (omega (arith, R .lent .size, c .loop-test .left)))),
       )
 
@@ -161,16 +177,18 @@ pub +search-spec : {M : Type 1} → statement M
     Inv-loop
     μ-loop
     (attempt-requires n)
+    (solved-requires n)
     (returns n)
     (returns-2 n)
     (loop-holds n)
-    (cast-t18 n)
+    (cast-t17 n)
     (listed-requires n)
     (shared-slice-read-extended n)
     (extended-requires n)
     (add-search n)
     (sub-search n)
     (search-requires n)
+    (solved-requires-2 n)
     (returns-3 n)
     (add-p n)
     (loop-less n)

@@ -25,7 +25,7 @@ returns-2 c = λ w. entry-column _ _ _ _ _ _ (search needs) (c .before .before .
 returns-3 : tie.Need-returns-3
 returns-3 c = λ w.
     (let a = c .before .before .args in
-    let n : 4 ≡ length (a .t2) = search needs in
+    let n : 5 ≡ length (a .t2) = search needs in
     entry-none (a .width) (a .t2) (a .count) (a .sum) (a .k) (a .j) (omega (arith, c .before .before .pre)) (c .before .if1 .left) (c .if2 .left))
 
 pub entry-of-spec : {M : Type 1} → statement M

@@ -15,7 +15,7 @@ abbrev μ-loop : tie.MeasureT-loop
 
 loop-holds : tie.Need-loop-holds Inv-loop μ-loop
 loop-holds c =
-    let four : length (c .args .t3) ≡ 4 = search needs in
+    let five : length (c .args .t3) ≡ 5 = search needs in
     (refl, put-start (c .args .n) (c .args .count) (c .args .t3) (c .args .t5) (c .args .row) (omega (arith, c .pre)))
 
 sub-i : tie.Need-sub-i Inv-loop μ-loop
@@ -35,8 +35,8 @@ array-write-out c =
     let l = c .before in
     let s = l .before in
     let a = s .args in
-    let four : length (a .t3) ≡ 4 = search needs in
-    let four′ : length (a .t5) ≡ 4 = search needs in
+    let five : length (a .t3) ≡ 5 = search needs in
+    let five′ : length (a .t5) ≡ 5 = search needs in
     let below = place-below (a .n) (a .count) (a .t3) (a .t5) (omega (arith, s .pre)) (omega (arith, s .pre)) (s .pre .2) (l .loop .i) (search needs)
     (l .loop .inv .1 .0) in
     omega (arith, below, s .pre)
@@ -49,8 +49,8 @@ loop-again c =
     let l = c .before in
     let s = l .before in
     let a = s .args in
-    let four : length (a .t3) ≡ 4 = search needs in
-    let four′ : length (a .t5) ≡ 4 = search needs in (
+    let five : length (a .t3) ≡ 5 = search needs in
+    let five′ : length (a .t5) ≡ 5 = search needs in (
       simp length-set (l .loop .inv .0),
       put-on (a .n) (a .count) (a .t3) (a .t5) (omega (arith, s .pre)) (omega (arith, s .pre)) (s .pre .2) (l .loop .i) (search needs)
           (l .loop .inv .1 .0) (take (a .n) (a .row)) (l .loop .out) (l .loop .inv .1),

@@ -9,12 +9,12 @@ use Rattle.code.proofs.restorer.listed.Statement.{statement}
 use Rattle.code.proofs.restorer.listed.Tie as tie
 
 array-share-prefix-places : tie.Need-array-share-prefix-places
-array-share-prefix-places c = omega (arith, c .pre, good-length (eInt w8) 4 (c .args .t1) _ (c .good .0))
+array-share-prefix-places c = omega (arith, c .pre, good-length (eInt w8) 5 (c .args .t1) _ (c .good .0))
 
 slice-aggregate-contains : tie.Need-slice-aggregate-contains
 slice-aggregate-contains c =
     let s = c .before in
-    sym (length-take-le (s .args .count) (s .args .t1) (omega (arith, s .pre, good-length (eInt w8) 4 (s .args .t1) _ (s .good .0))))
+    sym (length-take-le (s .args .count) (s .args .t1) (omega (arith, s .pre, good-length (eInt w8) 5 (s .args .t1) _ (s .good .0))))
 
 contains-requires : tie.Need-contains-requires
 contains-requires c κs = search needs

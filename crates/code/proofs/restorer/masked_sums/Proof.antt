@@ -36,9 +36,9 @@ returns : tie.Need-returns
 returns c = λ v W.
     (let s = c .before .before in
     let a = start s .args in
-    let four : length (a .places) ≡ 4 = search needs in
-    let zs : List ℕ = take (a .count) (0 ∷ 0 ∷ 0 ∷ 0 ∷ []) in
-    let same : length zs ≡ length (take (a .count) (a .places)) = length-take-le (a .count) (0 ∷ 0 ∷ 0 ∷ 0 ∷ []) (omega (arith, start s .pre))
+    let five : length (a .places) ≡ 5 = search needs in
+    let zs : List ℕ = take (a .count) (0 ∷ 0 ∷ 0 ∷ 0 ∷ 0 ∷ []) in
+    let same : length zs ≡ length (take (a .count) (a .places)) = length-take-le (a .count) (0 ∷ 0 ∷ 0 ∷ 0 ∷ 0 ∷ []) (omega (arith, start s .pre))
     ∙ sym (length-take-le (a .count) (a .places) (omega (arith, start s .pre))) in
     masked-sums (a .width) v (a .word .now) (take (a .count) (a .places)) zs _ W same (zero-values (a .count))
     (filled-word _ _ _ _ _ (s .before .copied .ensures) (s .filled .ensures)) (c .syndromes .result) (c .syndromes .ensures v))

@@ -48,7 +48,7 @@ returns c =
     let r2 = r3 .before in
     let a = r2 .before .args in
     record {
-      four = good-length (eInt w8) 4 (a .places) _ (r2 .before .good .1 .0);
+      room = good-length (eInt w8) 5 (a .places) _ (r2 .before .good .1 .0);
       tall = refl;
       each = each-row (λ k row. SystemRow (a .width) (take (a .count) (a .places)) (at (a .t4) k) k row) _ _ _ _ _
           (r2 .row-of .ensures) (r3 .row-of2 .ensures) (r4 .row-of3 .ensures) (r5 .row-of4 .ensures) (c .row-of5 .ensures);

@@ -38,7 +38,7 @@ loop-again : tie.Need-loop-again Inv-loop μ-loop
 loop-again c =
     let l = c .before in
     let a = l .before .args in
-    let four : 4 ≡ length (a .t1) = search needs in (
+    let room : unknowns ≡ length (a .t1) = search needs in (
       simp length-set (search needs),
       omega arith,
       prepend-on (a .p .0) (a .t1) (l .loop .out) (l .loop .j) (l .loop .inv .2) (omega (arith, l .loop .inv .0)) (omega arith),

@@ -12,10 +12,10 @@ use Rattle.code.proofs.restorer.row_of.Statement.{statement}
 use Rattle.code.proofs.restorer.row_of.Tie as tie
 
 abbrev Inv-loop : tie.InvT-loop
-Inv-loop width places count sum k row₀ j₀ row j = Filled ℕ 0 5 (isWidth width ≡ true) (λ i. systemEntry width (take count places) sum k i) row j
+Inv-loop width places count sum k row₀ j₀ row j = Filled ℕ 0 6 (isWidth width ≡ true) (λ i. systemEntry width (take count places) sum k i) row j
 
 abbrev μ-loop : tie.MeasureT-loop
-μ-loop width places count sum k row₀ j₀ row j = 5 - j
+μ-loop width places count sum k row₀ j₀ row j = 6 - j
 
 loop-holds : tie.Need-loop-holds Inv-loop μ-loop
 loop-holds c = filled-start refl

@@ -11,10 +11,10 @@ array-borrow-prefix-out : tie.Need-array-borrow-prefix-out
 array-borrow-prefix-out c = search needs
 
 slice-aggregate-copy : tie.Need-slice-aggregate-copy
-slice-aggregate-copy c = sym (length-take-le (length (c .before .before .args .erasures .now)) (replicate 4 0) (search needs))
+slice-aggregate-copy c = sym (length-take-le (length (c .before .before .args .erasures .now)) (replicate 5 0) (search needs))
 
 copy-requires : tie.Need-copy-requires
-copy-requires c κs = length-take-le (length (c .before .before .args .erasures .now)) (replicate 4 0) (search needs)
+copy-requires c κs = length-take-le (length (c .before .before .args .erasures .now)) (replicate 5 0) (search needs)
 
 returns : tie.Need-returns
 returns c = front-copied _ (c .before .before .before .before .args .erasures .now) _ _ (c .before .copy .ensures) refl

@@ -2,16 +2,17 @@
 -- Assumes nothing.
 use borrow.Author.Needs.{needs}
 use native.Mathlib.Omega.{arith}
+use mathlib.Core.Logic.{⊎-elim}
 use Prim.Native.Nat.{_-_}
-use Rattle.code.proofs.SolverSteps.{Solving, solving-start, solving-on, solved-one, solved-none, solved-dependent}
+use Rattle.code.proofs.SolverSteps.{Solving, solving-start, solving-on, solving-past, solved-one, solved-none, solved-several}
 use Rattle.code.proofs.solver.solve.Statement.{statement}
 use Rattle.code.proofs.solver.solve.Tie as tie
 
 abbrev Inv-loop : tie.InvT-loop
-Inv-loop width s t₀ c₀ t c = Solving width t₀ t s c
+Inv-loop width s t₀ r₀ c₀ t r c = Solving width t₀ t s r c
 
 abbrev μ-loop : tie.MeasureT-loop
-μ-loop width s t₀ c₀ t c = s - c
+μ-loop width s t₀ r₀ c₀ t r c = s - c
 
 loop-holds : tie.Need-loop-holds Inv-loop μ-loop
 loop-holds c = search (needs, solving-start)
@@ -22,9 +23,6 @@ add-find-pivot c = search needs
 find-pivot-requires : tie.Need-find-pivot-requires Inv-loop μ-loop
 find-pivot-requires c κs = search needs
 
-returns : tie.Need-returns Inv-loop μ-loop
-returns c = search (needs, solved-dependent)
-
 swap-rows-requires : tie.Need-swap-rows-requires Inv-loop μ-loop
 swap-rows-requires c κs = search needs
 
@@ -34,6 +32,9 @@ add-clear-column c = search needs
 clear-column-requires : tie.Need-clear-column-requires Inv-loop μ-loop
 clear-column-requires c κs = search needs
 
+add-r : tie.Need-add-r Inv-loop μ-loop
+add-r c = search needs
+
 add-c : tie.Need-add-c Inv-loop μ-loop
 add-c c = search needs
 
@@ -42,22 +43,28 @@ loop-less c = search needs
 
 loop-again : tie.Need-loop-again Inv-loop μ-loop
 loop-again c =
-    let left = c .before .before in
-    let turn = left .before .before .before in
-    solving-on _ _ _ _ _ (turn .loop .inv) (omega arith) (omega arith) _ (left .before .find-pivot .ensures) (left .if1 .left) _ _
-    (c .before .swap-rows .ensures) (c .clear-column .ensures)
+    let turn = c .before .before .before in
+    let pivot = c .before .find-pivot .ensures in
+    ⊎-elim
+    (λ w. rw (w .3, w .4)
+    (solving-on _ _ _ _ _ _ (turn .loop .inv) (omega arith) (omega arith) _ pivot (w .0 .taken) _ _ (w .1 .ensures) (w .2 .ensures)))
+    (λ w. rw (w .1, w .2) (solving-past _ _ _ _ _ _ (turn .loop .inv) (omega arith) (omega arith) _ pivot (w .0 .left)))
+    (c .if1 .came)
 
 find-pivot-requires-2 : tie.Need-find-pivot-requires-2 Inv-loop μ-loop
 find-pivot-requires-2 c κs = search needs
 
+returns : tie.Need-returns Inv-loop μ-loop
+returns c = search (needs, solved-none)
+
+returns-2 : tie.Need-returns-2 Inv-loop μ-loop
+returns-2 c = search (needs, solved-several)
+
 first-column-requires : tie.Need-first-column-requires Inv-loop μ-loop
 first-column-requires c κs = search needs
 
-returns-2 : tie.Need-returns-2 Inv-loop μ-loop
-returns-2 c = search (needs, solved-one)
-
 returns-3 : tie.Need-returns-3 Inv-loop μ-loop
-returns-3 c = search (needs, solved-none)
+returns-3 c = search (needs, solved-one)
 
 pub solve-spec : {M : Type 1} → statement M
 solve-spec =
@@ -68,14 +75,15 @@ solve-spec =
     loop-holds
     add-find-pivot
     find-pivot-requires
-    returns
     swap-rows-requires
     add-clear-column
     clear-column-requires
+    add-r
     add-c
     loop-less
     loop-again
     find-pivot-requires-2
-    first-column-requires
+    returns
     returns-2
+    first-column-requires
     returns-3)
