@@ -24,10 +24,10 @@ static void answers(const char *name, uint32_t answer, uint32_t refusal, uint32_
 }
 
 /* As many bytes, all RIM_BYTE, stand before and after each lent slice. */
-enum { RIM = 16, RIM_BYTE = 0xA7 };
+enum { RIM = 16, RIM_BYTE = 0xA7, ROOM = 512 };
 
 typedef struct {
-    uint8_t bytes[RIM + 256 + RIM];
+    uint8_t bytes[RIM + ROOM + RIM];
     size_t length;
 } lent;
 
@@ -368,6 +368,49 @@ static void cards(void) {
     answers("restore a blank slot", xrs_restore_record(card, XRS_RECORD_SIZE), XRS_REFUSED_WIDTH, 0);
 }
 
+/* The record without its fifth mark byte. */
+static void make_old(uint8_t *old, const uint8_t *record) {
+    memcpy(old, record, 6);
+    memcpy(old + 6, record + 7, 132);
+}
+
+/* A record with four marks, none of them good, and a blank slot, there and back; then faults, the last question first. */
+static void conversions(void) {
+    static const uint8_t marks[5] = {12, 12, 0, 255, 1};
+    uint8_t old[2 * XRS_OLD_RECORD_SIZE], new[2 * XRS_RECORD_SIZE], zeros[2 * XRS_RECORD_SIZE] = {0};
+    lent card, out;
+    memset(old, 255, sizeof old);
+    memset(new, 255, sizeof new);
+    make_record(new, words[4], marks, 4);
+    make_old(old, new);
+    answers("convert an old card", xrs_card_to_new(lend(&card, old, 276), 276, lend(&out, zeros, 278), 278), XRS_ACCEPTED, 0);
+    check("it is the new card", holds(&out, new) && holds(&card, old));
+    answers("convert a new card", xrs_card_to_old(lend(&card, new, 278), 278, lend(&out, zeros, 276), 276), XRS_ACCEPTED, 0);
+    check("it is the old card", holds(&out, old) && holds(&card, new));
+    answers("convert an empty old card", xrs_card_to_new(old, 0, zeros, 0), XRS_ACCEPTED, 0);
+    answers("convert an empty new card", xrs_card_to_old(new, 0, zeros, 0), XRS_ACCEPTED, 0);
+
+    lend(&out, zeros, 278);
+    make_record(new + XRS_RECORD_SIZE, words[4], marks, 5);
+    answers("convert five marks", xrs_card_to_old(new, 278, out.bytes + RIM, 276), XRS_REFUSED_FOUR_ERASURES, 0);
+    new[138] = 1;
+    answers("convert a bad tail before five marks", xrs_card_to_old(new, 278, out.bytes + RIM, 276), XRS_REFUSED_PADDING, 0);
+    make_old(old, new);
+    answers("convert a bad tail", xrs_card_to_new(old, 276, out.bytes + RIM, 278), XRS_REFUSED_PADDING, 0);
+    new[XRS_RECORD_SIZE + 1] = 6;
+    make_old(old + XRS_OLD_RECORD_SIZE, new + XRS_RECORD_SIZE);
+    answers("convert six marks to old", xrs_card_to_old(new, 278, out.bytes + RIM, 276), XRS_REFUSED_ERASURE_COUNT, 0);
+    answers("convert six marks to new", xrs_card_to_new(old, 276, out.bytes + RIM, 278), XRS_REFUSED_ERASURE_COUNT, 0);
+    new[0] = old[0] = 6;
+    answers("convert width 6 to old", xrs_card_to_old(new, 278, out.bytes + RIM, 276), XRS_REFUSED_WIDTH, 0);
+    answers("convert width 6 to new", xrs_card_to_new(old, 276, out.bytes + RIM, 278), XRS_REFUSED_WIDTH, 0);
+    answers("convert a piece of an old card", xrs_card_to_new(old, 275, out.bytes + RIM, 278), XRS_REFUSED_LENGTH, 0);
+    answers("convert a piece of a new card", xrs_card_to_old(new, 277, out.bytes + RIM, 276), XRS_REFUSED_LENGTH, 0);
+    answers("convert into a short new card", xrs_card_to_new(old, 276, out.bytes + RIM, 277), XRS_REFUSED_LENGTH, 0);
+    answers("convert into a long old card", xrs_card_to_old(new, 278, out.bytes + RIM, 278), XRS_REFUSED_LENGTH, 0);
+    check("refused conversions write nothing", holds(&out, zeros));
+}
+
 /* 29 February 2024, pump 5, and counts from 0 to 127 in the quarter hours. */
 static void make_symbols(uint8_t *symbols) {
     size_t i;
@@ -434,6 +477,7 @@ int main(void) {
     syndromes();
     records();
     cards();
+    conversions();
     sheets();
     printf("%u passed, %u failed\n", passed, failed);
     return failed != 0;

@@ -5,14 +5,15 @@
  * 132): five check symbols, then the q - 1 data symbols (7, 31 or 127).
  *
  * Answers: every call but xrs_check_card has a refusal in the lowest byte of what it returns. The refusal is 0 where the call was accepted;
- * otherwise it is that of the first question answered no, and the bytes above are 0. The questions are put in the order 1, 2, 3, 8, 4, 5,
- * 6, 7, 14, 9, 10, 11, 12, 13 of their refusals, each for all its items before the next. XRS_REFUSAL gives the refusal. In an answer of 32
- * bits the rest is one value, which XRS_VALUE gives; in an answer of 64 bits each byte is a value of its own, which XRS_BYTE gives.
+ * otherwise it is that of the first question answered no, and the bytes above are 0. The questions are put in the order 1, 2, 3, 8, 15, 4,
+ * 5, 6, 7, 14, 9, 10, 11, 12, 13 of their refusals, each for all its items before the next; of a record or a card 2 comes before 1.
+ * XRS_REFUSAL gives the refusal. In an answer of 32 bits the rest is one value, which XRS_VALUE gives; in an answer of 64 bits each byte is
+ * a value of its own, which XRS_BYTE gives.
  *
  * Memory: a slice is passed as a pointer and its length in bytes. The pointer must not be NULL, also where the length is 0, and must be
  * valid for that many bytes: to read where it is const, else to read and write. Slices passed to one call must not overlap. Any length and
  * any content are allowed: a wrong one is refused. A call touches no byte outside its slices, and a refused call changes none inside. What
- * the output of xrs_encode, xrs_read_data, xrs_write_sheet or xrs_read_sheet holds beforehand does not matter.
+ * an output (data or a word that is encoded or read, a converted card, a sheet) holds beforehand does not matter.
  *
  * The calls keep no state, so any number of threads may call them at once on memory of their own.
  *
@@ -44,7 +45,8 @@ enum xrs_refusal {
     XRS_REFUSED_SHEET_WIDTH = 11,     /* the width of a day sheet is not 7 */
     XRS_REFUSED_DATE = 12,            /* the date of a day sheet does not exist */
     XRS_REFUSED_UNUSED = 13,          /* a day sheet's symbols c_100 to c_126 are not zero */
-    XRS_REFUSED_UNIQUE = 14           /* several codewords agree with the word outside five erasures */
+    XRS_REFUSED_UNIQUE = 14,          /* several codewords agree with the word outside five erasures */
+    XRS_REFUSED_FOUR_ERASURES = 15    /* a record has five erasures, and one of the old edition has room for four */
 };
 
 /* The refusal of an answer, of 32 or of 64 bits. */
@@ -105,8 +107,7 @@ uint32_t xrs_restore_word(uint8_t width, uint8_t *word, size_t word_length, cons
 
 /*
  * Restores the word of a record with the marks that the record names, and leaves the record without marks. The value is the number of
- * unmarked places changed, 0 to 2. Refused with 1 to 8 and 14; the length is asked before the width. A blank slot is
- * refused with 1.
+ * unmarked places changed, 0 to 2. Refused with 1 to 8 and 14. A blank slot is refused with 1.
  */
 uint32_t xrs_restore_record(uint8_t *record, size_t record_length);
 
@@ -116,6 +117,19 @@ uint32_t xrs_restore_record(uint8_t *record, size_t record_length);
  * even where all its bytes are 255. A card of length 0 passes.
  */
 uint64_t xrs_check_card(const uint8_t *card, size_t card_length);
+
+/* Bytes of a slot of the old edition: a record has four bytes for the marks. */
+#define XRS_OLD_RECORD_SIZE 138
+
+/*
+ * Writes a card of the old edition as a card with slots of XRS_RECORD_SIZE bytes into out: each record gets a fifth mark byte of 255, and a
+ * blank slot stays blank. The card must be whole slots, and out as many. Marks and symbols are not asked about, and a blank slot nothing.
+ * The value is 0. Refused with 1, 2, 3 and 8.
+ */
+uint32_t xrs_card_to_new(const uint8_t *card, size_t card_length, uint8_t *out, size_t out_length);
+
+/* The other way, with the same questions and, after them, 15. */
+uint32_t xrs_card_to_old(const uint8_t *card, size_t card_length, uint8_t *out, size_t out_length);
 
 /* ---- Day sheets: codewords of width 7 whose data symbols are a day's compressor starts, its date and its pump, and then zeros. */
 

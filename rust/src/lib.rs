@@ -34,6 +34,8 @@ pub enum Refusal {
     Unused,
     /// Several codewords agree with the word outside five erasures.
     Unique,
+    /// A record has five erasures, and one of the old edition has room for four.
+    FourErasures,
     /// A refusal number that stands at none of the others. The archive that this crate was written for gives none.
     Unknown(u8),
 }
@@ -56,6 +58,7 @@ impl Refusal {
             Refusal::Date => 12,
             Refusal::Unused => 13,
             Refusal::Unique => 14,
+            Refusal::FourErasures => 15,
             Refusal::Unknown(number) => number,
         }
     }
@@ -70,7 +73,7 @@ impl Refusal {
     pub fn from_number(number: u8) -> Option<Refusal> {
         use Refusal::*;
         let base = [Width, Length, ErasureCount, ErasurePlace, ErasureDistinct, Symbol, Correctable, Padding, Syndrome, Nonzero];
-        let mut known = base.into_iter().chain([SheetWidth, Date, Unused, Unique]);
+        let mut known = base.into_iter().chain([SheetWidth, Date, Unused, Unique, FourErasures]);
         let found = known.find(|refusal| refusal.number() == number);
         found.or((number != 0).then_some(Unknown(number)))
     }
@@ -100,6 +103,7 @@ impl std::fmt::Display for Refusal {
             Refusal::Date => "the date of a day sheet does not exist",
             Refusal::Unused => "a day sheet's symbols c_100 to c_126 are not zero",
             Refusal::Unique => "several codewords agree with the word outside the erasures",
+            Refusal::FourErasures => "a record has five erasures, and one of the old edition has room for four",
             Refusal::Unknown(number) => return write!(out, "refused with the number {number}, which is not known here"),
         })
     }
@@ -120,6 +124,8 @@ mod raw {
         pub fn xrs_restore_word(width: u8, word: *mut u8, word_length: usize, marks: *const u8, marks_length: usize) -> u32;
         pub fn xrs_restore_record(record: *mut u8, record_length: usize) -> u32;
         pub fn xrs_check_card(card: *const u8, card_length: usize) -> u64;
+        pub fn xrs_card_to_new(card: *const u8, card_length: usize, out: *mut u8, out_length: usize) -> u32;
+        pub fn xrs_card_to_old(card: *const u8, card_length: usize, out: *mut u8, out_length: usize) -> u32;
         pub fn xrs_write_sheet(width: u8, symbols: *const u8, symbols_length: usize, word: *mut u8, word_length: usize) -> u32;
         pub fn xrs_read_sheet(width: u8, word: *const u8, word_length: usize, symbols: *mut u8, symbols_length: usize) -> u32;
     }
@@ -311,6 +317,51 @@ pub fn check_card(card: &[u8]) -> Result<(), u64> {
         0 => Ok(()),
         number => Err(number),
     }
+}
+
+/// Bytes of a record of the old edition, which has four bytes for the marks.
+pub const OLD_RECORD_SIZE: usize = 138;
+
+/// Writes a card of the old edition, with slots of 138 bytes, as a card with slots of 139 bytes into `out`: each record gets a fifth mark
+/// byte, and a blank slot stays blank. What `out` held before does not matter.
+///
+/// The lengths are asked first: `card` must be whole slots, and `out` as many. Then each question is put for all records before the next:
+/// the widths, the numbers of marks, and the unused mark bytes and tails. Marks and symbols are not asked about; they are what they were.
+///
+/// ```
+/// let mut old = [0; 2 * xrs::OLD_RECORD_SIZE];
+/// old[..6].copy_from_slice(&[3, 1, 7, 255, 255, 255]); // width 3, one mark, at place 7
+/// old[xrs::OLD_RECORD_SIZE..].fill(255); // a blank slot
+/// let mut new = [0; 2 * xrs::RECORD_SIZE];
+/// assert_eq!(xrs::card_to_new(&old, &mut new), Ok(()));
+/// assert_eq!(new[..7], [3, 1, 7, 255, 255, 255, 255]);
+/// assert_eq!(new[xrs::RECORD_SIZE..], [255; xrs::RECORD_SIZE]);
+///
+/// assert_eq!(xrs::card_to_new(&old, &mut new[1..]), Err(xrs::Refusal::Length));
+/// old[1] = 5;
+/// assert_eq!(xrs::card_to_new(&old, &mut new), Err(xrs::Refusal::ErasureCount));
+/// ```
+pub fn card_to_new(card: &[u8], out: &mut [u8]) -> Result<(), Refusal> {
+    unpack(unsafe { raw::xrs_card_to_new(card.as_ptr(), card.len(), out.as_mut_ptr(), out.len()) }).map(|_| ())
+}
+
+/// Writes a card with slots of 139 bytes as one of the old edition into `out`: `card_to_new` the other way. After the same questions, no
+/// record may have five marks.
+///
+/// ```
+/// let mut new = [0; xrs::RECORD_SIZE];
+/// new[..7].copy_from_slice(&[3, 4, 0, 1, 2, 3, 255]);
+/// let (mut old, mut back) = ([0; xrs::OLD_RECORD_SIZE], [0; xrs::RECORD_SIZE]);
+/// assert_eq!(xrs::card_to_old(&new, &mut old), Ok(()));
+/// assert_eq!(old[..6], [3, 4, 0, 1, 2, 3]);
+/// assert_eq!(xrs::card_to_new(&old, &mut back), Ok(()));
+/// assert_eq!(back, new);
+///
+/// new[1] = 5;
+/// assert_eq!(xrs::card_to_old(&new, &mut old), Err(xrs::Refusal::FourErasures));
+/// ```
+pub fn card_to_old(card: &[u8], out: &mut [u8]) -> Result<(), Refusal> {
+    unpack(unsafe { raw::xrs_card_to_old(card.as_ptr(), card.len(), out.as_mut_ptr(), out.len()) }).map(|_| ())
 }
 
 /// The symbols of a day sheet, c_0 to c_99: the compressor starts in each quarter hour, then year, month, day and pump.

@@ -81,3 +81,21 @@ fn e_records_of_139_bytes() {
     assert_eq!((with(1, 3), with(6, 0), with(19, 1), with(138, 1)), (Err(8), Err(8), Err(8), Err(8)));
     assert_eq!((with(1, 5), with(1, 6), with(1, 255), with(2, 255)), (Err(4), Err(3), Err(3), Err(4)));
 }
+
+#[test]
+fn f_old_cards_into_new() {
+    let old = card::record_of(4, 3, &zeros_but(&[(0, 200)]), &[12, 12, 255, 0]);
+    let new = [&old[..6], &[255], &old[6..]].concat();
+    assert_eq!((old.len(), new.len()), (138, 139));
+    let (old, new) = ([&old[..], &[255; 138]].concat(), [&new[..], &[255; 139]].concat());
+    assert_eq!(card::to_new(&old, 278), Ok(new.clone()));
+    assert_eq!(card::to_old(&new, 276), Ok(old.clone()));
+    let with = |bytes: &[(usize, u8)]| {
+        let mut card = [&new[..139], &new[..139]].concat();
+        bytes.iter().for_each(|&(at, byte)| card[at] = byte);
+        card::to_old(&card, 276).map(|_| ())
+    };
+    assert_eq!((with(&[(1, 5)]), with(&[(1, 5), (139 + 138, 1)])), (Err(15), Err(8)));
+    assert_eq!((with(&[(6, 5), (140, 6)]), with(&[(19, 1), (140, 6), (139, 9)])), (Err(3), Err(1)));
+    assert_eq!((card::to_new(&old, 277), card::to_new(&old[1..], 278), card::to_old(&[], 0)), (Err(2), Err(2), Ok(vec![])));
+}

@@ -8,29 +8,29 @@ use native.Mathlib.Omega.{arith}
 use borrow.Author.Tests.{eq-eqb, ne-eqb, eqb-true}
 use lib.Dec.{eqb}
 use lib.ListN.{length}
-use Rattle.field.specs.Question.{Outcome, accepted, refused}
+use Rattle.field.specs.Question.{Outcome, accepted, refused, isWidth}
 use Rattle.field.specs.declared.Question.the-variants.{Width}
 use Rattle.field.specs.declared.Verdict.the-variants.{Refused as RefusedBy}
 use Rattle.field.proofs.Ask.{and-true-left, and-true-right}
-use Rattle.code.specs.Word.{wordLength}
-use Rattle.card.specs.Record.{recordSize, widthOf, allAre, recordOf, recordWritten}
-use Rattle.card.specs.Card.{isBlank, isAccepted, passes, fine}
-use Rattle.card.proofs.Layouts.{record-no-width}
+use Rattle.card.specs.Record.{sizeOf, erasureBytes, recordSize, widthOf, allAre, askedIn, recordOf, recordWritten}
+use Rattle.card.specs.Card.{blankIn, isBlank, isAccepted, passes, fine}
+use Rattle.card.proofs.Layouts.{width-no}
 use Rattle.card.proofs.Recording.{restores-refused}
 
 -- ---- the test
 
-pub blank-no : (slot : List ℕ) → (length slot ≡ recordSize → ⊥) → false ≡ isBlank slot
-unfolding isBlank
-blank-no slot n = sym (ap (λ (b : Bool). b && allAre 255 slot) (ne-eqb (length slot) recordSize n))
+module _ (k : ℕ) (slot : List ℕ) where
+  pub blank-no : (length slot ≡ sizeOf k → ⊥) → false ≡ blankIn k slot
+  unfolding blankIn
+  blank-no n = sym (ap (λ (b : Bool). b && allAre 255 slot) (ne-eqb (length slot) (sizeOf k) n))
 
-pub blank-whole : (slot : List ℕ) (b : Bool) → length slot ≡ recordSize → b ≡ allAre 255 slot → b ≡ isBlank slot
-unfolding isBlank
-blank-whole slot b l e = e ∙ sym (ap (λ (c : Bool). c && allAre 255 slot) (eq-eqb (length slot) recordSize l))
+  pub blank-whole : (b : Bool) → length slot ≡ sizeOf k → b ≡ allAre 255 slot → b ≡ blankIn k slot
+  unfolding blankIn
+  blank-whole b l e = e ∙ sym (ap (λ (c : Bool). c && allAre 255 slot) (eq-eqb (length slot) (sizeOf k) l))
 
 -- a shorter last piece is never blank, whatever its bytes are
 pub short-not-blank : (slot : List ℕ) → length slot < recordSize → isBlank slot ≡ false
-short-not-blank slot h = sym (blank-no slot (λ e. omega arith))
+short-not-blank slot h = sym (blank-no erasureBytes slot (λ e. omega arith))
 
 -- ---- the card check's slots
 
@@ -66,17 +66,20 @@ not-fine-means slot t = go (isBlank slot) refl t
 
 -- ---- a blank slot as a record
 
-blank-width : (slot : List ℕ) → length slot ≡ recordSize → allAre 255 slot ≡ true → widthOf slot ≡ 255
+blank-width : (slot : List ℕ) → 0 < length slot → allAre 255 slot ≡ true → widthOf slot ≡ 255
 blank-width [] l h = absurd (omega arith)
 blank-width (x ∷ xs) l h = eqb-true x 255 (and-true-left (eqb x 255) (allAre 255 xs) h)
 
+-- question 1 is answered no
+pub blank-asked : (k : ℕ) (slot : List ℕ) → blankIn k slot ≡ true → RefusedBy Width ≡ askedIn k slot
+unfolding blankIn
+blank-asked k slot h =
+    let size = eqb-true (length slot) (sizeOf k) (and-true-left (eqb (length slot) (sizeOf k)) (allAre 255 slot) h) in
+    let all = and-true-right (eqb (length slot) (sizeOf k)) (allAre 255 slot) h in
+    width-no k slot size (ap isWidth (blank-width slot (omega arith) all))
+
 -- restoring it as a record gives 1, as it did before there were blank slots, and changes no byte
 pub blank-refused : (slot : List ℕ) → isBlank slot ≡ true → (recordOf slot ≡ refused 1) × (recordWritten slot ≡ slot)
-unfolding isBlank
 blank-refused slot h =
-    let size = eqb-true (length slot) recordSize (and-true-left (eqb (length slot) recordSize) (allAre 255 slot) h) in
-    let all = and-true-right (eqb (length slot) recordSize) (allAre 255 slot) h in
-    let none : 0 ≡ wordLength (widthOf slot) = sym (ap wordLength (blank-width slot size all)) in
-    let asked = record-no-width slot size 0 none refl in
-    let R = restores-refused slot (RefusedBy Width) Width asked refl slot refl in
+    let R = restores-refused slot (RefusedBy Width) Width (blank-asked erasureBytes slot h) refl slot refl in
     (sym (R .answer), sym (R .content))

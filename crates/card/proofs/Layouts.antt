@@ -1,23 +1,25 @@
 -- The layout of a record, and what its own questions tell of it. Assumes nothing.
 use mathlib.Core.Path.{_≡_, refl, sym, ap, ap₂, _∙_}
 use mathlib.Core.Logic.{_≢_}
-use mathlib.Core.Bool.{Bool, true, false, _&&_}
+use mathlib.Core.Bool.{Bool, true, false, not, _&&_}
 use mathlib.Core.List.{List, [], _∷_}
-use Prim.Native.Nat.{ℕ, _+_, _-_, _≤_, _<_}
+use Prim.Native.Nat.{ℕ, zero, suc, _+_, _-_, _≤_, _<_}
 use native.Mathlib.Numerals.{add-one}
 use native.Mathlib.Omega.{arith}
-use borrow.Author.Tests.{eq-eqb, ne-eqb, eqb-true, le-leb, lt-leb, leb-true}
+use borrow.Author.Tests.{eq-eqb, ne-eqb, eqb-true, le-leb, lt-leb, leb-true, not-true, not-false}
 use lib.Dec.{eqb, leb}
 use lib.ListN.{length, getD, take, drop, replicate, drop-of-length-le, length-drop}
 use lib.Seq.{drop-cons, take-all, take-take}
-use Rattle.field.specs.Question.{isWidth}
-use Rattle.field.specs.declared.Question.the-variants.{Width, Length, ErasureCount, Padding}
+use Rattle.field.specs.Question.{ask, isWidth}
+use Rattle.field.specs.declared.Question.the-variants.{Width, Length, ErasureCount, Padding, FourErasures}
 use Rattle.field.specs.declared.Verdict.the-variants.{Passed, Refused}
 use Rattle.field.proofs.Ask.{ask-yes, ask-next, and-true-left, and-true-right}
 use Rattle.code.specs.Word.{places, wordLength}
 use Rattle.code.proofs.Lengths.{width-some, width-none, length-is, places-most}
-use Rattle.card.specs.Record.{erasureBytes, headerSize, recordSize, widthOf, countOf, erasuresOf, unusedOf, wordOf, tailOf}
-use Rattle.card.specs.Record.{allAre, allowedIn, askedIn, recordAsked}
+use Rattle.card.specs.Record.{headerOf, sizeOf, widthOf, countOf, erasuresOf, unusedIn, allowedIn, allAre, hasWidth, fewIn}
+use Rattle.card.specs.Record.{paddedIn, askedIn}
+use Rattle.card.specs.Record.{erasureBytes, headerSize, recordSize, unusedOf, wordOf, tailOf, recordAsked}
+use Rattle.card.specs.Leading.{leading, recordPasses, verdictAt}
 
 -- ---- bytes that are all the same
 
@@ -48,24 +50,20 @@ all-replicate x (y ∷ ys) h =
 pub tail-part : (n : ℕ) (r : List ℕ) → take (length r - n) (drop n r) ≡ drop n r
 tail-part n r = take-all (length r - n) (drop n r) (simp length-drop (omega arith))
 
-module _ (r : List ℕ) (n e : ℕ) (b c : Bool) where
-  -- question 4: the unused erasure bytes, a part up to the header's end, and then the tail
-  pub padded-yes : n ≤ erasureBytes → b ≡ allAre 255 (take (headerSize - (2 + n)) (drop (2 + n) r)) → b ≡ true
-      → c ≡ allAre 0 (take (length r - e) (drop e r))
-      → c ≡ (allAre 255 (take (erasureBytes - n) (drop (2 + n) r)) && allAre 0 (drop e r))
-  padded-yes l eb t ec =
-      ec ∙ ap (allAre 0) (tail-part e r)
-      ∙ ap (λ (x : Bool). x && allAre 0 (drop e r)) (sym t ∙ eb ∙ ap (λ (k : ℕ). allAre 255 (take k (drop (2 + n) r))) less)
+module _ (k : ℕ) (r : List ℕ) (n e : ℕ) (b c : Bool) (l : n ≤ k) (eb : b ≡ allAre 255 (take (headerOf k - (2 + n)) (drop (2 + n) r))) where
+  unused : b ≡ allAre 255 (take (k - n) (drop (2 + n) r))
+  unused = eb ∙ ap (λ (x : ℕ). allAre 255 (take x (drop (2 + n) r))) less
     where
-      less : headerSize - (2 + n) ≡ erasureBytes - n
+      less : headerOf k - (2 + n) ≡ k - n
       less = omega arith
 
-  pub padded-no : n ≤ erasureBytes → b ≡ allAre 255 (take (headerSize - (2 + n)) (drop (2 + n) r)) → b ≡ false
-      → false ≡ (allAre 255 (take (erasureBytes - n) (drop (2 + n) r)) && allAre 0 (drop e r))
-  padded-no l eb t = ap (λ (x : Bool). x && allAre 0 (drop e r)) (sym t ∙ eb ∙ ap (λ (k : ℕ). allAre 255 (take k (drop (2 + n) r))) less)
-    where
-      less : headerSize - (2 + n) ≡ erasureBytes - n
-      less = omega arith
+  -- question 4: the unused erasure bytes, a part up to the header's end, and then the tail
+  pub padded-yes : b ≡ true → c ≡ allAre 0 (take (length r - e) (drop e r))
+      → c ≡ (allAre 255 (take (k - n) (drop (2 + n) r)) && allAre 0 (drop e r))
+  padded-yes t ec = ec ∙ ap (allAre 0) (tail-part e r) ∙ ap (λ (x : Bool). x && allAre 0 (drop e r)) (sym t ∙ unused)
+
+  pub padded-no : b ≡ false → false ≡ (allAre 255 (take (k - n) (drop (2 + n) r)) && allAre 0 (drop e r))
+  padded-no t = ap (λ (x : Bool). x && allAre 0 (drop e r)) (sym t ∙ unused)
 
 -- the erasure bytes, read one by one
 pub five-bytes : (r : List ℕ) → headerSize ≤ length r
@@ -81,41 +79,97 @@ five-bytes (a ∷ b ∷ c ∷ d ∷ e ∷ f ∷ g ∷ r) h = refl
 
 -- ---- the record's own questions, one by one
 
-module _ (r : List ℕ) where
-  pub length-no : (length r ≡ recordSize → ⊥) → Refused Length ≡ recordAsked r
+-- n is the length of the record's word
+module _ (k most : ℕ) (r : List ℕ) (n : ℕ) (en : n ≡ wordLength (widthOf r)) where
+  pub passes-none : n ≡ 0 → 0 ≡ recordPasses k most r
+  unfolding recordPasses
+  passes-none z = simp (width-none (widthOf r) n en z)
+
+  module _ (nz : n ≢ 0) where
+    width : isWidth (widthOf r) ≡ true
+    width = width-some (widthOf r) n en nz
+
+    pub record-fits : headerOf k + n ≤ sizeOf k
+    record-fits = omega (arith, length-is (widthOf r) n en width, places-most (widthOf r) width)
+
+    -- a is question 3's bound
+    module _ (a : ℕ) (ea : a ≡ allowedIn k r) where
+      pub count-fits : countOf r ≤ a → countOf r ≤ k
+      count-fits h = omega (arith, ea)
+
+      pub passes-one : a < countOf r → 1 ≡ recordPasses k most r
+      unfolding recordPasses
+      passes-one h = simp (width, lt-leb (countOf r) (allowedIn k r) (rw ea at h))
+
+      -- b is what `padded` says
+      module _ (few : countOf r ≤ a) (b : Bool)
+          (eb : b ≡ (allAre 255 (take (k - countOf r) (drop (2 + countOf r) r)) && allAre 0 (drop (headerOf k + n) r))) where
+        passes-last : (c : Bool) → b ≡ c → leading (true ∷ true ∷ c ∷ leb (countOf r) most ∷ []) ≡ recordPasses k most r
+        unfolding recordPasses
+        passes-last c t =
+            simp (width, le-leb (countOf r) (allowedIn k r) (rw ea at few))
+            (ap (λ (x : Bool). leading (true ∷ true ∷ x ∷ leb (countOf r) most ∷ [])) (sym t ∙ padding))
+          where
+            padding : b ≡ paddedIn k r
+            padding =
+                eb
+                ∙ ap (λ (x : ℕ). allAre 255 (unusedIn k r) && allAre 0 (drop (headerOf k + x) r)) (length-is (widthOf r) n en width)
+
+        pub passes-two : not b ≡ true → 2 ≡ recordPasses k most r
+        passes-two t = passes-last false (not-true b t)
+
+        pub passes-three : not b ≡ false → most < countOf r → 3 ≡ recordPasses k most r
+        passes-three t h =
+            ap (λ (x : Bool). leading (true ∷ true ∷ true ∷ x ∷ [])) (sym (lt-leb (countOf r) most h)) ∙ passes-last true (not-false b t)
+
+        pub passes-four : not b ≡ false → countOf r ≤ most → 4 ≡ recordPasses k most r
+        passes-four t h =
+            ap (λ (x : Bool). leading (true ∷ true ∷ true ∷ x ∷ [])) (sym (le-leb (countOf r) most h)) ∙ passes-last true (not-false b t)
+
+-- ---- the verdict
+
+pub verdict-passed : (n : ℕ) → n ≢ 0 → n ≢ 1 → n ≢ 2 → n ≢ 3 → Passed ≡ verdictAt n
+verdict-passed zero a b c d = absurd (a refl)
+verdict-passed (suc zero) a b c d = absurd (b refl)
+verdict-passed (suc (suc zero)) a b c d = absurd (c refl)
+verdict-passed (suc (suc (suc zero))) a b c d = absurd (d refl)
+verdict-passed (suc (suc (suc (suc n)))) a b c d = refl
+
+pub verdict-asked : (a b c d : Bool)
+    → verdictAt (leading (a ∷ b ∷ c ∷ d ∷ [])) ≡ ask a Width (ask b ErasureCount (ask c Padding (ask d FourErasures Passed)))
+verdict-asked true true true true = refl
+verdict-asked true true true false = refl
+verdict-asked true true false d = refl
+verdict-asked true false c d = refl
+verdict-asked false b c d = refl
+
+-- where question 3 does not allow more, question 15 is passed
+pub asked-late : (a b c d : Bool) → (b ≡ true → d ≡ true)
+    → ask a Width (ask b ErasureCount (ask c Padding (ask d FourErasures Passed))) ≡ ask a Width (ask b ErasureCount (ask c Padding Passed))
+asked-late a true c d f = ap (λ (x : Bool). ask a Width (ask c Padding (ask x FourErasures Passed))) (f refl)
+asked-late a false c d f = refl
+
+-- no more erasures than there are bytes for
+pub few-fit : (k : ℕ) (r : List ℕ) → fewIn k r ≡ true → leb (countOf r) k ≡ true
+few-fit k r h = le-leb (countOf r) k (omega (arith, leb-true (countOf r) (allowedIn k r) h))
+
+module _ (k : ℕ) (r : List ℕ) where
+  pub length-no : (length r ≡ sizeOf k → ⊥) → Refused Length ≡ askedIn k r
   unfolding askedIn
-  length-no n = simp (ne-eqb (length r) recordSize n)
+  length-no n = simp (ne-eqb (length r) (sizeOf k) n)
 
-  module _ (size : length r ≡ recordSize) (n : ℕ) (en : n ≡ wordLength (widthOf r)) where
-    pub record-no-width : n ≡ 0 → Refused Width ≡ recordAsked r
-    unfolding askedIn
-    record-no-width z = simp (eq-eqb (length r) recordSize size, width-none (widthOf r) n en z)
+  pub width-no : length r ≡ sizeOf k → isWidth (widthOf r) ≡ false → Refused Width ≡ askedIn k r
+  unfolding askedIn
+  width-no size w = simp (eq-eqb (length r) (sizeOf k) size, w)
 
-    module _ (nz : n ≢ 0) where
-      width : isWidth (widthOf r) ≡ true
-      width = width-some (widthOf r) n en nz
-
-      pub record-fits : headerSize + n ≤ recordSize
-      record-fits = omega (arith, length-is (widthOf r) n en width, places-most (widthOf r) width)
-
-      pub count-no : allowedIn erasureBytes r < countOf r → Refused ErasureCount ≡ recordAsked r
-      unfolding askedIn
-      count-no h = simp (eq-eqb (length r) recordSize size, width, lt-leb (countOf r) (allowedIn erasureBytes r) h)
-
-      module _ (few : countOf r ≤ allowedIn erasureBytes r) (b : Bool)
-          (eb : b ≡ (allAre 255 (take (erasureBytes - countOf r) (drop (2 + countOf r) r)) && allAre 0 (drop (headerSize + n) r))) where
-        padding : b ≡ (allAre 255 (unusedOf r) && allAre 0 (tailOf r))
-        padding = eb ∙ ap (λ (x : ℕ). allAre 255 (unusedOf r) && allAre 0 (drop (headerSize + x) r)) (length-is (widthOf r) n en width)
-
-        pub record-passes : b ≡ true → Passed ≡ recordAsked r
-        unfolding askedIn
-        record-passes t =
-            simp (eq-eqb (length r) recordSize size, width, le-leb (countOf r) (allowedIn erasureBytes r) few, sym padding ∙ t)
-
-        pub padding-no : b ≡ false → Refused Padding ≡ recordAsked r
-        unfolding askedIn
-        padding-no t =
-            simp (eq-eqb (length r) recordSize size, width, le-leb (countOf r) (allowedIn erasureBytes r) few, sym padding ∙ t)
+  pub record-asked : length r ≡ sizeOf k → (n : ℕ) → n ≡ recordPasses k k r → verdictAt n ≡ askedIn k r
+  unfolding recordPasses askedIn
+  record-asked size n e =
+      ap verdictAt e
+      ∙ verdict-asked (hasWidth r) (fewIn k r) (paddedIn k r) (leb (countOf r) k)
+      ∙ asked-late (hasWidth r) (fewIn k r) (paddedIn k r) (leb (countOf r) k) (few-fit k r)
+      ∙ sym (ap (λ (x : Bool). ask x Length (ask (hasWidth r) Width (ask (fewIn k r) ErasureCount (ask (paddedIn k r) Padding Passed))))
+      (eq-eqb (length r) (sizeOf k) size))
 
 -- ---- a record that passed them
 

@@ -6,3 +6,8 @@ pub mod Checking
 pub mod Writing
 pub mod Lines
 pub mod Bounds
+pub mod Slots
+pub mod Leading
+pub mod Converting
+pub mod Editions
+pub mod ThereAndBack

@@ -107,4 +107,4 @@ module _ (r : List ℕ) (P : recordAsked r ≡ Passed) (x : Repair) (new : List 
 -- ---- a record of another length
 
 pub short-refused : (r : List ℕ) → (length r ≡ recordSize → ⊥) → refused (refusal Length) ≡ recordOf r
-short-refused r n = record-refused r (RefusedBy Length) Length (length-no r n) refl
+short-refused r n = record-refused r (RefusedBy Length) Length (length-no erasureBytes r n) refl

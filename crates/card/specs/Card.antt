@@ -6,7 +6,7 @@ use Prim.Native.Nat.{ℕ, zero, suc, _+_, _-_, _*_, _/_, _≤_, _<_}
 use lib.Dec.{eqb}
 use lib.ListN.{length, take, drop}
 use Rattle.field.specs.Question.{Outcome, accepted, refused}
-use Rattle.card.specs.Record.{recordSize, allAre, recordOf}
+use Rattle.card.specs.Record.{sizeOf, erasureBytes, recordSize, allAre, recordOf}
 use Rattle.card.specs.declared.CardCheck.{CardCheck}
 use Rattle.card.specs.declared.CardCheck.the-variants.{AllAccepted, Refused}
 
@@ -14,13 +14,20 @@ use Rattle.card.specs.declared.CardCheck.the-variants.{AllAccepted, Refu
 abbrev pub recordCount : ℕ → ℕ
 recordCount n = (n + (recordSize - 1)) / recordSize
 
--- slot i of the card, counted from 0: its record, or blank; the last may be shorter
-abbrev pub recordAt : List ℕ → ℕ → List ℕ
-recordAt card i = take recordSize (drop (i * recordSize) card)
+-- slot i of a card, counted from 0, where records have k erasure bytes: its record, or blank; the last may be shorter
+abbrev pub slotIn : ℕ → List ℕ → ℕ → List ℕ
+slotIn k card i = take (sizeOf k) (drop (i * sizeOf k) card)
 
 -- is the slot blank, never written? Only a whole slot can be
-unfoldable pub isBlank : List ℕ → Bool
-isBlank slot = eqb (length slot) recordSize && allAre 255 slot
+unfoldable pub blankIn : ℕ → List ℕ → Bool
+blankIn k slot = eqb (length slot) (sizeOf k) && allAre 255 slot
+
+-- the same in today's edition
+abbrev pub recordAt : List ℕ → ℕ → List ℕ
+recordAt card i = slotIn erasureBytes card i
+
+abbrev pub isBlank : List ℕ → Bool
+isBlank slot = blankIn erasureBytes slot
 
 -- is the outcome an acceptance?
 abbrev pub isAccepted : Outcome → Bool

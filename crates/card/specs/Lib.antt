@@ -1,6 +1,8 @@
--- The definitions of records, cards and listings. Assumes nothing.
+-- The definitions of records, cards, listings and conversions. Assumes nothing.
 pub mod Record
 pub mod Card
 pub mod Listing
 pub mod Placed
 pub mod Batch
+pub mod Conversion
+pub mod Leading

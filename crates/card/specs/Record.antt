@@ -56,13 +56,25 @@ abbrev pub allAre : ℕ → List ℕ → Bool
 allAre x [] = true
 allAre x (y ∷ ys) = eqb y x && allAre x ys
 
+-- question 1
+abbrev pub hasWidth : List ℕ → Bool
+hasWidth r = isWidth (widthOf r)
+
+-- question 3
+abbrev pub fewIn : ℕ → List ℕ → Bool
+fewIn k r = leb (countOf r) (allowedIn k r)
+
+-- question 4: are the unused erasure bytes 255, and is the tail 0?
+abbrev pub paddedIn : ℕ → List ℕ → Bool
+paddedIn k r = allAre 255 (unusedIn k r) && allAre 0 (tailIn k r)
+
 -- a record's length is asked first, then questions 1, 3 and 4
 unfoldable pub askedIn : ℕ → List ℕ → Verdict
 askedIn k r =
     ask (eqb (length r) (sizeOf k)) Length
-    (ask (isWidth (widthOf r)) Width
-    (ask (leb (countOf r) (allowedIn k r)) ErasureCount
-    (ask (allAre 255 (unusedIn k r) && allAre 0 (tailIn k r)) Padding Passed)))
+    (ask (hasWidth r) Width
+    (ask (fewIn k r) ErasureCount
+    (ask (paddedIn k r) Padding Passed)))
 
 -- ---- today's edition
 

@@ -2,12 +2,14 @@
 ghost use mathlib.Core.Path.{_≡_};
 ghost use Prim.Native.Nat.{_≤_};
 ghost use lib.ListN.{length, take, drop};
-ghost use Rattle.card.specs.Record.{recordSize};
-ghost use Rattle.card.specs.Card.{isBlank, passes, fine, firstRefused};
+ghost use Rattle.card.specs.Record.{erasureBytes, recordSize};
+ghost use Rattle.card.specs.Card.{blankIn, passes, fine, firstRefused};
 use crate::CardCheck;
+use crate::records::ERASURE_BYTES;
 use crate::records::RECORD;
 use crate::records::all_are;
 use crate::records::probe;
+use crate::records::size_of;
 use code::Repair;
 
 // The slot of the card that begins at byte `at`; the last may be shorter.
@@ -23,10 +25,11 @@ pub(crate) fn record_from(card: &[u8], at: usize) -> &[u8]
 }
 
 // Is the slot blank? The first byte that is not 255 says no, and a record's first byte is its width.
-pub(crate) fn is_blank(slot: &[u8]) -> bool
-    ensures { λ r. ⌜ r ≡ isBlank (now (slot .entry)) ⌝ }
+pub(crate) fn is_blank(slot: &[u8], k: usize) -> bool
+    requires { ⌜ k ≤ erasureBytes ⌝ }
+    ensures { λ r. ⌜ r ≡ blankIn k (now (slot .entry)) ⌝ }
 {
-    if slot.len() != RECORD {
+    if slot.len() != size_of(k) {
         return false;
     }
     all_are(slot, 255)
@@ -46,7 +49,7 @@ fn would_pass(bytes: &[u8]) -> bool
 fn is_fine(slot: &[u8]) -> bool
     ensures { λ r. ⌜ r ≡ fine (now (slot .entry)) ⌝ }
 {
-    if is_blank(slot) {
+    if is_blank(slot, ERASURE_BYTES) {
         return true;
     }
     would_pass(slot)

@@ -1,5 +1,6 @@
-// Records and cards: restoring a record, checking a card, and the text of a listing.
+// Records and cards: restoring a record, checking a card, the text of a listing, and conversion from and to the old edition.
 pub mod cards;
+pub mod conversion;
 pub mod records;
 pub mod text;
 

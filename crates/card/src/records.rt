@@ -2,23 +2,32 @@
 ghost use mathlib.Core.Path.{_≡_};
 ghost use mathlib.Core.Bool.{_&&_};
 ghost use mathlib.Core.List.{_∷_, _++_};
-ghost use Prim.Native.Nat.{_+_, _-_, _≤_};
+ghost use Prim.Native.Nat.{_+_, _-_, _≤_, min};
 ghost use lib.ListN.{length, take, drop, replicate};
 ghost use Rattle.field.specs.declared.Verdict.the-variants.{Passed};
-ghost use Rattle.code.specs.Call.{repair};
-ghost use Rattle.card.specs.Record.{erasureBytes, headerSize, recordSize, allAre, recordAsked, recordOf, RestoresRecord};
+ghost use Rattle.code.specs.Call.{maxErasures, repair};
+ghost use Rattle.card.specs.Record.{sizeOf, erasureBytes, headerSize, recordSize, allAre, recordAsked, recordOf, RestoresRecord};
+ghost use Rattle.card.specs.Leading.{recordPasses, verdictAt};
 use code::Repair;
 use code::slice::copy;
 use code::word_length;
 use field::Question;
 use field::Verdict;
 
-// The layout of a record.
-const ERASURE_BYTES: usize = 5;
+// The layout of a record. Functions that conversions use too take the number k of erasure bytes of the edition.
+pub(crate) const ERASURE_BYTES: usize = 5;
 
 const HEADER: usize = 2 + ERASURE_BYTES;
 
 pub(crate) const RECORD: usize = HEADER + 132;
+
+// The number of bytes of a record.
+pub(crate) fn size_of(k: usize) -> usize
+    requires { ⌜ k ≤ erasureBytes ⌝ }
+    ensures { λ r. ⌜ r ≡ sizeOf k ⌝ }
+{
+    2 + k + 132
+}
 
 // Is every byte x?
 pub(crate) fn all_are(xs: &[u8], x: u8) -> bool
@@ -35,16 +44,15 @@ pub(crate) fn all_are(xs: &[u8], x: u8) -> bool
 }
 
 // Question 4: are the unused erasure bytes 255, and is the tail, from byte `end` on, 0?
-fn padded(bytes: &[u8], count: usize, end: usize) -> bool
-    requires { ⌜ (length (now bytes) ≡ recordSize) × (count ≤ erasureBytes) × (end ≤ recordSize) ⌝ }
+fn padded(bytes: &[u8], k: usize, count: usize, end: usize) -> bool
+    requires { ⌜ (k ≤ erasureBytes) × (length (now bytes) ≡ sizeOf k) × (count ≤ k) × (end ≤ sizeOf k) ⌝ }
     ensures { λ r.
         ⌜
-        r
-        ≡ (allAre 255 (take (erasureBytes - count) (drop (2 + count) (now (bytes .entry)))) && allAre 0 (drop end (now (bytes .entry))))
+        r ≡ (allAre 255 (take (k - count) (drop (2 + count) (now (bytes .entry)))) && allAre 0 (drop end (now (bytes .entry))))
         ⌝ }
 {
     let from = 2 + count;
-    let to = HEADER;
+    let to = 2 + k;
     if all_are(&bytes[from..to], 255) {
         all_are(&bytes[end..], 0)
     } else {
@@ -52,26 +60,55 @@ fn padded(bytes: &[u8], count: usize, end: usize) -> bool
     }
 }
 
-// A record's length, then questions 1, 3 and 4.
+// Question 3's bound: the erasures that the width allows, as far as there are bytes for them.
+fn allowed(width: u8, k: usize) -> usize
+    ensures { λ r. ⌜ r ≡ min k (maxErasures width) ⌝ }
+{
+    if k < 5 { k } else { 5 }
+}
+
+// How many of the questions 1, 3, 4 and 15 a record of the right length passes, put in this order, before the first that it does not.
+// Question 15 allows `most` erasures.
+pub(crate) fn passed(bytes: &[u8], k: usize, most: usize) -> u8
+    requires { ⌜ (k ≤ erasureBytes) × (length (now bytes) ≡ sizeOf k) ⌝ }
+    ensures { λ r. ⌜ r ≡ recordPasses k most (now (bytes .entry)) ⌝ }
+{
+    let width = bytes[0];
+    let n = word_length(width);
+    if n == 0 {
+        return 0;
+    }
+    let count = bytes[1] as usize;
+    if allowed(width, k) < count {
+        return 1;
+    }
+    if !padded(bytes, k, count, 2 + k + n) {
+        return 2;
+    }
+    if most < count { 3 } else { 4 }
+}
+
+// The verdict where so many of them are passed.
+pub(crate) fn verdict_of(count: u8) -> Verdict
+    ensures { λ r. ⌜ r ≡ verdictAt count ⌝ }
+{
+    match count {
+        0 => Verdict::Refused(Question::Width),
+        1 => Verdict::Refused(Question::ErasureCount),
+        2 => Verdict::Refused(Question::Padding),
+        3 => Verdict::Refused(Question::FourErasures),
+        _ => Verdict::Passed,
+    }
+}
+
+// A record's length, then questions 1, 3 and 4. Question 15, with as many erasures as there are bytes for, is passed after question 3.
 fn ask_record(bytes: &[u8]) -> Verdict
     ensures { λ r. ⌜ r ≡ recordAsked (now (bytes .entry)) ⌝ }
 {
     if bytes.len() != RECORD {
         return Verdict::Refused(Question::Length);
     }
-    let n = word_length(bytes[0]);
-    if n == 0 {
-        return Verdict::Refused(Question::Width);
-    }
-    let count = bytes[1] as usize;
-    if 5 < count {
-        return Verdict::Refused(Question::ErasureCount);
-    }
-    if padded(bytes, count, HEADER + n) {
-        Verdict::Passed
-    } else {
-        Verdict::Refused(Question::Padding)
-    }
+    verdict_of(passed(bytes, ERASURE_BYTES, ERASURE_BYTES))
 }
 
 // The erasure bytes.

@@ -13,6 +13,7 @@ use crate::Progress;
 use crate::Totals;
 use crate::cards::is_blank;
 use crate::cards::record_from;
+use crate::records::ERASURE_BYTES;
 use crate::records::RECORD;
 use crate::records::probe;
 use code::Repair;
@@ -211,7 +212,7 @@ fn list_slot(slot: &[u8], done: Listed, out: &mut [u8]) -> Listed
         (further (done .progress) (slotCounted (done .progress .totals) (now (slot .entry)))) (now (out .entry)) r (now (out .exit))
         ⌝ }
 {
-    if is_blank(slot) {
+    if is_blank(slot, ERASURE_BYTES) {
         list_blank(done, out)
     } else {
         list_record(slot, done, out)

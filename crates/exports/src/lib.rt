@@ -8,10 +8,13 @@ ghost use Rattle.code.specs.Call.{displayOf, displayed};
 ghost use Rattle.code.specs.Call.{done, membership, repair, encodeOf, encodeWritten, testOf, readOf, readWritten, restoreOf, restoreWritten};
 ghost use Rattle.card.specs.Record.{recordOf, recordWritten};
 ghost use Rattle.card.specs.Card.{firstRefused};
+ghost use Rattle.card.specs.Conversion.{toNewOf, toNewWritten, toOldOf, toOldWritten};
 ghost use Rattle.sheet.specs.Call.{writeSheetOf, writeSheetWritten, readSheetOf, readSheetWritten};
 ghost use Rattle.exports.specs.Packed.{packed, packedBytes, checked};
 use card::CardCheck;
 use card::cards::check;
+use card::conversion::card_to_new;
+use card::conversion::card_to_old;
 use card::records::restore_record;
 use code::Membership;
 use code::Repair;
@@ -183,6 +186,24 @@ pub extern "C" fn xrs_check_card(card: &[u8]) -> u64
         CardCheck::AllAccepted => 0,
         CardCheck::Refused(k) => k as u64,
     }
+}
+
+// Writes the card of the old edition in today's edition into `out`.
+#[no_mangle]
+pub extern "C" fn xrs_card_to_new(card: &[u8], out: &mut [u8]) -> u32
+    ensures answer { λ r. ⌜ r ≡ packed (toNewOf (now (card .entry)) (now (out .entry))) ⌝ }
+    ensures written { λ r. ⌜ now (out .exit) ≡ toNewWritten (now (card .entry)) (now (out .entry)) ⌝ }
+{
+    pack_verdict(card_to_new(card, out))
+}
+
+// Writes the card in the old edition into `out`.
+#[no_mangle]
+pub extern "C" fn xrs_card_to_old(card: &[u8], out: &mut [u8]) -> u32
+    ensures answer { λ r. ⌜ r ≡ packed (toOldOf (now (card .entry)) (now (out .entry))) ⌝ }
+    ensures written { λ r. ⌜ now (out .exit) ≡ toOldWritten (now (card .entry)) (now (out .entry)) ⌝ }
+{
+    pack_verdict(card_to_old(card, out))
 }
 
 // Writes the day sheet that has these symbols into the word.

@@ -42,6 +42,8 @@ pub enum Question {
     Unused,
     // Is there just one near codeword?
     Unique,
+    // Has every record of the card at most four erasures?
+    FourErasures,
 }
 
 // Every question so far was answered yes, or one was answered no.
@@ -78,6 +80,7 @@ pub fn refusal_number(q: Question) -> u8
         Question::Date => 12,
         Question::Unused => 13,
         Question::Unique => 14,
+        Question::FourErasures => 15,
     }
 }
 

@@ -2,6 +2,7 @@
 //!
 //!     bench words         a line 'NAME WIDTH WRONG MARKS NANOSECONDS' for each kind of word
 //!     bench card FILE     writes a card of 1,000,000 clean records of width 7
+//!     bench convert FILE  a line 'NAME SECONDS 0' for the conversion of that card, in memory, to the old edition and back
 
 #[path = "../../tests/reference/mod.rs"]
 mod reference;
@@ -118,11 +119,33 @@ fn write_card(path: &str) -> std::io::Result<()> {
     card.flush()
 }
 
+/// The least seconds of five runs.
+fn seconds(run: &mut impl FnMut()) -> f64 {
+    let times = (0..5).map(|_| {
+        let start = Instant::now();
+        run();
+        start.elapsed().as_secs_f64()
+    });
+    times.fold(f64::INFINITY, f64::min)
+}
+
+/// Prints what converting the card both ways takes. Fails where it does not come back as it was.
+fn convert_card(path: &str) -> std::io::Result<()> {
+    let card = std::fs::read(path)?;
+    let mut old = vec![0; card.len() / xrs::RECORD_SIZE * xrs::OLD_RECORD_SIZE];
+    let mut back = vec![0; card.len()];
+    println!("to_old {:.4} 0", seconds(&mut || xrs::card_to_old(&card, &mut old).expect("a new card")));
+    println!("to_new {:.4} 0", seconds(&mut || xrs::card_to_new(&old, &mut back).expect("an old card")));
+    assert!(back == card, "the card does not come back as it was");
+    Ok(())
+}
+
 fn main() {
     let arguments: Vec<String> = std::env::args().skip(1).collect();
     match arguments.iter().map(String::as_str).collect::<Vec<_>>()[..] {
         ["words"] => time_words(),
         ["card", path] => write_card(path).expect("the card cannot be written"),
-        _ => panic!("usage: bench words | bench card FILE"),
+        ["convert", path] => convert_card(path).expect("the card cannot be read"),
+        _ => panic!("usage: bench words | bench card FILE | bench convert FILE"),
     }
 }

@@ -82,6 +82,16 @@ pub fn check_card(card: &[u8]) -> Result<(), u64> {
     lend(card, &[], |card, _| Ok(xrs::check_card(card))).0.expect("the card check refuses no card")
 }
 
+/// `xrs::card_to_new` on copies of the slices: its answer, and the output afterwards.
+pub fn card_to_new(card: &[u8], out: &[u8]) -> (Result<(), Refusal>, Vec<u8>) {
+    lend(card, out, xrs::card_to_new)
+}
+
+/// `xrs::card_to_old` on copies of the slices: its answer, and the output afterwards.
+pub fn card_to_old(card: &[u8], out: &[u8]) -> (Result<(), Refusal>, Vec<u8>) {
+    lend(card, out, xrs::card_to_old)
+}
+
 /// `xrs::write_sheet` on copies of the slices: its answer, and the word afterwards.
 pub fn write_sheet(width: u8, symbols: &[u8], word: &[u8]) -> (Result<(), Refusal>, Vec<u8>) {
     lend(symbols, word, |symbols, word| xrs::write_sheet(width, symbols, word))

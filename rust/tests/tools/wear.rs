@@ -1,7 +1,7 @@
 //! Codewords by the reference, and records whose cells wore.
 
 use super::Chance;
-use crate::reference::card::{record, RECORD};
+use crate::reference::card::{record_of, size, MARKS};
 use crate::reference::{encode, items, order, places, WIDTHS};
 
 /// A codeword of random data, by the reference.
@@ -20,17 +20,22 @@ fn mark_count(chance: &mut Chance, width: u8) -> usize {
 
 /// A record whose cells wore: up to five erasures, up to three wrong symbols, and now and then a byte anywhere that is another.
 pub fn worn(chance: &mut Chance, width: u8) -> Vec<u8> {
+    worn_of(chance, MARKS, width)
+}
+
+/// The same with so many mark bytes, and up to as many erasures.
+pub fn worn_of(chance: &mut Chance, mark_bytes: usize, width: u8) -> Vec<u8> {
     let mut word = codeword(chance, width);
-    let marks = mark_count(chance, width);
+    let marks = mark_count(chance, width).min(mark_bytes);
     let marks = chance.places(marks, places(width));
     marks.iter().for_each(|&place| word[place as usize] = chance.below(256) as u8);
     let wrong = chance.below(4);
     for place in chance.places(wrong, places(width)) {
         word[place as usize] ^= 1 + chance.below(order(width) - 1) as u8;
     }
-    let mut bytes = record(width, &word, &marks);
+    let mut bytes = record_of(mark_bytes, width, &word, &marks);
     if chance.below(3) == 0 {
-        let at = [chance.below(9), chance.below(RECORD)][chance.below(2)];
+        let at = [chance.below(9), chance.below(size(mark_bytes))][chance.below(2)];
         bytes[at] = [0, 1, 3, 5, 6, 7, 255, chance.below(256) as u8][chance.below(8)];
     }
     bytes

@@ -1,18 +1,26 @@
 -- `card::cards::is_blank` meets its contract. Assumes nothing.
 use borrow.Author.Needs.{needs}
-use native.Mathlib.Omega.{arith}
+use mathlib.Core.Path.{sym, _∙_}
 use Rattle.card.proofs.Blank.{blank-no, blank-whole}
 use Rattle.card.proofs.cards.is_blank.Statement.{statement}
 use Rattle.card.proofs.cards.is_blank.Tie as tie
 
+size-of-requires : tie.Need-size-of-requires
+size-of-requires c κs = search needs
+
 returns : tie.Need-returns
-returns c = blank-no (c .before .before .args .slot .now) (λ e. omega arith)
+returns c =
+    let a = c .before .before .before .args in
+    blank-no (a .k) (a .slot .now) (λ e. c .if1 .taken (e ∙ sym (c .before .size-of .ensures)))
 
 all-are-requires : tie.Need-all-are-requires
 all-are-requires c κs = search needs
 
 returns-2 : tie.Need-returns-2
-returns-2 c = search (needs, blank-whole)
+returns-2 c =
+    let sized = c .before in
+    let a = sized .before .before .before .args in
+    blank-whole (a .k) (a .slot .now) (c .all-are .result) (sized .if1 .left ∙ sized .before .size-of .ensures) (c .all-are .ensures)
 
 pub is-blank-spec : {M : Type 1} → statement M
-is-blank-spec = tie.close (tie.spec returns all-are-requires returns-2)
+is-blank-spec = tie.close (tie.spec size-of-requires returns all-are-requires returns-2)

@@ -7,6 +7,9 @@ use Rattle.card.proofs.records.padded.Tie as tie
 add-from : tie.Need-add-from
 add-from c = search needs
 
+add-to : tie.Need-add-to
+add-to c = search needs
+
 sub-all-are : tie.Need-sub-all-are
 sub-all-are c = search needs
 
@@ -35,20 +38,22 @@ returns : tie.Need-returns
 returns c =
     let x = c .before .before .before .all-are in
     let s = c .before .before .before .before .before .before in
-    padded-yes (s .args .bytes .now) (s .args .count) (s .args .end) (x .result) _ (s .pre .1) (x .ensures)
+    padded-yes (s .args .k) (s .args .bytes .now) (s .args .count) (s .args .end) (x .result) _ (s .pre .2) (x .ensures)
     (c .before .before .if1 .taken) (c .all-are2 .ensures)
 
 returns-2 : tie.Need-returns-2
 returns-2 c =
     let x = c .before .all-are in
     let s = c .before .before .before .before in
-    padded-no (s .args .bytes .now) (s .args .count) (s .args .end) (x .result) (x .result) (s .pre .1) (x .ensures) (c .if1 .left)
+    padded-no (s .args .k) (s .args .bytes .now) (s .args .count) (s .args .end) (x .result) (x .result) (s .pre .2) (x .ensures)
+    (c .if1 .left)
 
 pub padded-spec : {M : Type 1} → statement M
 padded-spec =
     tie.close
     (tie.spec
     add-from
+    add-to
     sub-all-are
     part-all-are-start
     part-all-are-end

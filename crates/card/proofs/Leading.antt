@@ -1,0 +1,77 @@
+-- How many of a conversion's questions are passed: of one slot, of slot after slot, and the verdict. Assumes nothing.
+use mathlib.Core.Path.{_≡_, refl, sym, ap, ap₂, _∙_}
+use mathlib.Core.Bool.{Bool, true, false, _&&_}
+use mathlib.Core.List.{List, [], _∷_}
+use Prim.Native.Nat.{ℕ, suc, _+_, _≤_, _<_, min}
+use native.Mathlib.Numerals.{add-one}
+use native.Mathlib.Omega.{arith}
+use Rattle.field.specs.Question.{ask}
+use Rattle.field.specs.declared.Question.the-variants.{Width, ErasureCount, Padding, FourErasures}
+use Rattle.field.specs.declared.Verdict.the-variants.{Passed}
+use Rattle.card.specs.Record.{hasWidth, fewIn, paddedIn}
+use Rattle.card.specs.Card.{slotIn, blankIn}
+use Rattle.card.specs.Conversion.{oldErasureBytes, blankOr, every, atMostFour}
+use Rattle.card.proofs.Layouts.{verdict-asked}
+use Rattle.card.specs.Leading.{leading, recordPasses, slotPasses, cardPasses, verdictAt}
+
+-- ---- a slot; b is what `is_blank` says of it
+
+module _ (k : ℕ) (slot : List ℕ) (b : Bool) (eb : b ≡ blankIn k slot) where
+  pub slot-blank : b ≡ true → 4 ≡ slotPasses k slot
+  unfolding slotPasses
+  slot-blank t = let e : blankIn k slot ≡ true = sym eb ∙ t in rw e
+
+  pub slot-record : b ≡ false → (n : ℕ) → n ≡ recordPasses k oldErasureBytes slot → n ≡ slotPasses k slot
+  unfolding slotPasses recordPasses
+  slot-record t n h = let e : blankIn k slot ≡ false = sym eb ∙ t in rw e h
+
+-- ---- slot after slot
+
+-- both pass so many as the one that passes fewer
+both-more : (a b : Bool) (xs ys zs : List Bool) → leading zs ≡ min (leading xs) (leading ys)
+    → leading ((a && b) ∷ zs) ≡ min (leading (a ∷ xs)) (leading (b ∷ ys))
+both-more true true xs ys zs e = omega arith
+both-more true false xs ys zs e = omega arith
+both-more false b xs ys zs e = omega arith
+
+both-pass : (a b c d a′ b′ c′ d′ : Bool)
+    → leading ((a && a′) ∷ (b && b′) ∷ (c && c′) ∷ (d && d′) ∷ []) ≡ min (leading (a ∷ b ∷ c ∷ d ∷ [])) (leading (a′ ∷ b′ ∷ c′ ∷ d′ ∷ []))
+both-pass a b c d a′ b′ c′ d′ =
+    both-more a a′ (b ∷ c ∷ d ∷ []) (b′ ∷ c′ ∷ d′ ∷ []) ((b && b′) ∷ (c && c′) ∷ (d && d′) ∷ [])
+    (both-more b b′ (c ∷ d ∷ []) (c′ ∷ d′ ∷ []) ((c && c′) ∷ (d && d′) ∷ [])
+    (both-more c c′ (d ∷ []) (d′ ∷ []) ((d && d′) ∷ []) (both-more d d′ [] [] [] refl)))
+
+module _ (k : ℕ) (card : List ℕ) where
+  pub passed-start : 4 ≡ cardPasses k card 0
+  unfolding cardPasses every
+  passed-start = refl
+
+  one-more : (n : ℕ) → cardPasses k card (suc n) ≡ min (cardPasses k card n) (slotPasses k (slotIn k card n))
+  unfolding cardPasses slotPasses every
+  one-more n =
+      let e : (List ℕ → Bool) → Bool = λ p. every k p card n in
+      let o : (List ℕ → Bool) → Bool = λ p. blankOr k p (slotIn k card n) in
+      both-pass (e hasWidth) (e (fewIn k)) (e (paddedIn k)) (e atMostFour) (o hasWidth) (o (fewIn k)) (o (paddedIn k)) (o atMostFour)
+
+  -- a is what `passed` says of slot i
+  module _ (i least a : ℕ) (slot : List ℕ) (el : least ≡ cardPasses k card i) (ea : a ≡ slotPasses k slot)
+      (es : slot ≡ slotIn k card i) where
+    on : min least a ≡ cardPasses k card (i + 1)
+    on = rw (add-one i) (ap₂ min el (ea ∙ ap (slotPasses k) es) ∙ sym (one-more i))
+
+    pub passed-fewer : a < least → a ≡ cardPasses k card (i + 1)
+    passed-fewer h = omega (arith, on)
+
+    pub passed-kept : least ≤ a → least ≡ cardPasses k card (i + 1)
+    passed-kept h = omega (arith, on)
+
+-- ---- the verdict
+
+pub verdict-card : (k : ℕ) (card : List ℕ) (n : ℕ)
+    → verdictAt (cardPasses k card n)
+    ≡ ask (every k hasWidth card n) Width
+    (ask (every k (fewIn k) card n) ErasureCount
+    (ask (every k (paddedIn k) card n) Padding (ask (every k atMostFour card n) FourErasures Passed)))
+unfolding cardPasses
+verdict-card k card n =
+    verdict-asked (every k hasWidth card n) (every k (fewIn k) card n) (every k (paddedIn k) card n) (every k atMostFour card n)

@@ -1,0 +1,34 @@
+-- `card::conversion::are_slots` meets its contract. Assumes nothing.
+use borrow.Author.Needs.{needs}
+use mathlib.Core.Path.{ap, _∙_}
+use Prim.Native.Nat.{ℕ, _*_}
+use native.Mathlib.Omega.{arith}
+use lib.Dec.{eqb}
+use Rattle.card.proofs.Slots.{slots-left, slots-other}
+use Rattle.card.proofs.conversion.are_slots.Statement.{statement}
+use Rattle.card.proofs.conversion.are_slots.Tie as tie
+
+size-of-requires : tie.Need-size-of-requires
+size-of-requires c κs = search needs
+
+div-if1 : tie.Need-div-if1
+div-if1 c = search needs
+
+rem-result : tie.Need-rem-result
+rem-result c = search needs
+
+returns : tie.Need-returns
+returns c =
+    let x = c .before .size-of in
+    let a = c .before .before .args in
+    slots-left (a .m) (x .result) (a .n) (c .if1 .taken) ∙ ap (λ (s : ℕ). eqb (a .m) (a .n * s)) (x .ensures)
+
+returns-2 : tie.Need-returns-2
+returns-2 c =
+    let x = c .before .size-of in
+    let a = c .before .before .args in
+    slots-other (a .m) (x .result) (a .n) (omega (arith, x .ensures)) (c .if1 .left)
+    ∙ ap (λ (s : ℕ). eqb (a .m) (a .n * s)) (x .ensures)
+
+pub are-slots-spec : {M : Type 1} → statement M
+are-slots-spec = tie.close (tie.spec size-of-requires div-if1 rem-result returns returns-2)

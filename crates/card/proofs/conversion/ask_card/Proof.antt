@@ -1,0 +1,74 @@
+-- `card::conversion::ask_card` meets its contract. Assumes nothing.
+use borrow.Author.Needs.{needs}
+use mathlib.Core.Path.{_∙_}
+use lib.ListN.{length}
+use Rattle.card.proofs.Converting.{card-whole, lengths-whole, lengths-are, asked-refused, asked-verdict}
+use Rattle.card.proofs.conversion.ask_card.Statement.{statement}
+use Rattle.card.proofs.conversion.ask_card.Tie as tie
+
+size-of-requires : tie.Need-size-of-requires
+size-of-requires c κs = search needs
+
+rem-if1 : tie.Need-rem-if1
+rem-if1 c = search needs
+
+returns : tie.Need-returns
+returns c =
+    let x = c .before .size-of in
+    let a = c .before .before .before .args in
+    asked-refused (a .k) (a .j) (a .card .now) (a .m)
+    (lengths-whole (a .k) (length (a .card .now)) (x .result) (x .ensures) (a .j) (a .m) (c .if1 .taken))
+
+div-n : tie.Need-div-n
+div-n c = search needs
+
+are-slots-requires : tie.Need-are-slots-requires
+are-slots-requires c κs = search needs
+
+all-passed-requires : tie.Need-all-passed-requires
+all-passed-requires c κs =
+    let w = c .before .before in
+    let x = w .before .size-of in
+    let s = w .before .before .before in
+    (s .pre .0, card-whole (s .args .k) (length (s .args .card .now)) (x .result) (x .ensures) (w .if1 .left))
+
+verdict-of-requires : tie.Need-verdict-of-requires
+verdict-of-requires c κs = search needs
+
+returns-2 : tie.Need-returns-2
+returns-2 c =
+    let f = c .before .before .before in
+    let w = f .before in
+    let x = w .before .size-of in
+    let a = w .before .before .before .args in
+    let n = length (a .card .now) in
+    asked-verdict (a .k) (a .j) (a .card .now) (a .m)
+    (lengths-are (a .k) n (x .result) (x .ensures) (a .j) (a .m) (f .are-slots .result) (w .if1 .left) (f .are-slots .ensures)
+    ∙ c .before .before .if2 .taken)
+    (x .result) (x .ensures) (c .before .all-passed .result) (c .before .all-passed .ensures) (c .verdict-of .result)
+    (c .verdict-of .ensures)
+
+returns-3 : tie.Need-returns-3
+returns-3 c =
+    let f = c .before in
+    let w = f .before in
+    let x = w .before .size-of in
+    let a = w .before .before .before .args in
+    let n = length (a .card .now) in
+    asked-refused (a .k) (a .j) (a .card .now) (a .m)
+    (lengths-are (a .k) n (x .result) (x .ensures) (a .j) (a .m) (f .are-slots .result) (w .if1 .left) (f .are-slots .ensures)
+    ∙ c .if2 .left)
+
+pub ask-card-spec : {M : Type 1} → statement M
+ask-card-spec =
+    tie.close
+    (tie.spec
+    size-of-requires
+    rem-if1
+    returns
+    div-n
+    are-slots-requires
+    all-passed-requires
+    verdict-of-requires
+    returns-2
+    returns-3)

@@ -1,0 +1,102 @@
+-- `card::conversion::convert_slot` meets its contract. Assumes nothing.
+use borrow.Author.Needs.{needs}
+use mathlib.Core.Path.{_≡_, sym, _∙_}
+use Prim.Native.Nat.{_+_}
+use native.Mathlib.Omega.{arith}
+use lib.ListN.{length, take, drop}
+use lib.Seq.{length-take-le}
+use Rattle.code.proofs.Loops.{part-drop, two-parts}
+use Rattle.card.proofs.Slots.{header-part}
+use Rattle.card.proofs.conversion.convert_slot.Statement.{statement}
+use Rattle.card.proofs.conversion.convert_slot.Tie as tie
+
+new-header-requires : tie.Need-new-header-requires
+new-header-requires c κs = search needs
+
+add-a : tie.Need-add-a
+add-a c = search needs
+
+add-b : tie.Need-add-b
+add-b c = search needs
+
+slice-relend-prefix-copy : tie.Need-slice-relend-prefix-copy
+slice-relend-prefix-copy c = search needs
+
+slice-aggregate-copy : tie.Need-slice-aggregate-copy
+slice-aggregate-copy c =
+    let s = c .before .before .before .before in
+    sym (length-take-le (2 + s .args .j) (s .args .to .now) (omega arith))
+
+array-share-prefix-header : tie.Need-array-share-prefix-header
+array-share-prefix-header c = search needs
+
+slice-aggregate-copy-2 : tie.Need-slice-aggregate-copy-2
+slice-aggregate-copy-2 c =
+    let header = c .before .before .new-header .result in
+    let s = c .before .before .before .before .before in
+    let l : 7 ≡ length header = search needs in
+    sym (length-take-le (2 + s .args .j) header (omega arith))
+
+copy-requires : tie.Need-copy-requires
+copy-requires c κs =
+    let header = c .before .before .new-header .result in
+    let s = c .before .before .before .before .before in
+    let l : 7 ≡ length header = search needs in
+    length-take-le (2 + s .args .j) (s .args .to .now) (omega arith) ∙ sym (length-take-le (2 + s .args .j) header (omega arith))
+
+sub-copy : tie.Need-sub-copy
+sub-copy c = search needs
+
+part-copy-start : tie.Need-part-copy-start
+part-copy-start c = search needs
+
+part-copy-end : tie.Need-part-copy-end
+part-copy-end c = search needs
+
+sub-copy-2 : tie.Need-sub-copy-2
+sub-copy-2 c = search needs
+
+part-copy-start-2 : tie.Need-part-copy-start-2
+part-copy-start-2 c = search needs
+
+part-copy-end-2 : tie.Need-part-copy-end-2
+part-copy-end-2 c = search needs
+
+copy-requires-2 : tie.Need-copy-requires-2
+copy-requires-2 c κs = search needs
+
+same-length : tie.Need-same-length
+same-length c = search needs
+
+returns : tie.Need-returns
+returns c =
+    let u = c .before .before .before .before .before .before .before in
+    let h = u .before .before .before .new-header in
+    let s = u .before .before .before .before .before .before in
+    let a = s .args in
+    let l : 7 ≡ length (h .result) = search needs in
+    two-parts (2 + a .j) (a .to .now) (take (2 + a .j) (h .result)) (drop (2 + a .k) (a .from .now)) _ _ (u .copy .ensures)
+    (c .before .before .copy2 .ensures ∙ part-drop (2 + a .k) (a .from .now)) (length-take-le (2 + a .j) (h .result) (omega arith))
+    ∙ header-part (a .k) (a .j) (s .pre .0 .0) (s .pre .0 .1) (s .pre .0 .2) (a .from .now) (h .result) (s .pre .1 .0) (h .ensures)
+
+pub convert-slot-spec : {M : Type 1} → statement M
+convert-slot-spec =
+    tie.close
+    (tie.spec
+    new-header-requires
+    add-a
+    add-b
+    slice-relend-prefix-copy
+    slice-aggregate-copy
+    array-share-prefix-header
+    slice-aggregate-copy-2
+    copy-requires
+    sub-copy
+    part-copy-start
+    part-copy-end
+    sub-copy-2
+    part-copy-start-2
+    part-copy-end-2
+    copy-requires-2
+    same-length
+    returns)

@@ -1,0 +1,156 @@
+-- `card::conversion::convert_slots` meets its contract. Before turn i the first i slots are written. Assumes nothing.
+use borrow.Author.Needs.{needs}
+use mathlib.Core.Path.{_≡_, refl, ap, _∙_}
+use mathlib.Core.List.{_++_}
+use Prim.Native.Nat.{_+_, _-_, _*_, _≤_}
+use native.Mathlib.Omega.{arith}
+use lib.ListN.{length, drop}
+use Rattle.card.specs.Record.{sizeOf}
+use Rattle.card.specs.Conversion.{converted, convertedSlots}
+use Rattle.card.proofs.Slots.{slot-size, slot-room, slot-part, converted-size, converted-start, converted-on, converted-end}
+use Rattle.card.proofs.conversion.convert_slots.Statement.{statement}
+use Rattle.card.proofs.conversion.convert_slots.Tie as tie
+
+abbrev Inv-loop : tie.InvT-loop
+Inv-loop card k out₀ j n size other i₀ out i =
+    (i ≤ n) × (length out ≡ length out₀) × (out ≡ convertedSlots k j card i ++ drop (i * sizeOf j) out₀)
+
+abbrev μ-loop : tie.MeasureT-loop
+μ-loop card k out₀ j n size other i₀ out i = n - i
+
+-- slot i is inside the card, and inside the output
+room : (c : tie.In-loop Inv-loop μ-loop)
+    → c .before .loop .i * c .before .before .before .size-of .result + c .before .before .before .size-of .result
+    ≤ length (c .before .before .before .before .before .before .args .card .now)
+room c =
+    let x = c .before .before .before .size-of in
+    let s = c .before .before .before .before .before .before in
+    slot-room (s .args .k) (s .args .card .now) (s .args .n) (s .pre .1 .0) (c .before .loop .i) (c .loop-test .taken) (x .result)
+    (x .ensures)
+
+room-out : (c : tie.In-loop Inv-loop μ-loop)
+    → c .before .loop .i * c .before .before .size-of2 .result + c .before .before .size-of2 .result ≤ length (c .before .loop .out)
+room-out c =
+    let x = c .before .before .size-of2 in
+    let s = c .before .before .before .before .before .before in
+    slot-room (s .args .j) (c .before .loop .out) (s .args .n) (c .before .loop .inv .1 ∙ s .pre .1 .1) (c .before .loop .i)
+    (c .loop-test .taken) (x .result) (x .ensures)
+
+size-of-requires : tie.Need-size-of-requires Inv-loop μ-loop
+size-of-requires c κs = search needs
+
+size-of-requires-2 : tie.Need-size-of-requires-2 Inv-loop μ-loop
+size-of-requires-2 c κs = search needs
+
+loop-holds : tie.Need-loop-holds Inv-loop μ-loop
+loop-holds c =
+    let a = c .before .before .before .before .args in
+    (omega arith, refl, converted-start (a .k) (a .j) (a .card .now) (a .out .now))
+
+mul-at : tie.Need-mul-at Inv-loop μ-loop
+mul-at c = omega (arith, room c)
+
+add-end : tie.Need-add-end Inv-loop μ-loop
+add-end c = omega (arith, room c)
+
+mul-to : tie.Need-mul-to Inv-loop μ-loop
+mul-to c = omega (arith, room-out c)
+
+add-stop : tie.Need-add-stop Inv-loop μ-loop
+add-stop c = omega (arith, room-out c)
+
+sub-convert-slot : tie.Need-sub-convert-slot Inv-loop μ-loop
+sub-convert-slot c = search needs
+
+part-convert-slot-start : tie.Need-part-convert-slot-start Inv-loop μ-loop
+part-convert-slot-start c = search needs
+
+part-convert-slot-end : tie.Need-part-convert-slot-end Inv-loop μ-loop
+part-convert-slot-end c = omega (arith, room c)
+
+sub-convert-slot-2 : tie.Need-sub-convert-slot-2 Inv-loop μ-loop
+sub-convert-slot-2 c = search needs
+
+part-convert-slot-start-2 : tie.Need-part-convert-slot-start-2 Inv-loop μ-loop
+part-convert-slot-start-2 c = search needs
+
+part-convert-slot-end-2 : tie.Need-part-convert-slot-end-2 Inv-loop μ-loop
+part-convert-slot-end-2 c = omega (arith, room-out (c .before))
+
+convert-slot-requires : tie.Need-convert-slot-requires Inv-loop μ-loop
+convert-slot-requires c κs =
+    let t = c .before .before .before in
+    let s = t .before .before .before .before .before in
+    let a = s .args in
+    let x = t .before .before .size-of in
+    let y = t .before .size-of2 in
+    let i = t .loop .i in
+    let h = c .before .before .loop-test .taken in
+    let l = t .loop .inv .1 ∙ s .pre .1 .1 in (
+      s .pre .0,
+      (
+        ap length (slot-part (a .k) (a .card .now) (a .n) (s .pre .1 .0) i h (x .result) (x .ensures))
+            ∙ slot-size (a .k) (a .card .now) (a .n) (s .pre .1 .0) i h,
+        ap length (slot-part (a .j) (t .loop .out) (a .n) l i h (y .result) (y .ensures)) ∙ slot-size (a .j) (t .loop .out) (a .n) l i h,
+      ),
+    )
+
+add-i : tie.Need-add-i Inv-loop μ-loop
+add-i c = search needs
+
+loop-less : tie.Need-loop-less Inv-loop μ-loop
+loop-less c = search needs
+
+loop-again : tie.Need-loop-again Inv-loop μ-loop
+loop-again c =
+    let t = c .before .before .before .before .before .before in
+    let s = t .before .before .before .before .before in
+    let a = s .args in
+    let x = t .before .before .size-of in
+    let y = t .before .size-of2 in
+    let i = t .loop .i in
+    let h = c .before .before .before .before .before .loop-test .taken in
+    let part = slot-part (a .k) (a .card .now) (a .n) (s .pre .1 .0) i h (x .result) (x .ensures) in (
+      omega arith,
+      omega arith,
+      converted-on (a .k) (a .j) (a .card .now) (converted-size (a .k) (a .j) (s .pre .0 .0) (s .pre .0 .1) (s .pre .0 .2)) (a .n)
+          (s .pre .1 .0) i h (y .result) (y .ensures) (a .out .now) (t .loop .out) _ (t .loop .inv .2)
+          (c .before .before .convert-slot .ensures ∙ ap (converted (a .k) (a .j)) part),
+    )
+
+same-length : tie.Need-same-length Inv-loop μ-loop
+same-length c = search needs
+
+returns : tie.Need-returns Inv-loop μ-loop
+returns c =
+    let s = c .before .before .before .before .before .before in
+    let a = s .args in
+    let all : c .before .loop .i ≡ a .n = omega arith in
+    converted-end (a .k) (a .j) (a .card .now) (a .n) (a .out .now) (c .before .loop .out) (s .pre .1 .1)
+    (rw all at (c .before .loop .inv .2))
+
+pub convert-slots-spec : {M : Type 1} → statement M
+convert-slots-spec =
+    tie.close
+    (tie.spec
+    Inv-loop
+    μ-loop
+    size-of-requires
+    size-of-requires-2
+    loop-holds
+    mul-at
+    add-end
+    mul-to
+    add-stop
+    sub-convert-slot
+    part-convert-slot-start
+    part-convert-slot-end
+    sub-convert-slot-2
+    part-convert-slot-start-2
+    part-convert-slot-end-2
+    convert-slot-requires
+    add-i
+    loop-less
+    loop-again
+    same-length
+    returns)
