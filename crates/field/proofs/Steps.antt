@@ -9,7 +9,7 @@ use lib.Pow.{pow-pos}
 use borrow.Author.Tests.{lt-ltb, le-ltb}
 use Rattle.field.specs.Polynomial.{add, carryless}
 use Rattle.field.proofs.Polynomial.{add-comm, add-assoc, add-zero-r, carryless-step, carryless-twice-r, Digit, Digit.off, Digit.on, digit}
-use Rattle.field.specs.Field.{order, polynomial, reduce, double, remainder, product, power, α}
+use Rattle.field.specs.Field.{order, polynomial, reduce, double, remainder, product, power, inverse, α}
 use Rattle.field.specs.Question.{isWidth}
 use Rattle.field.proofs.Widths.{order-small}
 use Rattle.field.proofs.Laws.{IsField}
@@ -112,3 +112,19 @@ power-exponent m F a e i ea =
 pub zero-power-ne : (m e : ℕ) → e ≢ 0 → power m 0 e ≡ 0
 zero-power-ne m zero n = absurd (n refl)
 zero-power-ne m (suc e) n = zero-power m e
+
+-- the inverse by the exponent of α: the two exponents make q-1
+pub inverse-exponent : (m : ℕ) → IsField m → (a i : ℕ) → a < order m → i ≤ order m - 1 → power m α i ≡ a
+    → power m α (order m - 1 - i) ≡ inverse m a
+inverse-exponent m F a i l h e =
+    F .product-cancel a (power m α (order m - 1 - i)) (inverse m a) n l (F .power-lt α (order m - 1 - i)) (F .inverse-lt a)
+    (sym (product-exponents m F a (power m α (order m - 1 - i)) i (order m - 1 - i) e refl)
+    ∙ ap (power m α) (whole i (order m - 1) h)
+    ∙ F .α-cycle
+    ∙ sym (F .product-inverse a n l))
+  where
+    n : a ≢ 0
+    n z = F .α-nonzero i (e ∙ z)
+
+    whole : (x y : ℕ) → x ≤ y → x + (y - x) ≡ y
+    whole x y h = omega arith

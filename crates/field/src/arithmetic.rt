@@ -137,13 +137,18 @@ pub fn raise(width: u8, a: u8, e: Exponent) -> u8
     }
 }
 
-// The power q-2: the inverse of a symbol other than 0.
+// The inverse of a symbol other than 0: at width 7 by the exponent of α that makes q-1 with its own, at the others the power q-2.
 pub fn invert(width: u8, a: u8) -> u8
     ensures { λ r. ⌜ r ≡ inverted width a ⌝ }
 {
     match width {
         3 => raise(3, a, Exponent(8 - 2)),
         5 => raise(5, a, Exponent(32 - 2)),
-        _ => raise(7, a, Exponent(128 - 2)),
+        _ => {
+            if a % 128 == 0 {
+                return 0;
+            }
+            power_of_alpha(Exponent(127 - logarithm(a).0))
+        }
     }
 }
