@@ -184,13 +184,15 @@ static const uint8_t c_4[12] = {1, 6, 2, 7, 4, 0, 0, 0, 0, 1, 0, 0};
  * The cases F to N of document 01, what it says of marks and symbols, and the five marks of document 02, all at width 3. A word without
  * `after` stays as it was.
  */
-static const struct {
+typedef struct {
     const char *name;
     uint8_t word[12], marks[6];
     size_t count;
     uint32_t refusal, changed;
     const uint8_t *after;
-} cases[] = {
+} restore_case;
+
+static const restore_case cases[] = {
     {"case F", {0, 0, 0, 0, 0, 1}, {0}, 0, XRS_ACCEPTED, 1, words[0]},
     {"case G", {7, 0, 0, 0, 0, 7}, {0}, 0, XRS_ACCEPTED, 2, words[0]},
     {"case H", {1, 1, 1}, {0}, 0, XRS_REFUSED_CORRECTABLE, 0, NULL},
@@ -224,16 +226,48 @@ static const char *after_call(const char *what) {
     return name;
 }
 
+/* A codeword. In the cases "too far" zeros were written, three symbols are wrong, and this one is two symbols away. */
+static const uint8_t another[12] = {0, 0, 6, 0, 4, 1, 2, 0, 3, 0, 0, 0};
+
+/* The same with a reach. */
+static const struct {
+    uint8_t reach;
+    restore_case what;
+} reach_cases[] = {
+    {0, {"case F at the reach 0", {0, 0, 0, 0, 0, 1}, {0}, 0, XRS_REFUSED_CORRECTABLE, 0, NULL}},
+    {1, {"case F at the reach 1", {0, 0, 0, 0, 0, 1}, {0}, 0, XRS_ACCEPTED, 1, words[0]}},
+    {1, {"case G at the reach 1", {7, 0, 0, 0, 0, 7}, {0}, 0, XRS_REFUSED_CORRECTABLE, 0, NULL}},
+    {2, {"case G at the reach 2", {7, 0, 0, 0, 0, 7}, {0}, 0, XRS_ACCEPTED, 2, words[0]}},
+    {1, {"too far at the reach 1", {0, 0, 6, 0, 4, 1}, {0}, 0, XRS_REFUSED_CORRECTABLE, 0, NULL}},
+    {2, {"too far at the reach 2", {0, 0, 6, 0, 4, 1}, {0}, 0, XRS_ACCEPTED, 2, another}},
+    {3, {"case H at the reach 3", {1, 1, 1}, {0}, 0, XRS_REFUSED_REACH, 0, NULL}},
+    {255, {"case H at the reach 255", {1, 1, 1}, {0}, 0, XRS_REFUSED_REACH, 0, NULL}},
+    {2, {"the reach 2 with one mark", {0}, {5}, 1, XRS_REFUSED_REACH, 0, NULL}},
+    {1, {"the reach 1 with two marks", {0, 0, 0, 0, 0, 0, 0, 5}, {0, 1}, 2, XRS_ACCEPTED, 1, words[0]}},
+    {1, {"the reach 1 with three marks", {0}, {0, 1, 2}, 3, XRS_REFUSED_REACH, 0, NULL}},
+    {0, {"the reach 0 with five marks", {0}, {2, 4, 5, 6, 8}, 5, XRS_REFUSED_UNIQUE, 0, NULL}},
+    {1, {"the reach 1 with five marks", {0}, {2, 4, 5, 6, 8}, 5, XRS_REFUSED_REACH, 0, NULL}},
+    {255, {"the symbol 8 at the reach 255", {8}, {0}, 0, XRS_REFUSED_SYMBOL, 0, NULL}},
+    {255, {"six marks at the reach 255", {8}, {12, 12, 12, 12, 12, 12}, 6, XRS_REFUSED_ERASURE_COUNT, 0, NULL}},
+};
+
+/* One case, without a reach where it is negative. */
+static void restores(const restore_case *what, int reach) {
+    lent word, marks;
+    uint8_t *symbols = lend(&word, what->word, 12), *places = lend(&marks, what->marks, what->count);
+    uint32_t answer = reach < 0 ? xrs_restore_word(3, symbols, 12, places, what->count)
+                                : xrs_restore_word_within(3, symbols, 12, places, what->count, (uint8_t)reach);
+    answers(what->name, answer, what->refusal, what->changed);
+    check(after_call(what->name), holds(&word, what->after ? what->after : what->word) && holds(&marks, what->marks));
+}
+
 static void restore_cases(void) {
     size_t i;
-    lent word, marks;
     for (i = 0; i < sizeof cases / sizeof *cases; i++) {
-        const uint8_t *after = cases[i].after ? cases[i].after : cases[i].word;
-        lend(&word, cases[i].word, 12);
-        lend(&marks, cases[i].marks, cases[i].count);
-        answers(cases[i].name, xrs_restore_word(3, word.bytes + RIM, 12, marks.bytes + RIM, cases[i].count), cases[i].refusal,
-            cases[i].changed);
-        check(after_call(cases[i].name), holds(&word, after) && holds(&marks, cases[i].marks));
+        restores(&cases[i], -1);
+    }
+    for (i = 0; i < sizeof reach_cases / sizeof *reach_cases; i++) {
+        restores(&reach_cases[i].what, reach_cases[i].reach);
     }
 }
 
@@ -326,7 +360,13 @@ static void records(void) {
     make_record(old, worn, one, 1);
     answers("restore a record", xrs_restore_record(lend(&slice, old, 139), 139), XRS_ACCEPTED, 1);
     check("a restored record has no marks", holds(&slice, clean));
+    answers("restore a record at the reach 2", xrs_restore_record_within(lend(&slice, old, 139), 139, 2), XRS_REFUSED_REACH, 0);
+    answers("restore a record at the reach 0", xrs_restore_record_within(slice.bytes + RIM, 139, 0), XRS_REFUSED_CORRECTABLE, 0);
+    check("a record with more than the reach allows stays", holds(&slice, old));
+    answers("restore a record at the reach 1", xrs_restore_record_within(slice.bytes + RIM, 139, 1), XRS_ACCEPTED, 1);
+    check("a record restored at a reach has no marks", holds(&slice, clean));
     old[0] = 6;
+    answers("restore a short record of width 6 at the reach 255", xrs_restore_record_within(old, 138, 255), XRS_REFUSED_LENGTH, 0);
     answers("restore a short record of width 6", xrs_restore_record(lend(&slice, old, 138), 138), XRS_REFUSED_LENGTH, 0);
     answers("restore a long record", xrs_restore_record(lend(&slice, old, 140), 140), XRS_REFUSED_LENGTH, 0);
     old[1] = 6;

@@ -6,7 +6,7 @@
  *
  * Answers: every call but xrs_check_card has a refusal in the lowest byte of what it returns. The refusal is 0 where the call was accepted;
  * otherwise it is that of the first question answered no, and the bytes above are 0. The questions are put in the order 1, 2, 3, 8, 15, 4,
- * 5, 6, 7, 14, 9, 10, 11, 12, 13 of their refusals, each for all its items before the next; of a record or a card 2 comes before 1.
+ * 5, 6, 16, 7, 14, 9, 10, 11, 12, 13 of their refusals, each for all its items before the next; of a record or a card 2 comes before 1.
  * XRS_REFUSAL gives the refusal. In an answer of 32 bits the rest is one value, which XRS_VALUE gives; in an answer of 64 bits each byte is
  * a value of its own, which XRS_BYTE gives.
  *
@@ -46,7 +46,8 @@ enum xrs_refusal {
     XRS_REFUSED_DATE = 12,            /* the date of a day sheet does not exist */
     XRS_REFUSED_UNUSED = 13,          /* a day sheet's symbols c_100 to c_126 are not zero */
     XRS_REFUSED_UNIQUE = 14,          /* several codewords agree with the word outside five erasures */
-    XRS_REFUSED_FOUR_ERASURES = 15    /* a record has five erasures, and one of the old edition has room for four */
+    XRS_REFUSED_FOUR_ERASURES = 15,   /* a record has five erasures, and one of the old edition has room for four */
+    XRS_REFUSED_REACH = 16            /* the reach is longer than the one that holds without a reach */
 };
 
 /* The refusal of an answer, of 32 or of 64 bits. */
@@ -97,6 +98,14 @@ uint64_t xrs_syndromes(uint8_t width, const uint8_t *word, size_t word_length, c
  */
 uint32_t xrs_restore_word(uint8_t width, uint8_t *word, size_t word_length, const uint8_t *marks, size_t marks_length);
 
+/*
+ * xrs_restore_word that looks no further than the reach: the near codeword differs at no more unmarked places. The longest reach is the one
+ * of xrs_restore_word, and a longer one is refused with 16. With up to four marks, and no more than 4 - marks_length - reach unmarked symbols
+ * wrong, the codeword that was written comes back or the call is refused with 7; another never comes.
+ */
+uint32_t xrs_restore_word_within(
+    uint8_t width, uint8_t *word, size_t word_length, const uint8_t *marks, size_t marks_length, uint8_t reach);
+
 /* ---- The card. */
 
 /*
@@ -110,6 +119,9 @@ uint32_t xrs_restore_word(uint8_t width, uint8_t *word, size_t word_length, cons
  * unmarked places changed, 0 to 2. Refused with 1 to 8 and 14. A blank slot is refused with 1.
  */
 uint32_t xrs_restore_record(uint8_t *record, size_t record_length);
+
+/* xrs_restore_record that looks no further than the reach, as xrs_restore_word_within does. */
+uint32_t xrs_restore_record_within(uint8_t *record, size_t record_length, uint8_t reach);
 
 /*
  * Would every record of the card be accepted by xrs_restore_record? Returns 0 for yes, else the number of the first record that would not

@@ -36,6 +36,8 @@ pub enum Refusal {
     Unique,
     /// A record has five erasures, and one of the old edition has room for four.
     FourErasures,
+    /// The reach is longer than the one that holds without a reach.
+    Reach,
     /// A refusal number that stands at none of the others. The archive that this crate was written for gives none.
     Unknown(u8),
 }
@@ -59,6 +61,7 @@ impl Refusal {
             Refusal::Unused => 13,
             Refusal::Unique => 14,
             Refusal::FourErasures => 15,
+            Refusal::Reach => 16,
             Refusal::Unknown(number) => number,
         }
     }
@@ -73,7 +76,7 @@ impl Refusal {
     pub fn from_number(number: u8) -> Option<Refusal> {
         use Refusal::*;
         let base = [Width, Length, ErasureCount, ErasurePlace, ErasureDistinct, Symbol, Correctable, Padding, Syndrome, Nonzero];
-        let mut known = base.into_iter().chain([SheetWidth, Date, Unused, Unique, FourErasures]);
+        let mut known = base.into_iter().chain([SheetWidth, Date, Unused, Unique, FourErasures, Reach]);
         let found = known.find(|refusal| refusal.number() == number);
         found.or((number != 0).then_some(Unknown(number)))
     }
@@ -104,6 +107,7 @@ impl std::fmt::Display for Refusal {
             Refusal::Unused => "a day sheet's symbols c_100 to c_126 are not zero",
             Refusal::Unique => "several codewords agree with the word outside the erasures",
             Refusal::FourErasures => "a record has five erasures, and one of the old edition has room for four",
+            Refusal::Reach => "the reach is longer than the one that holds without a reach",
             Refusal::Unknown(number) => return write!(out, "refused with the number {number}, which is not known here"),
         })
     }
@@ -122,7 +126,16 @@ mod raw {
         pub fn xrs_read_data(width: u8, word: *const u8, word_length: usize, data: *mut u8, data_length: usize) -> u32;
         pub fn xrs_syndromes(width: u8, word: *const u8, word_length: usize, marks: *const u8, marks_length: usize) -> u64;
         pub fn xrs_restore_word(width: u8, word: *mut u8, word_length: usize, marks: *const u8, marks_length: usize) -> u32;
+        pub fn xrs_restore_word_within(
+            width: u8,
+            word: *mut u8,
+            word_length: usize,
+            marks: *const u8,
+            marks_length: usize,
+            reach: u8,
+        ) -> u32;
         pub fn xrs_restore_record(record: *mut u8, record_length: usize) -> u32;
+        pub fn xrs_restore_record_within(record: *mut u8, record_length: usize, reach: u8) -> u32;
         pub fn xrs_check_card(card: *const u8, card_length: usize) -> u64;
         pub fn xrs_card_to_new(card: *const u8, card_length: usize, out: *mut u8, out_length: usize) -> u32;
         pub fn xrs_card_to_old(card: *const u8, card_length: usize, out: *mut u8, out_length: usize) -> u32;
@@ -272,6 +285,26 @@ pub fn restore_word(width: u8, word: &mut [u8], marks: &[u8]) -> Result<u8, Refu
     unpack(unsafe { raw::xrs_restore_word(width, word.as_mut_ptr(), word.len(), marks.as_ptr(), marks.len()) }).map(|count| count as u8)
 }
 
+/// `restore_word` that looks no further than `reach`: no more unmarked places are changed, and a word for which more would have to be is
+/// refused. The longest reach is the one that `restore_word` has: (4 - `marks.len()`) / 2 rounded down, and 0 with five marks.
+///
+/// A word with more wrong symbols than can be undone may be near another codeword than the one that was written. A shorter reach makes this
+/// rarer. With up to four marks, and no more than 4 - `marks.len()` - `reach` unmarked symbols wrong, the codeword that was written comes
+/// back or the call is refused with `Refusal::Correctable`; another never comes.
+///
+/// ```
+/// // Zeros were written, and three symbols are wrong.
+/// let mut word = [0, 0, 6, 0, 4, 1, 0, 0, 0, 0, 0, 0];
+/// assert_eq!(xrs::restore_word_within(3, &mut word, &[], 1), Err(xrs::Refusal::Correctable));
+/// assert_eq!(xrs::restore_word_within(3, &mut word, &[], 3), Err(xrs::Refusal::Reach));
+/// assert_eq!(xrs::restore_word_within(3, &mut word, &[], 2), Ok(2));
+/// assert_eq!(word, [0, 0, 6, 0, 4, 1, 2, 0, 3, 0, 0, 0]); // another codeword
+/// ```
+pub fn restore_word_within(width: u8, word: &mut [u8], marks: &[u8], reach: u8) -> Result<u8, Refusal> {
+    let packed = unsafe { raw::xrs_restore_word_within(width, word.as_mut_ptr(), word.len(), marks.as_ptr(), marks.len(), reach) };
+    unpack(packed).map(|count| count as u8)
+}
+
 /// Bytes of a record: the width, the number of marks, five bytes for the marks (255 where unused), the word, and zeros.
 pub const RECORD_SIZE: usize = 139;
 
@@ -293,6 +326,20 @@ pub const RECORD_SIZE: usize = 139;
 /// ```
 pub fn restore_record(record: &mut [u8]) -> Result<u8, Refusal> {
     unpack(unsafe { raw::xrs_restore_record(record.as_mut_ptr(), record.len()) }).map(|count| count as u8)
+}
+
+/// `restore_record` that looks no further than `reach`, as `restore_word_within` does.
+///
+/// ```
+/// let mut record = [0; xrs::RECORD_SIZE];
+/// record[..7].copy_from_slice(&[3, 1, 7, 255, 255, 255, 255]);
+/// record[7 + 11] = 5; // a wrong symbol
+/// assert_eq!(xrs::restore_record_within(&mut record, 2), Err(xrs::Refusal::Reach));
+/// assert_eq!(xrs::restore_record_within(&mut record, 0), Err(xrs::Refusal::Correctable));
+/// assert_eq!(xrs::restore_record_within(&mut record, 1), Ok(1));
+/// ```
+pub fn restore_record_within(record: &mut [u8], reach: u8) -> Result<u8, Refusal> {
+    unpack(unsafe { raw::xrs_restore_record_within(record.as_mut_ptr(), record.len(), reach) }).map(|count| count as u8)
 }
 
 /// Would every record of the card be accepted by `restore_record`? If not, the `Err` holds the number of the first that would not be,

@@ -27,7 +27,7 @@ impl Way {
             _ => (card_to_old as fn(&[u8], &[u8]) -> _, card::to_old(card, out.len())),
         };
         let found = convert(card, out);
-        let wanted = refusal(wanted).map_or_else(|refused| (Err(refused), out.to_vec()), |converted| (Ok(()), converted));
+        let wanted = tools::wanted(wanted.map(|converted| ((), converted)), out);
         assert!(found == wanted, "{self:?}, {card:?}: {found:?}, not {wanted:?}");
         found
     }
@@ -238,7 +238,7 @@ fn converted_records_are_restored_alike() {
         let old = worn_of(&mut chance, OLD_MARKS, WIDTHS[round % WIDTHS.len()]);
         let (Ok(()), new) = NEW.convert(&old) else { continue };
         let (answer, after) = restore_record(&new);
-        match refusal(restore_of(OLD_MARKS, &old)) {
+        match refusal(restore_of(OLD_MARKS, &old, None)) {
             Ok((changed, restored)) => assert_eq!((answer, after), (Ok(changed), NEW.convert(&restored).1)),
             Err(refused) => assert_eq!(answer, Err(refused)),
         }

@@ -99,3 +99,21 @@ fn f_old_cards_into_new() {
     assert_eq!((with(&[(6, 5), (140, 6)]), with(&[(19, 1), (140, 6), (139, 9)])), (Err(3), Err(1)));
     assert_eq!((card::to_new(&old, 277), card::to_new(&old[1..], 278), card::to_old(&[], 0)), (Err(2), Err(2), Ok(vec![])));
 }
+
+#[test]
+fn h_a_shorter_reach() {
+    let at = |reach: u8, symbols: &[(usize, u8)], marks: &[u8]| {
+        search::restore_at(3, &zeros_but(symbols), marks, Some(reach)).map(|(changed, _)| changed)
+    };
+    assert_eq!((at(0, &[(5, 1)], &[]), at(1, &[(5, 1)], &[])), (Err(7), Ok(1)), "case F");
+    assert_eq!((at(1, &[(0, 7), (5, 7)], &[]), at(2, &[(0, 7), (5, 7)], &[])), (Err(7), Ok(2)), "case G");
+    for (count, longest) in [2, 1, 1, 0, 0, 0].into_iter().enumerate() {
+        assert_eq!(at(longest, &[], &[0, 1, 2, 3, 4][..count]), Ok(0), "{count} marks");
+        assert_eq!(at(longest + 1, &[], &[0, 1, 2, 3, 4][..count]), Err(16), "{count} marks");
+    }
+    assert_eq!((at(3, &[(0, 1), (1, 1), (2, 1)], &[]), at(3, &[(0, 8)], &[])), (Err(16), Err(6)));
+    assert_eq!((at(0, &[], &[2, 4, 5, 6, 8]), at(1, &[], &[2, 4, 5, 6, 8])), (Err(14), Err(16)));
+    let three_wrong = card::record(3, &zeros_but(&[(0, 1), (1, 1), (2, 1)]), &[]);
+    let within = |reach| card::restore_of(card::MARKS, &three_wrong, Some(reach));
+    assert_eq!((within(2), within(3)), (Err(7), Err(16)));
+}

@@ -5,17 +5,14 @@ mod tools;
 
 use reference::card::{check, record, restore, HEADER, RECORD};
 use tools::wear::{codeword, worn};
-use tools::{check_card, refusal, restore_record, Chance};
+use tools::{check_card, restore_record, wanted, Chance};
 use xrs::Refusal;
 
 const WIDTHS: [u8; 3] = [3, 5, 7];
 
 /// Fails unless the answer and the bytes afterwards are those of the reference.
 fn compare(old: &[u8]) -> Result<u8, Refusal> {
-    let wanted = match refusal(restore(old)) {
-        Ok((changed, new)) => (Ok(changed), new),
-        Err(refused) => (Err(refused), old.to_vec()),
-    };
+    let wanted = wanted(restore(old), old);
     let found = restore_record(old);
     assert!(found == wanted, "{old:?}: {found:?}, not {wanted:?}");
     found.0

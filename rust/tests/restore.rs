@@ -3,39 +3,25 @@
 mod reference;
 mod tools;
 
-use reference::{items, order, places, raise, search};
-use tools::wear::codeword as random_codeword;
-use tools::{refusal, restore_word, restore_word_within, Chance};
-use xrs::Refusal::{self, Correctable, ErasureCount, ErasureDistinct, ErasurePlace, Length, Symbol, Unique, Width};
+use reference::{order, places, search};
+use tools::wear::{codeword as random_codeword, dependent, spoiled, with_any_bytes, word_of_syndromes};
+use tools::{restore_word, restore_word_inside, restore_word_within, wanted, Chance, Restored};
+use xrs::Refusal::{self, Correctable, ErasureCount, ErasureDistinct, ErasurePlace, Length, Reach, Symbol, Unique, Width};
 
 const WIDTHS: [u8; 3] = [3, 5, 7];
 const BAD_WIDTHS: [u8; 8] = [0, 1, 2, 4, 6, 8, 128, 255];
 
-type Answer = (Result<u8, Refusal>, Vec<u8>);
-
 /// Fails unless the answer and the bytes afterwards are those of the reference.
-fn compare(width: u8, word: &[u8], marks: &[u8], (answer, after): &Answer) {
-    let wanted = match refusal(search::restore(width, word, marks)) {
-        Ok((count, restored)) => (Ok(count), restored),
-        Err(refused) => (Err(refused), word.to_vec()),
-    };
-    assert!((answer, after) == (&wanted.0, &wanted.1), "width {width}, marks {marks:?}, {word:?}: {answer:?}, {after:?}, not {wanted:?}");
+fn compare(width: u8, word: &[u8], marks: &[u8], found: &Restored) {
+    let wanted = wanted(search::restore(width, word, marks), word);
+    assert!(*found == wanted, "width {width}, marks {marks:?}, {word:?}: {found:?}, not {wanted:?}");
 }
 
 /// The restorer's answer and the word afterwards, compared with the reference.
-fn restored(width: u8, word: &[u8], marks: &[u8]) -> Answer {
+fn restored(width: u8, word: &[u8], marks: &[u8]) -> Restored {
     let result = restore_word(width, word, marks);
     compare(width, word, marks, &result);
     result
-}
-
-/// The word with another symbol at each of the places.
-fn spoiled(chance: &mut Chance, width: u8, word: &[u8], at: &[u8]) -> Vec<u8> {
-    let mut wrong = word.to_vec();
-    for &place in at {
-        wrong[place as usize] ^= 1 + chance.below(order(width) - 1) as u8;
-    }
-    wrong
 }
 
 #[test]
@@ -75,11 +61,8 @@ fn cases_f_to_n() {
 fn every_syndrome(chance: &mut Chance, marks: &[u8]) {
     let mut accepted = 0;
     for number in 0..8usize.pow(5) {
-        let mut word: [u8; 12] = std::array::from_fn(|place| if place < 5 { (number >> (3 * place) & 7) as u8 } else { 0 });
-        for &mark in marks {
-            word[mark as usize] = chance.below(256) as u8;
-        }
-        let result = restore_word_within(number as u8, 3, &word, marks);
+        let word = with_any_bytes(chance, &word_of_syndromes(3, number), marks);
+        let result = restore_word_inside(number as u8, 3, &word, marks);
         compare(3, &word, marks, &result);
         accepted += result.0.is_ok() as usize;
     }
@@ -145,10 +128,8 @@ fn words_near_codewords(width: u8, rounds: usize) {
         let codeword = random_codeword(&mut chance, width);
         let chosen = chance.places(marked + wrong, places(width));
         let (marks, others) = chosen.split_at(marked);
-        let mut word = spoiled(&mut chance, width, &codeword, others);
-        for &mark in marks {
-            word[mark as usize] = chance.below(256) as u8;
-        }
+        let word = spoiled(&mut chance, width, &codeword, others);
+        let word = with_any_bytes(&mut chance, &word, marks);
         let result = restored(width, &word, marks);
         if marked + 2 * wrong <= 4 {
             assert_eq!(result, (Ok(wrong as u8), codeword), "{word:?}, marks {marks:?}");
@@ -168,16 +149,6 @@ fn words_near_codewords_of_width_7() {
     words_near_codewords(7, 8000);
 }
 
-/// Five marks outside which some codeword other than zeros is zero: p_2, p_4 and three data places whose points add up to 0, so that the
-/// columns of these three are dependent in the rows 0, 1 and 3 that are left (see case M of document 01).
-fn dependent(chance: &mut Chance, width: u8) -> Vec<u8> {
-    let point = |i: usize| raise(width, 2, i as u16);
-    let mut data = chance.places(2, items(width));
-    let third = point(data[0] as usize) ^ point(data[1] as usize);
-    data.extend((0..items(width)).find(|&i| point(i) == third).map(|i| i as u8));
-    [2, 4].into_iter().chain(data.iter().map(|i| 5 + i)).collect()
-}
-
 /// Beside five marks a codeword comes back or there are several, and a wrong symbol more is not undone. Where the columns at the marks are
 /// independent, as the zero word tells, one codeword agrees whatever stands beside the marks; where they are not, none or several.
 fn five_marks(width: u8, rounds: usize) {
@@ -188,8 +159,7 @@ fn five_marks(width: u8, rounds: usize) {
         marks.rotate_left(round % 5);
         let independent = restore_word(width, &vec![0; places(width)], &marks).0 == Ok(0);
         let codeword = random_codeword(&mut chance, width);
-        let mut word = codeword.clone();
-        marks.iter().for_each(|&mark| word[mark as usize] = chance.below(256) as u8);
+        let mut word = with_any_bytes(&mut chance, &codeword, &marks);
         let answer = restored(width, &word, &marks);
         assert_eq!(answer, if independent { (Ok(0), codeword) } else { (Err(Unique), word.clone()) }, "marks {marks:?}");
         let other = (0..).find(|place| !marks.contains(place)).expect("a place beside the marks");
@@ -370,11 +340,12 @@ fn bad_symbols() {
     }
 }
 
-/// Lent slices that are restored with nothing changed beside the two marks.
+/// What is restored with nothing changed beside the two marks, at the longest reach there.
 struct Input {
     width: u8,
     word: Vec<u8>,
     marks: Vec<u8>,
+    reach: u8,
 }
 
 impl Input {
@@ -388,6 +359,7 @@ impl Input {
             ErasurePlace => self.marks.insert(kind % 3, if kind % 2 == 0 { n as u8 } else { 255 }),
             ErasureDistinct => self.marks.insert(kind % 3, self.marks[kind % 2]),
             Symbol => self.word[8 + kind % 2] = if kind % 4 < 2 { n as u8 - 4 } else { 255 },
+            Reach => self.reach = [2, 3, 128, 255][kind % 4],
             _ => [0, 1, 2].into_iter().for_each(|place| self.word[place] ^= 1),
         }
     }
@@ -397,19 +369,25 @@ impl Input {
 fn each_question_alone_and_before_the_later_ones() {
     let mut chance = Chance::new();
     // The last one first, so that the word has its length until all else is spoiled.
-    let questions = [Correctable, Symbol, ErasureDistinct, ErasurePlace, ErasureCount, Length, Width];
+    let questions = [Correctable, Reach, Symbol, ErasureDistinct, ErasurePlace, ErasureCount, Length, Width];
     for width in WIDTHS {
         for kind in 0..16 {
             let codeword = random_codeword(&mut chance, width);
             for (i, &first) in questions.iter().enumerate() {
                 for &later in &questions[..=i] {
-                    let mut input = Input { width, word: codeword.clone(), marks: vec![places(width) as u8 - 1, 6] };
-                    assert_eq!(restored(width, &input.word, &input.marks), (Ok(0), codeword.clone()));
+                    let mut input = Input { width, word: codeword.clone(), marks: vec![places(width) as u8 - 1, 6], reach: 1 };
+                    assert_eq!(restore_word_within(width, &input.word, &input.marks, 1), (Ok(0), codeword.clone()));
                     input.spoil(later, kind / 4);
                     if later != first {
                         input.spoil(first, kind);
                     }
-                    assert_eq!(refused(input.width, &input.word, &input.marks), first, "{later:?} too at width {width}");
+                    let (answer, _) = restore_word_within(input.width, &input.word, &input.marks, input.reach);
+                    assert_eq!(answer, Err(first), "{later:?} too at width {width}");
+                    // Who names no reach is not asked for it.
+                    let asked = if first == Reach { later } else { first };
+                    if asked != Reach {
+                        assert_eq!(refused(input.width, &input.word, &input.marks), asked, "{later:?} too at width {width}");
+                    }
                 }
             }
         }

@@ -12,10 +12,11 @@ use Rattle.field.specs.Question.{Outcome, accepted, refused, isWidth}
 use Rattle.field.specs.declared.Question.the-variants.{Width}
 use Rattle.field.specs.declared.Verdict.the-variants.{Refused as RefusedBy}
 use Rattle.field.proofs.Ask.{and-true-left, and-true-right}
-use Rattle.card.specs.Record.{sizeOf, erasureBytes, recordSize, widthOf, allAre, askedIn, recordOf, recordWritten}
+use Rattle.code.specs.declared.Repair.the-variants.{Refused}
+use Rattle.card.specs.Record.{sizeOf, erasureBytes, recordSize, widthOf, allAre, askedIn, reachOf, recordOf, recordWritten}
 use Rattle.card.specs.Card.{blankIn, isBlank, isAccepted, passes, fine}
 use Rattle.card.proofs.Layouts.{width-no}
-use Rattle.card.proofs.Recording.{restores-refused}
+use Rattle.card.proofs.Recording.{restores-refused, longest-reach}
 
 -- ---- the test
 
@@ -81,5 +82,8 @@ blank-asked k slot h =
 -- restoring it as a record gives 1, as it did before there were blank slots, and changes no byte
 pub blank-refused : (slot : List ℕ) → isBlank slot ≡ true → (recordOf slot ≡ refused 1) × (recordWritten slot ≡ slot)
 blank-refused slot h =
-    let R = restores-refused slot (RefusedBy Width) Width (blank-asked erasureBytes slot h) refl slot refl in
+    let r = reachOf slot in
+    let R =
+    longest-reach slot r refl (Refused Width) slot
+    (restores-refused slot r (RefusedBy Width) Width (blank-asked erasureBytes slot h) refl slot refl) in
     (sym (R .answer), sym (R .content))

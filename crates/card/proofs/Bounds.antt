@@ -12,7 +12,7 @@ use Rattle.code.specs.Call.{restoreOf}
 use Rattle.code.proofs.Demands.{few-changed}
 use Rattle.card.specs.declared.Totals.{Totals}
 use Rattle.card.specs.declared.Progress.{Progress}
-use Rattle.card.specs.Record.{widthOf, wordOf, erasuresOf, recordAsked, recordOf, mostChanges, recordSize}
+use Rattle.card.specs.Record.{widthOf, wordOf, erasuresOf, recordAsked, recordWithinOf, recordOf, mostChanges, recordSize}
 use Rattle.card.specs.Card.{recordCount, recordAt, isBlank}
 use Rattle.card.specs.Listing.{refusalOf, changesOf, lineText, recordLine, blankLine, slotLine, counted, slotCounted, linesOf, totalsOf, progressAt}
 use Rattle.card.specs.Listing.{partProgress, mostRecords, listedPart, start}
@@ -43,9 +43,9 @@ lines-short n part (suc k) =
 
 -- of a record that is accepted at most two places change
 pub few-places : (r : List ℕ) (k : ℕ) → recordOf r ≡ accepted k → k ≤ mostChanges
-unfolding recordOf
+unfolding recordOf recordWithinOf
 few-places r k e =
-    let f = few-changed (widthOf r) (wordOf r) (erasuresOf r) k (go (recordAsked r) e) in
+    let f = few-changed (widthOf r) (wordOf r) (erasuresOf r) _ k (go (recordAsked r) e) in
     omega (arith, f .0, f .1)
   where
     go : (v : Verdict) → after v (restoreOf (widthOf r) (wordOf r) (erasuresOf r)) ≡ accepted k

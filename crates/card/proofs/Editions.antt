@@ -16,7 +16,7 @@ use Rattle.field.proofs.Ask.{and-true-left, and-true-right}
 use Rattle.code.specs.Word.{places}
 use Rattle.code.specs.Call.{maxErasures, restoreOf}
 use Rattle.card.specs.Record.{sizeOf, widthOf, countOf, erasuresOf, unusedIn, wordIn, tailIn, allowedIn, allAre}
-use Rattle.card.specs.Record.{hasWidth, fewIn, paddedIn, askedIn, erasureBytes, recordOf}
+use Rattle.card.specs.Record.{hasWidth, fewIn, paddedIn, askedIn, erasureBytes, recordWithinOf, recordOf}
 use Rattle.card.specs.Card.{blankIn}
 use Rattle.card.specs.Conversion.{oldErasureBytes, converted, blankOr, atMostFour, outcomeIn, SameSlot}
 use Rattle.card.proofs.Layouts.{all-replicate}
@@ -224,7 +224,7 @@ module _ (r : List ℕ) (size : length r ≡ sizeOf oldErasureBytes) where
   same-word = ap₂ (λ (m : ℕ) (l : List ℕ). take (places m) l) (T .width) (T .body)
 
   pub same-slot : Slot oldErasureBytes r → SameSlot r (toNew r)
-  unfolding recordOf
+  unfolding recordOf recordWithinOf
   same-slot S =
       record {
         blank = same-blank;

@@ -1,5 +1,5 @@
 -- The restored record. Assumes nothing.
-use mathlib.Core.Path.{_≡_, refl, sym, ap, ap₂, _∙_, subst₂}
+use mathlib.Core.Path.{_≡_, refl, sym, ap, ap₂, _∙_, subst, subst₂}
 use mathlib.Core.List.{List, _∷_, _++_}
 use Prim.Native.Nat.{ℕ, _+_, _-_}
 use native.Mathlib.Omega.{arith}
@@ -11,45 +11,47 @@ use Rattle.field.specs.declared.Question.the-variants.{Length}
 use Rattle.field.specs.declared.Verdict.{Verdict}
 use Rattle.field.specs.declared.Verdict.the-variants.{Passed, Refused as RefusedBy}
 use Rattle.code.specs.Word.{places, longest, wordLength}
-use Rattle.code.specs.Call.{restoreOf, restoreWritten, repair, Restores}
+use Rattle.code.specs.Near.{radius}
+use Rattle.code.specs.Call.{withinOf, withinWritten, repair, RestoresWithin}
 use Rattle.code.specs.declared.Repair.{Repair}
 use Rattle.code.specs.declared.Repair.the-variants.{Restored, Refused}
 use Rattle.code.proofs.Lengths.{places-most}
 use Rattle.code.proofs.Demands.{accepts, refused-unchanged}
-use Rattle.card.specs.Record.{erasureBytes, headerSize, recordSize, widthOf, countOf, wordOf, tailOf, erasuresOf}
-use Rattle.card.specs.Record.{recordAsked, recordOf, clearRecord, onAccept, recordWritten, RestoresRecord}
+use Rattle.card.specs.Record.{erasureBytes, headerSize, recordSize, widthOf, countOf, wordOf, tailOf, erasuresOf, recordAsked, clearRecord, onAccept}
+use Rattle.card.specs.Record.{recordWithinOf, recordWithinWritten, RestoresRecordWithin, reachOf, recordOf, recordWritten, RestoresRecord}
 use Rattle.card.proofs.Layouts.{Asked, asked, all-replicate, length-no, word-part, erasures-part}
 
 -- the record's own questions were answered no
-pub record-refused : (r : List ℕ) (v : Verdict) (q : Question) → v ≡ recordAsked r → v ≡ RefusedBy q → refused (refusal q) ≡ recordOf r
-unfolding recordOf
-record-refused r v q e p = ap (λ (u : Verdict). after u (restoreOf (widthOf r) (wordOf r) (erasuresOf r))) (sym p ∙ e)
+within-refused : (r : List ℕ) (reach : ℕ) (v : Verdict) (q : Question) → v ≡ recordAsked r → v ≡ RefusedBy q
+    → refused (refusal q) ≡ recordWithinOf r reach
+unfolding recordWithinOf
+within-refused r reach v q e p = ap (λ (u : Verdict). after u (withinOf (widthOf r) (wordOf r) (erasuresOf r) reach)) (sym p ∙ e)
 
-pub restores-refused : (r : List ℕ) (v : Verdict) (q : Question) → v ≡ recordAsked r → v ≡ RefusedBy q → (new : List ℕ) → new ≡ r
-    → RestoresRecord r (Refused q) new
-unfolding recordWritten
-restores-refused r v q e p new h =
-    let o = record-refused r v q e p in
+pub restores-refused : (r : List ℕ) (reach : ℕ) (v : Verdict) (q : Question) → v ≡ recordAsked r → v ≡ RefusedBy q → (new : List ℕ) → new ≡ r
+    → RestoresRecordWithin r reach (Refused q) new
+unfolding recordWithinWritten
+restores-refused r reach v q e p new h =
+    let o = within-refused r reach v q e p in
     record {
       answer = o;
       content = h
-          ∙ ap (λ (x : Outcome). onAccept x r (clearRecord (widthOf r) (restoreWritten (widthOf r) (wordOf r) (erasuresOf r)))) o;
+          ∙ ap (λ (x : Outcome). onAccept x r (clearRecord (widthOf r) (withinWritten (widthOf r) (wordOf r) (erasuresOf r) reach))) o;
     }
 
 -- what the restorer did with the parts of the record, n the length of its word and es its erasure bytes
 pub restores-parts : (r : List ℕ) (A : Asked r) (n : ℕ) (en : n ≡ wordLength (widthOf r)) (es : List ℕ) → es ≡ take erasureBytes (drop 2 r)
-    → (x : Repair) (new : List ℕ)
-    → Restores (widthOf r) (take (headerSize + n - headerSize) (drop headerSize r)) (take (countOf r) es) x new
-    → Restores (widthOf r) (wordOf r) (erasuresOf r) x new
-restores-parts r A n en es e x new R =
-    subst₂ (λ (w ls : List ℕ). Restores (widthOf r) w ls x new) (word-part r A n en) (erasures-part r A n en es e) R
+    → (reach : ℕ) (x : Repair) (new : List ℕ)
+    → RestoresWithin (widthOf r) (take (headerSize + n - headerSize) (drop headerSize r)) (take (countOf r) es) reach x new
+    → RestoresWithin (widthOf r) (wordOf r) (erasuresOf r) reach x new
+restores-parts r A n en es e reach x new R =
+    subst₂ (λ (w ls : List ℕ). RestoresWithin (widthOf r) w ls reach x new) (word-part r A n en) (erasures-part r A n en es e) R
 
 -- they were answered yes; R is what the restorer did with the word
-module _ (r : List ℕ) (P : recordAsked r ≡ Passed) (x : Repair) (new : List ℕ)
-    (R : Restores (widthOf r) (wordOf r) (erasuresOf r) x new) where
-  answer : repair x ≡ recordOf r
-  unfolding recordOf
-  answer = R .answer ∙ sym (ap (λ (u : Verdict). after u (restoreOf (widthOf r) (wordOf r) (erasuresOf r))) P)
+module _ (r : List ℕ) (P : recordAsked r ≡ Passed) (reach : ℕ) (x : Repair) (new : List ℕ)
+    (R : RestoresWithin (widthOf r) (wordOf r) (erasuresOf r) reach x new) where
+  answer : repair x ≡ recordWithinOf r reach
+  unfolding recordWithinOf
+  answer = R .answer ∙ sym (ap (λ (u : Verdict). after u (withinOf (widthOf r) (wordOf r) (erasuresOf r) reach)) P)
 
   -- the record with the word put back
   module _ (n : ℕ) (en : n ≡ places (widthOf r)) where
@@ -61,15 +63,15 @@ module _ (r : List ℕ) (P : recordAsked r ≡ Passed) (x : Repair) (new : List 
         ∙ take-append-drop headerSize r
 
     pub word-refused : (q : Question) → x ≡ Refused q
-        → RestoresRecord r (Refused q) (take headerSize r ++ (new ++ drop n (drop headerSize r)))
-    unfolding recordWritten
+        → RestoresRecordWithin r reach (Refused q) (take headerSize r ++ (new ++ drop n (drop headerSize r)))
+    unfolding recordWithinWritten
     word-refused q e =
-        let o : refused (refusal q) ≡ recordOf r = ap repair (sym e) ∙ answer in
-        let f : restoreOf (widthOf r) (wordOf r) (erasuresOf r) ≡ refused (refusal q) = sym (R .answer) ∙ ap repair e in
+        let o : refused (refusal q) ≡ recordWithinOf r reach = ap repair (sym e) ∙ answer in
+        let f : withinOf (widthOf r) (wordOf r) (erasuresOf r) reach ≡ refused (refusal q) = sym (R .answer) ∙ ap repair e in
         record {
           answer = o;
-          content = same-word (R .word ∙ refused-unchanged (widthOf r) (wordOf r) (erasuresOf r) (refusal q) f)
-              ∙ ap (λ (y : Outcome). onAccept y r (clearRecord (widthOf r) (restoreWritten (widthOf r) (wordOf r) (erasuresOf r)))) o;
+          content = same-word (R .word ∙ refused-unchanged (widthOf r) (wordOf r) (erasuresOf r) reach (refusal q) f)
+              ∙ ap (λ (y : Outcome). onAccept y r (clearRecord (widthOf r) (withinWritten (widthOf r) (wordOf r) (erasuresOf r) reach))) o;
         }
 
     A : Asked r
@@ -80,8 +82,8 @@ module _ (r : List ℕ) (P : recordAsked r ≡ Passed) (x : Repair) (new : List 
 
     pub word-restored : (k : ℕ) → x ≡ Restored k → (final : List ℕ)
         → final ≡ (widthOf r ∷ 0 ∷ replicate erasureBytes 255) ++ drop headerSize (take headerSize r ++ (new ++ drop n (drop headerSize r)))
-        → RestoresRecord r (Restored k) final
-    unfolding recordWritten
+        → RestoresRecordWithin r reach (Restored k) final
+    unfolding recordWithinWritten
     word-restored k e final f =
         record {
           answer = o;
@@ -90,21 +92,37 @@ module _ (r : List ℕ) (P : recordAsked r ≡ Passed) (x : Repair) (new : List 
               (drop-at (take headerSize r) (new ++ drop n (drop headerSize r)) headerSize
               (length-take-le headerSize r (omega (arith, A .size)))
               ∙ ap₂ _++_ (R .word) (rest ∙ all-replicate 0 (tailOf r) (A .tail) ∙ ap (λ (i : ℕ). replicate i 0) long))
-              ∙ ap (λ (y : Outcome). onAccept y r (clearRecord (widthOf r) (restoreWritten (widthOf r) (wordOf r) (erasuresOf r)))) o;
+              ∙ ap (λ (y : Outcome). onAccept y r (clearRecord (widthOf r) c)) o;
         }
       where
-        o : accepted k ≡ recordOf r
+        c : List ℕ
+        c = withinWritten (widthOf r) (wordOf r) (erasuresOf r) reach
+
+        o : accepted k ≡ recordWithinOf r reach
         o = ap repair (sym e) ∙ answer
 
-        size : length (restoreWritten (widthOf r) (wordOf r) (erasuresOf r)) ≡ places (widthOf r)
+        size : length c ≡ places (widthOf r)
         size =
-            accepts (widthOf r) (wordOf r) (erasuresOf r) k (restoreWritten (widthOf r) (wordOf r) (erasuresOf r)) .0
-            (sym (R .answer) ∙ ap repair e, refl) .1 .near .codeword .size
+            accepts (widthOf r) (wordOf r) (erasuresOf r) reach k c .0 (sym (R .answer) ∙ ap repair e, refl) .1 .near .codeword .size
 
-        long : length (tailOf r) ≡ longest - length (restoreWritten (widthOf r) (wordOf r) (erasuresOf r))
+        long : length (tailOf r) ≡ longest - length c
         long = length-drop (headerSize + places (widthOf r)) r ∙ omega (arith, A .size, size, places-most (widthOf r) (A .width))
+
+-- ---- who names no reach
+
+pub longest-reach : (r : List ℕ) (reach : ℕ) → reach ≡ reachOf r → (x : Repair) (new : List ℕ) → RestoresRecordWithin r reach x new
+    → RestoresRecord r x new
+unfolding recordOf recordWritten
+longest-reach r reach e x new R =
+    record { answer = R .answer ∙ ap (recordWithinOf r) e; content = R .content ∙ ap (recordWithinWritten r) e }
+
+-- the reach by the number of erasures
+pub reach-counted : (r : List ℕ) → Asked r → (k : ℕ) → ((m : ℕ) → k ≡ radius m (countOf r)) → k ≡ reachOf r
+reach-counted r A k h =
+    h (widthOf r) ∙ ap (radius (widthOf r)) (sym (length-take-le (countOf r) (drop 2 r) (omega (arith, A .few, A .size, length-drop 2 r))))
 
 -- ---- a record of another length
 
 pub short-refused : (r : List ℕ) → (length r ≡ recordSize → ⊥) → refused (refusal Length) ≡ recordOf r
-short-refused r n = record-refused r (RefusedBy Length) Length (length-no erasureBytes r n) refl
+unfolding recordOf
+short-refused r n = within-refused r (reachOf r) (RefusedBy Length) Length (length-no erasureBytes r n) refl

@@ -10,7 +10,8 @@ use Rattle.field.specs.declared.Question.the-variants.{Width, Length, ErasureCo
 use Rattle.field.specs.declared.Verdict.{Verdict}
 use Rattle.field.specs.declared.Verdict.the-variants.{Passed}
 use Rattle.code.specs.Word.{places, longest}
-use Rattle.code.specs.Call.{maxErasures, restoreOf, restoreWritten, repair}
+use Rattle.code.specs.Near.{radius}
+use Rattle.code.specs.Call.{maxErasures, withinOf, withinWritten, repair}
 use Rattle.code.specs.declared.Repair.{Repair}
 
 -- ---- the layout, with k erasure bytes, document 01's mark bytes
@@ -97,14 +98,14 @@ wordOf r = wordIn erasureBytes r
 abbrev pub tailOf : List ℕ → List ℕ
 tailOf r = tailIn erasureBytes r
 
--- ---- restoring a record: its own questions, then those that are put to its word
+-- ---- restoring a record with a reach: its own questions, then those that are put to its word
 
 abbrev pub recordAsked : List ℕ → Verdict
 recordAsked r = askedIn erasureBytes r
 
--- what restoring the record answers
-unfoldable pub recordOf : List ℕ → Outcome
-recordOf r = after (recordAsked r) (restoreOf (widthOf r) (wordOf r) (erasuresOf r))
+-- what restoring the record answers at a reach
+unfoldable pub recordWithinOf : List ℕ → ℕ → Outcome
+recordWithinOf r reach = after (recordAsked r) (withinOf (widthOf r) (wordOf r) (erasuresOf r) reach)
 
 -- no more places of a record are changed
 abbrev pub mostChanges : ℕ
@@ -120,8 +121,27 @@ onAccept (accepted k) old new = new
 onAccept (refused n) old new = old
 
 -- the record after the call
+unfoldable pub recordWithinWritten : List ℕ → ℕ → List ℕ
+recordWithinWritten r reach =
+    onAccept (recordWithinOf r reach) r (clearRecord (widthOf r) (withinWritten (widthOf r) (wordOf r) (erasuresOf r) reach))
+
+-- what restore_record_within answers and leaves in the record
+pub record RestoresRecordWithin (old : List ℕ) (reach : ℕ) (r : Repair) (new : List ℕ) : Type 0 where
+  pub answer : repair r ≡ recordWithinOf old reach
+  pub content : new ≡ recordWithinWritten old reach
+
+-- ---- who names no reach gets r
+
+abbrev pub reachOf : List ℕ → ℕ
+reachOf r = radius (widthOf r) (length (erasuresOf r))
+
+-- what restoring the record answers
+unfoldable pub recordOf : List ℕ → Outcome
+recordOf r = recordWithinOf r (reachOf r)
+
+-- the record after the call
 unfoldable pub recordWritten : List ℕ → List ℕ
-recordWritten r = onAccept (recordOf r) r (clearRecord (widthOf r) (restoreWritten (widthOf r) (wordOf r) (erasuresOf r)))
+recordWritten r = recordWithinWritten r (reachOf r)
 
 -- what restore_record answers and leaves in the record
 pub record RestoresRecord (old : List ℕ) (r : Repair) (new : List ℕ) : Type 0 where

@@ -6,9 +6,10 @@ ghost use Prim.Native.Nat.{_+_, _-_, _≤_, min};
 ghost use lib.ListN.{length, take, drop, replicate};
 ghost use Rattle.field.specs.declared.Verdict.the-variants.{Passed};
 ghost use Rattle.code.specs.Call.{maxErasures, repair};
-ghost use Rattle.card.specs.Record.{sizeOf, erasureBytes, headerSize, recordSize, allAre, recordAsked, recordOf, RestoresRecord};
+ghost use Rattle.card.specs.Record.{sizeOf, erasureBytes, headerSize, recordSize, allAre, recordAsked, recordOf, RestoresRecordWithin, RestoresRecord};
 ghost use Rattle.card.specs.Leading.{recordPasses, verdictAt};
 use code::Repair;
+use code::radius_of;
 use code::slice::copy;
 use code::word_length;
 use field::Question;
@@ -128,17 +129,17 @@ fn clear_header(bytes: &mut [u8], width: u8)
     copy(&mut bytes[..7], &header);
 }
 
-// The word of a record that passed is restored in its place.
-fn restore_asked(bytes: &mut [u8]) -> Repair
+// The word of a record that passed is restored in its place, if the reach allows.
+fn restore_asked(bytes: &mut [u8], reach: u8) -> Repair
     requires { ⌜ recordAsked (now bytes) ≡ Passed ⌝ }
-    ensures { λ r. ⌜ RestoresRecord (now (bytes .entry)) r (now (bytes .exit)) ⌝ }
+    ensures { λ r. ⌜ RestoresRecordWithin (now (bytes .entry)) reach r (now (bytes .exit)) ⌝ }
 {
     let width = bytes[0];
     let count = bytes[1] as usize;
     let erasures = erasure_row(bytes);
     let end = HEADER + word_length(width);
     let from = HEADER;
-    match code::restore(width, &mut bytes[from..end], &erasures[..count]) {
+    match code::restore_within(width, &mut bytes[from..end], &erasures[..count], reach) {
         Repair::Restored(k) => {
             clear_header(bytes, width);
             Repair::Restored(k)
@@ -147,12 +148,25 @@ fn restore_asked(bytes: &mut [u8]) -> Repair
     }
 }
 
-// Restores a record: its word becomes the near codeword, and it has no erasures any more.
+// Restores a record: its word becomes the codeword within the reach, and it has no erasures any more.
+pub fn restore_record_within(bytes: &mut [u8], reach: u8) -> Repair
+    ensures { λ r. ⌜ RestoresRecordWithin (now (bytes .entry)) reach r (now (bytes .exit)) ⌝ }
+{
+    match ask_record(bytes) {
+        Verdict::Passed => restore_asked(bytes, reach),
+        Verdict::Refused(q) => Repair::Refused(q),
+    }
+}
+
+// Restores a record with the longest reach that its erasures leave.
 pub fn restore_record(bytes: &mut [u8]) -> Repair
     ensures { λ r. ⌜ RestoresRecord (now (bytes .entry)) r (now (bytes .exit)) ⌝ }
 {
     match ask_record(bytes) {
-        Verdict::Passed => restore_asked(bytes),
+        Verdict::Passed => {
+            let reach = radius_of(bytes[1] as usize);
+            restore_asked(bytes, reach)
+        }
         Verdict::Refused(q) => Repair::Refused(q),
     }
 }

@@ -21,7 +21,7 @@ use Rattle.code.specs.Word.{places, items, five, at, Codeword, encode}
 use Rattle.code.specs.Erasure.{changes, maskedSyndrome}
 use Rattle.code.specs.Near.{distance, radius, Near}
 use Rattle.code.specs.Call.{written, done, zeroSyndromes, restoreAsked}
-use Rattle.code.specs.Demands.{Data, Passes}
+use Rattle.code.specs.Demands.{Data, PassesWithin}
 use Rattle.code.specs.Cases.{Case, encoding, restoring, Holds, Table}
 use Rattle.code.proofs.Questions.{allBelow-means}
 use Rattle.code.proofs.Horner.{five-cong}
@@ -29,7 +29,7 @@ use Rattle.code.proofs.Columns.{combine}
 use Rattle.code.specs.Correction.{Lent}
 use Rattle.code.proofs.Filling.{Each, Solution, codeword-solution}
 use Rattle.code.proofs.Extra.{Falling, Beside, within-beside, wrong}
-use Rattle.code.proofs.Passing.{syndromes-zero, encode-passes, given}
+use Rattle.code.proofs.Passing.{syndromes-zero, encode-passes, given, within-passes, passes-radius}
 use Rattle.code.proofs.Demands.{never-two, accepts, refuses-seven, refused-unchanged}
 
 and-three : (a b c : Bool) → T (a && (b && c)) → T a × T b × T c
@@ -170,22 +170,22 @@ module _ (w es : List ℕ) where
   restores? (accepted k) c = codeword? 3 c && (leb (changes 3 es w c) r && eqb k (changes 3 es w c))
   restores? (refused n) c = none-within? 3 w es r && (eqb n (refusal Correctable) && same? c w)
 
-  restores-of : Passes 3 w es → length es < distance 3 → (o : Outcome) (c : List ℕ) → T (restores? o c) → Holds (restoring w es o c)
+  restores-of : PassesWithin 3 w es r → length es < distance 3 → (o : Outcome) (c : List ℕ) → T (restores? o c) → Holds (restoring w es o c)
   restores-of p few (accepted k) c t =
       let ts = and-three (codeword? 3 c) (leb (changes 3 es w c) r) (eqb k (changes 3 es w c)) t in
       let near : Near 3 es w r c = record { codeword = codeword-of 3 c (ts .0); few = leb→le _ _ (ts .1) } in
-      accepts 3 w es k c .1 (
+      accepts 3 w es r k c .1 (
         p,
         record {
           near = near;
-          only = λ d N. never-two 3 w es p few d c N near;
+          only = λ d N. never-two 3 w es r p few d c N near;
           count = eqb→eq k (changes 3 es w c) (ts .2);
         },
       )
   restores-of p few (refused n) c t =
       let ts = and-three (none-within? 3 w es r) (eqb n (refusal Correctable)) (same? c w) t in
-      let e = refuses-seven 3 w es .1 (p, λ d N. none-within (field-of 3 refl) w es r (given 3 w es p .lent) (ts .0) d N) in
-      (e ∙ ap refused (sym (eqb→eq n (refusal Correctable) (ts .1))), refused-unchanged 3 w es 7 e ∙ sym (same-of c w (ts .2)))
+      let e = refuses-seven 3 w es r .1 (p, λ d N. none-within (field-of 3 refl) w es r (given 3 w es (within-passes 3 w es r p .0) .lent) (ts .0) d N) in
+      (e ∙ ap refused (sym (eqb→eq n (refusal Correctable) (ts .1))), refused-unchanged 3 w es r 7 e ∙ sym (same-of c w (ts .2)))
 
 -- ---- the table
 
@@ -198,7 +198,7 @@ holds-of (encoding ds w) t = encodes-of ds w t
 holds-of (restoring w es o c) t =
     let v = restoreAsked 3 w es in
     let ts = and-three (passed? v) (ltb (length es) (distance 3)) (restores? w es o c) t in
-    restores-of w es (passed-of v (ts .0)) (ltb→lt _ _ (ts .1)) o c (ts .2)
+    restores-of w es (passes-radius 3 w es ∙ passed-of v (ts .0)) (ltb→lt _ _ (ts .1)) o c (ts .2)
 
 abbrev pub table? : List Case → Bool
 table? [] = true

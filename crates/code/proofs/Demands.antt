@@ -11,12 +11,12 @@ use Rattle.field.specs.declared.Verdict.{Verdict}
 use Rattle.field.proofs.Widths.{field-of}
 use Rattle.code.specs.Word.{places, at, syndrome, Codeword, encode, dataOf}
 use Rattle.code.specs.Erasure.{syndromesOf}
-use Rattle.code.specs.Call.{written, done, restoreWritten, shown, allZero, zeroSyndromes, encodeOf, encodeWritten, testOf}
+use Rattle.code.specs.Call.{written, done, withinWritten, shown, allZero, zeroSyndromes, encodeOf, encodeWritten, testOf}
 use Rattle.code.specs.Demands.{Data, EncoderMakes, EncoderMade, ReadBack, TestsCodeword, NeverTwo, Accepts, RefusesSeven, RefusesFourteen, FewErasures}
-use Rattle.code.specs.Demands.{RefusedUnchanged, FewChanged, SameRestored, DisplaysPlain, DisplaysZero, SameDisplayed}
+use Rattle.code.specs.Demands.{LongerReach, ShorterReach, RefusedUnchanged, FewChanged, SameRestored, DisplaysPlain, DisplaysZero, SameDisplayed}
 use Rattle.code.proofs.Encoding.{encode-codeword, encode-data, codeword-data, codeword-encode}
 use Rattle.code.proofs.Horner.{five-cong}
-use Rattle.code.proofs.Passing.{encode-passes, read-passes, test-codeword, zero-syndromes, five-zero, given}
+use Rattle.code.proofs.Passing.{encode-passes, read-passes, test-codeword, zero-syndromes, five-zero, given, within-passes}
 use Rattle.code.proofs.Restoring as Restoring
 
 -- ---- demand 2
@@ -77,13 +77,19 @@ refuses-fourteen = Restoring.refuses-fourteen
 pub few-erasures : FewErasures
 few-erasures = Restoring.few-erasures
 
+pub longer-reach : LongerReach
+longer-reach = Restoring.longer-reach
+
+pub shorter-reach : ShorterReach
+shorter-reach = Restoring.shorter-reach
+
 pub refused-unchanged : RefusedUnchanged
 refused-unchanged = Restoring.refused-unchanged
 
 pub few-changed : FewChanged
-few-changed m w es k e =
-    let nearest = accepts m w es k (restoreWritten m w es) .0 (e, refl) .1 in
-    (omega (arith, nearest .count, nearest .near .few), omega arith)
+few-changed m w es reach k e =
+    let a = accepts m w es reach k (withinWritten m w es reach) .0 (e, refl) in
+    (omega (arith, a .1 .count, a .1 .near .few), omega (arith, within-passes m w es reach (a .0) .1))
 
 pub same-restored : SameRestored
 same-restored = Restoring.same-restored

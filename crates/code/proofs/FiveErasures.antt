@@ -18,16 +18,17 @@ use Rattle.field.proofs.Widths.{field-of}
 use Rattle.code.specs.Word.{checks, places, at, sum, Codeword, encode, dataOf}
 use Rattle.code.specs.Place.{column}
 use Rattle.code.specs.Erasure.{member, total, changes, maskedSyndrome}
-use Rattle.code.specs.Near.{Near}
+use Rattle.code.specs.Near.{radius, Near}
 use Rattle.code.specs.Call.{zeroSyndromes, restoreAsked}
-use Rattle.code.specs.Demands.{Passes}
+use Rattle.code.specs.Demands.{PassesWithin}
 use Rattle.code.specs.Cases.{restoring, refusing, zeros, wordC, word, symbols, _but_is_, fiveErasures, Holds, Table}
 use Rattle.code.proofs.Sums.{sum-cong, sum-add, sum-times, sum-zero}
 use Rattle.code.proofs.Columns.{combine}
 use Rattle.code.proofs.Filling.{codeword-solution}
 use Rattle.code.proofs.Extra.{within-agrees}
 use Rattle.code.proofs.Encoding.{codeword-encode}
-use Rattle.code.proofs.Passing.{given}
+use Rattle.code.proofs.Passing.{passes-radius}
+use Rattle.code.proofs.Restoring.{G}
 use Rattle.code.proofs.Demands.{accepts, refuses-seven, refuses-fourteen, refused-unchanged}
 use Rattle.code.proofs.CaseTable.{passed?, passed-of, codeword?, codeword-of}
 
@@ -78,15 +79,15 @@ near-of w es c t = record {
 abbrev mixed : List ℕ
 mixed = 2 ∷ 4 ∷ 5 ∷ 6 ∷ 8 ∷ []
 
-passes-of : (w es : List ℕ) → T (passed? (restoreAsked 3 w es)) → Passes 3 w es
-passes-of w es = passed-of (restoreAsked 3 w es)
+passes-of : (w es : List ℕ) → T (passed? (restoreAsked 3 w es)) → PassesWithin 3 w es (radius 3 (length es))
+passes-of w es t = passes-radius 3 w es ∙ passed-of (restoreAsked 3 w es) t
 
 -- several: two codewords that are 0 outside the erasures
 several-holds : Holds (refusing zeros mixed 14)
 unfolding restoreAsked arithmetic sum total zeroSyndromes
 several-holds =
     let other = word 0 0 3 0 2 (symbols 5 1 0 4 0 0 0) in
-    let e = refuses-fourteen 3 zeros mixed .1 (
+    let e = refuses-fourteen 3 zeros mixed 0 .1 (
       passes-of zeros mixed tt,
       record {
         first = zeros;
@@ -96,14 +97,14 @@ several-holds =
         different = λ e. (let z : _≡_ {A = ℕ} 0 5 = ap (λ (w : List ℕ). at w 5) e in omega arith);
       },
     ) in
-    (e, refused-unchanged 3 zeros mixed 14 e)
+    (e, refused-unchanged 3 zeros mixed 0 14 e)
 
 -- none: 6 times row 0, 7 times row 1 and row 3 add up to 0 at the places erased, and not on the right
 none-holds : Holds (refusing (zeros but 0 is 1) mixed 7)
 unfolding restoreAsked arithmetic sum column
 none-holds =
-    let e = refuses-seven 3 w mixed .1 (p, far) in
-    (e, refused-unchanged 3 w mixed 7 e)
+    let e = refuses-seven 3 w mixed 0 .1 (p, far) in
+    (e, refused-unchanged 3 w mixed 0 7 e)
   where
     w : List ℕ
     w = zeros but 0 is 1
@@ -111,7 +112,7 @@ none-holds =
     y : ℕ → ℕ
     y = at (6 ∷ 7 ∷ 0 ∷ 1 ∷ 0 ∷ [])
 
-    p : Passes 3 w mixed
+    p : PassesWithin 3 w mixed 0
     p = passes-of w mixed tt
 
     cancels : Cancels 3 y mixed
@@ -123,7 +124,7 @@ none-holds =
     far : (c : List ℕ) → Near 3 mixed w 0 c → ⊥
     far c N =
         let F = field-of 3 refl in
-        let W = given 3 w mixed p .lent in
+        let W = G 3 w mixed 0 p .lent in
         let S = codeword-solution F W (N .codeword) (within-agrees W c N refl) in
         let z : _≡_ {A = ℕ} 6 0 =
         sym right
@@ -135,7 +136,7 @@ none-holds =
 -- one: the data makes the check symbols
 one-holds : Holds (restoring (word 0 0 0 0 0 (symbols 0 1 0 0 0 0 0)) (0 ∷ 1 ∷ 2 ∷ 3 ∷ 4 ∷ []) (accepted 0) wordC)
 unfolding restoreAsked arithmetic sum total zeroSyndromes
-one-holds = accepts 3 w es 0 wordC .1 (p, record { near = near-of w es wordC tt; only = only; count = refl })
+one-holds = accepts 3 w es 0 0 wordC .1 (p, record { near = near-of w es wordC tt; only = only; count = refl })
   where
     w : List ℕ
     w = word 0 0 0 0 0 (symbols 0 1 0 0 0 0 0)
@@ -143,7 +144,7 @@ one-holds = accepts 3 w es 0 wordC .1 (p, record { near = near-of w es wordC tt;
     es : List ℕ
     es = 0 ∷ 1 ∷ 2 ∷ 3 ∷ 4 ∷ []
 
-    p : Passes 3 w es
+    p : PassesWithin 3 w es 0
     p = passes-of w es tt
 
     outside : (i : ℕ) → 5 ≤ i → member i es ≡ false
@@ -161,7 +162,7 @@ one-holds = accepts 3 w es 0 wordC .1 (p, record { near = near-of w es wordC tt;
     only : (d : List ℕ) → Near 3 es w 0 d → d ≡ wordC
     only d N =
         let C = N .codeword in
-        let G = within-agrees (given 3 w es p .lent) d N refl in
+        let G = within-agrees (G 3 w es 0 p .lent) d N refl in
         let l : length (dataOf d) ≡ 7 = simp length-drop (omega (arith, C .size)) in
         let same : dataOf d ≡ dataOf w = ext-getD 0 (dataOf d) (dataOf w) l (λ i h.
         getD-drop checks d i 0 ∙ G (checks + i) (omega arith) (outside (checks + i) (omega arith)) ∙ sym (getD-drop checks w i 0)) in

@@ -1,22 +1,26 @@
 -- What the questions before question 8 tell of a word and its erasures, what the question about the syndromes tells, that data passes the
 -- encoder's questions and a codeword the reader's. Assumes nothing.
-use mathlib.Core.Path.{_≡_, sym, _∙_}
-use mathlib.Core.Bool.{true}
+use mathlib.Core.Path.{_≡_, refl, sym, ap, _∙_}
+use mathlib.Core.Bool.{Bool, true}
 use mathlib.Core.List.{List}
 use Prim.Native.Nat.{ℕ, _≤_, _<_}
+use native.Mathlib.Nat.{le-refl}
 use native.Mathlib.Omega.{arith}
-use borrow.Author.Tests.{leb-true, eqb-true, eq-eqb}
+use borrow.Author.Tests.{leb-true, le-leb, lt-leb, eqb-true, eq-eqb}
 use lib.Dec.{eqb, leb}
 use lib.ListN.{length}
 use Rattle.field.specs.Field.{order}
-use Rattle.field.specs.Question.{isWidth, allBelow}
-use Rattle.field.specs.declared.Question.the-variants.{Width, Length, ErasureCount, ErasurePlace, ErasureDistinct, Symbol}
-use Rattle.field.specs.declared.Verdict.the-variants.{Passed}
+use Rattle.field.specs.Question.{ask, isWidth, allBelow}
+use Rattle.field.specs.declared.Question.{Question}
+use Rattle.field.specs.declared.Question.the-variants.{Width, Length, ErasureCount, ErasurePlace, ErasureDistinct, Symbol, Reach}
+use Rattle.field.specs.declared.Verdict.{Verdict}
+use Rattle.field.specs.declared.Verdict.the-variants.{Passed, Refused}
 use Rattle.field.proofs.Ask.{ask-yes, ask-next}
 use Rattle.code.specs.Word.{checks, places, items, five, at, syndrome, Codeword}
 use Rattle.code.specs.Erasure.{distinct, symbolsFrom}
-use Rattle.code.specs.Call.{allZero, zeroSyndromes, encodeAsked, testAsked, maxErasures, readAsked, restoreAsked}
-use Rattle.code.specs.Demands.{Data, Passes}
+use Rattle.code.specs.Call.{allZero, zeroSyndromes, encodeAsked, testAsked, maxErasures, readAsked, restoreAsked, followed, withinAsked}
+use Rattle.code.specs.Near.{radius}
+use Rattle.code.specs.Demands.{Data, Passes, PassesWithin}
 use Rattle.code.proofs.Questions.{allBelow-means, allBelow-holds, allZero-below, symbols-means}
 use Rattle.code.proofs.Horner.{five-at}
 use Rattle.code.specs.Correction.{Lent}
@@ -100,3 +104,40 @@ given m w es p1 =
         below = ask-yes (allBelow (places m) es) ErasurePlace _ p4;
       };
     }
+
+-- ---- with a reach
+
+module _ (m : ℕ) (w es : List ℕ) (reach : ℕ) where
+  abbrev pub asksReach : Verdict
+  asksReach = ask (leb reach (radius m (length es))) Reach Passed
+
+  pub within-on : Passes m w es → withinAsked m w es reach ≡ asksReach
+  unfolding withinAsked
+  within-on p = ap (λ (v : Verdict). followed v asksReach) p
+
+  pub within-stop : (q : Question) → restoreAsked m w es ≡ Refused q → withinAsked m w es reach ≡ Refused q
+  unfolding withinAsked
+  within-stop q e = ap (λ (v : Verdict). followed v asksReach) e
+
+  pub passes-within : Passes m w es → reach ≤ radius m (length es) → PassesWithin m w es reach
+  passes-within p h = within-on p ∙ ap (λ (b : Bool). ask b Reach Passed) (le-leb reach (radius m (length es)) h)
+
+  pub longer-refused : Passes m w es → radius m (length es) < reach → withinAsked m w es reach ≡ Refused Reach
+  longer-refused p h = within-on p ∙ ap (λ (b : Bool). ask b Reach Passed) (lt-leb reach (radius m (length es)) h)
+
+  pub within-passes : PassesWithin m w es reach → Passes m w es × (reach ≤ radius m (length es))
+  unfolding withinAsked
+  within-passes e = go (restoreAsked m w es) refl e
+    where
+      go : (v : Verdict) → restoreAsked m w es ≡ v → followed v asksReach ≡ Passed → Passes m w es × (reach ≤ radius m (length es))
+      go Passed f e = (f, leb-true reach (radius m (length es)) (ask-yes (leb reach (radius m (length es))) Reach Passed e))
+      go (Refused q) f e = let z : _≡_ {A = ℕ} 0 1 = cc in absurd (omega arith)
+
+-- who names no reach is asked nothing more
+pub passes-radius : (m : ℕ) (w es : List ℕ) → withinAsked m w es (radius m (length es)) ≡ restoreAsked m w es
+unfolding withinAsked
+passes-radius m w es = go (restoreAsked m w es)
+  where
+    go : (v : Verdict) → followed v (asksReach m w es (radius m (length es))) ≡ v
+    go Passed = ap (λ (b : Bool). ask b Reach Passed) (le-leb (radius m (length es)) (radius m (length es)) (le-refl (radius m (length es))))
+    go (Refused q) = refl

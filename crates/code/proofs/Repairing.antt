@@ -26,9 +26,9 @@ use Rattle.code.specs.declared.restorer.Trial.{Trial}
 use Rattle.code.specs.declared.restorer.Correction.{Correction}
 use Rattle.code.specs.Word.{checks, five, places, at, syndrome, Codeword}
 use Rattle.code.specs.Erasure.{member, differ, total, changesBelow, changes, masked, maskedSyndrome, syndromesOf}
-use Rattle.code.specs.Near.{distance, radius, Near, Restoration, none, one, several, restoration}
-use Rattle.code.specs.Call.{allZero, written, done, shown, Displays, decided, restored, restoreAsked, repair, Restores}
-use Rattle.code.specs.Demands.{Passes, TwoNear}
+use Rattle.code.specs.Near.{distance, Near, Restoration, none, one, several, restoration}
+use Rattle.code.specs.Call.{allZero, written, done, shown, Displays, decided, restored, restoreAsked, repair, withinAsked, RestoresWithin}
+use Rattle.code.specs.Demands.{Passes, PassesWithin, TwoNear}
 use Rattle.code.specs.Correction.{fill, Lent, tried, Ready, corrected, SeveralAt, Corrects, Ambiguous, NoneWithin, Workable}
 use Rattle.code.specs.Matrix.{unknowns}
 use Rattle.code.proofs.Sums.{syndrome-cong}
@@ -37,8 +37,8 @@ use Rattle.code.proofs.Questions.{allBelow-means, allBelow-holds}
 use Rattle.code.proofs.Unique.{differ-eq, differ-ne, differ-le}
 use Rattle.code.proofs.Filling.{Each, length-fill, fill-each, masked-lt, agrees-changes}
 use Rattle.code.proofs.Extra.{agrees-within, within-agrees}
-use Rattle.code.proofs.Passing.{five-zero, given}
-use Rattle.code.proofs.Restoring.{never-two, finds-one, finds-none, finds-several}
+use Rattle.code.proofs.Passing.{five-zero, given, within-passes}
+use Rattle.code.proofs.Restoring.{G, never-two, finds-one, finds-none, finds-several}
 use Rattle.code.proofs.Members.{append-right}
 
 -- ---- a word copied and filled
@@ -188,64 +188,65 @@ displays-passed m w es p t e R = record {
 
 -- ---- the answer
 
--- an earlier question was answered no
-pub restores-refused : (m : ℕ) (w es : List ℕ) (v : Verdict) (q : Question) → v ≡ restoreAsked m w es → v ≡ RefusedBy q → (new : List ℕ) → new ≡ w
-    → Restores m w es (Refused q) new
-restores-refused m w es v q e p new h =
-    let f : RefusedBy q ≡ restoreAsked m w es = sym p ∙ e in
-    let x = restoration m es w (radius m (length es)) in
+-- a question before question 8 was answered no
+pub restores-refused : (m : ℕ) (w es : List ℕ) (reach : ℕ) (v : Verdict) (q : Question) → v ≡ withinAsked m w es reach → v ≡ RefusedBy q
+    → (new : List ℕ) → new ≡ w → RestoresWithin m w es reach (Refused q) new
+restores-refused m w es reach v q e p new h =
+    let f : RefusedBy q ≡ withinAsked m w es reach = sym p ∙ e in
+    let x = restoration m es w reach in
     record {
       answer = ap (λ (u : Verdict). after u (decided m w es x)) f;
       word = h ∙ ap (λ (u : Verdict). written u w (restored w x)) f;
     }
 
 -- the questions before question 8 were answered yes
-module _ (m : ℕ) (w es : List ℕ) (P : Passes m w es) where
-  abbrev r : ℕ
-  r = radius m (length es)
-
+module _ (m : ℕ) (w es : List ℕ) (r : ℕ) (P : PassesWithin m w es r) where
   answers : (x : Restoration) → restoration m es w r ≡ x → (a : Repair) (new : List ℕ) → repair a ≡ decided m w es x → new ≡ restored w x
-      → Restores m w es a new
+      → RestoresWithin m w es r a new
   answers x e a new f g = record {
     answer = f ∙ ap (decided m w es) (sym e) ∙ sym (ap (λ (v : Verdict). after v (decided m w es (restoration m es w r))) P);
     word = g ∙ ap (restored w) (sym e) ∙ sym (ap (λ (v : Verdict). written v w (restored w (restoration m es w r))) P);
   }
 
   near-answers : (c : List ℕ) → Near m es w r c → ((d : List ℕ) → Near m es w r d → d ≡ c) → (k : ℕ) (new : List ℕ) → k ≡ changes m es w c
-      → new ≡ c → Restores m w es (Restored k) new
-  near-answers c N only k new ek en = answers (one c) (finds-one m w es P c N only) (Restored k) new (ap accepted ek) en
+      → new ≡ c → RestoresWithin m w es r (Restored k) new
+  near-answers c N only k new ek en = answers (one c) (finds-one m w es r P c N only) (Restored k) new (ap accepted ek) en
 
   -- with few erasures a near codeword is the only one
   few-only : length es < distance m → (c : List ℕ) → Near m es w r c → (d : List ℕ) → Near m es w r d → d ≡ c
-  few-only h c N d N′ = never-two m w es P h d c N′ N
+  few-only h c N d N′ = never-two m w es r P h d c N′ N
 
   -- a correction was found and written
   pub restores-found : (c : Correction) (k : ℕ) (new : List ℕ) → Corrects m w es r c → new ≡ corrected w c
-      → k ≡ changesBelow (length w) es w (corrected w c) → Restores m w es (Restored k) new
+      → k ≡ changesBelow (length w) es w (corrected w c) → RestoresWithin m w es r (Restored k) new
   restores-found c k new C e f =
       near-answers (corrected w c) near (only (decLt (length es) (distance m))) k new
-      (f ∙ ap (λ (n : ℕ). changesBelow n es w (corrected w c)) (given m w es P .lent .size)) e
+      (f ∙ ap (λ (n : ℕ). changesBelow n es w (corrected w c)) (lent .size)) e
     where
+      lent : Lent m w es
+      lent = G m w es r P .lent
+
       near : Near m es w r (corrected w c)
       near = agrees-within (C .extra) (C .few) (C .codeword) (C .agrees)
 
       -- with as many erasures as the distance there are no extra places
       only : Dec (length es < distance m) → (d : List ℕ) → Near m es w r d → d ≡ corrected w c
       only (yes h) = few-only h (corrected w c) near
-      only (no n) = λ d N. C .only d (N .codeword) (λ p h o. within-agrees (given m w es P .lent) d N (omega arith) p h (append-right (C .extra) es p o))
+      only (no n) = λ d N. C .only d (N .codeword) (λ p h o.
+          within-agrees lent d N (omega (arith, within-passes m w es r P .1)) p h (append-right (C .extra) es p o))
 
   -- nothing is near
-  pub restores-none : NoneWithin m w es r → (new : List ℕ) → new ≡ w → Restores m w es (Refused Correctable) new
-  restores-none N new e = answers none (finds-none m w es P .1 N) (Refused Correctable) new refl e
+  pub restores-none : NoneWithin m w es r → (new : List ℕ) → new ≡ w → RestoresWithin m w es r (Refused Correctable) new
+  restores-none N new e = answers none (finds-none m w es r P .1 N) (Refused Correctable) new refl e
 
   -- several codewords are near
-  pub restores-several : Ambiguous m w es r → (new : List ℕ) → new ≡ w → Restores m w es (Refused Unique) new
-  restores-several A new e = answers several (finds-several m w es P .1 two) (Refused Unique) new refl e
+  pub restores-several : Ambiguous m w es r → (new : List ℕ) → new ≡ w → RestoresWithin m w es r (Refused Unique) new
+  restores-several A new e = answers several (finds-several m w es r P .1 two) (Refused Unique) new refl e
     where
       T : SeveralAt m w (A .extra ++ es)
       T = A .two
 
-      two : TwoNear m es w
+      two : TwoNear m es w r
       two = record {
         first = T .first;
         second = T .second;
@@ -256,7 +257,7 @@ module _ (m : ℕ) (w es : List ℕ) (P : Passes m w es) where
 
   -- a codeword without erasures
   pub restores-clean : (t : Trial) → tried t ≡ es → Ready m w t → length es ≡ 0 → allZero (t .sums) ≡ true → (new : List ℕ) → new ≡ w
-      → Restores m w es (Restored 0) new
+      → RestoresWithin m w es r (Restored 0) new
   restores-clean t et R l z new e =
       near-answers w near (few-only (omega arith) w near) 0 new (omega (arith, still)) e
     where
@@ -279,12 +280,13 @@ module _ (m : ℕ) (w es : List ℕ) (P : Passes m w es) where
       near : Near m es w r w
       near = record { codeword = word; few = le-trans still zero-le }
 
-  pub workable : Workable w es
-  workable =
-      let g = given m w es P in
-      record {
-        few = omega (arith, g .few);
-        long = omega (arith, g .lent .size, field-of m (g .width) .one-lt);
-        short = omega (arith, g .lent .size, order-small m (g .width));
-        below = subst (λ (n : ℕ). allBelow n es ≡ true) (sym (g .lent .size)) (g .lent .below);
-      }
+-- what the questions passed say of the memory lent
+pub workable : (m : ℕ) (w es : List ℕ) → Passes m w es → Workable w es
+workable m w es P =
+    let g = given m w es P in
+    record {
+      few = omega (arith, g .few);
+      long = omega (arith, g .lent .size, field-of m (g .width) .one-lt);
+      short = omega (arith, g .lent .size, order-small m (g .width));
+      below = subst (λ (n : ℕ). allBelow n es ≡ true) (sym (g .lent .size)) (g .lent .below);
+    }

@@ -1,10 +1,11 @@
 -- The demands on the restorer: there are never two near codewords, what it accepts and refuses, that a refused word stays, and that neither
 -- the symbols at the erasures nor the order of the erasures matter. Assumes nothing.
 use mathlib.Core.Path.{_≡_, refl, sym, ap, ap₂, _∙_, subst}
-use mathlib.Core.Logic.{_↔_, _≢_}
+use mathlib.Core.Logic.{_↔_, _≢_, _⊎_, inl, inr}
 use mathlib.Core.Bool.{Bool, true, false, cond}
 use mathlib.Core.List.{List}
-use Prim.Native.Nat.{ℕ, _<_}
+use Prim.Native.Nat.{ℕ, _+_, _≤_, _<_}
+use native.Mathlib.Nat.{le-refl, le-trans}
 use native.Mathlib.Decide.{decLt}
 use native.Mathlib.Omega.{arith}
 use borrow.Author.Tests.{le-leb}
@@ -13,7 +14,7 @@ use lib.ListN.{length, List·getD-eq-default}
 use Rattle.field.specs.Field.{order}
 use Rattle.field.specs.Question.{Outcome, accepted, refused, refusal, ask, after, isWidth, allBelow}
 use Rattle.field.specs.declared.Question.{Question}
-use Rattle.field.specs.declared.Question.the-variants.{Width, Length, ErasureCount, ErasurePlace, ErasureDistinct, Symbol}
+use Rattle.field.specs.declared.Question.the-variants.{Width, Length, ErasureCount, ErasurePlace, ErasureDistinct, Symbol, Reach}
 use Rattle.field.specs.declared.Verdict.{Verdict}
 use Rattle.field.specs.declared.Verdict.the-variants.{Passed, Refused}
 use Rattle.field.proofs.Laws.{IsField}
@@ -21,16 +22,17 @@ use Rattle.field.proofs.Widths.{field-of}
 use Rattle.code.specs.Word.{places, at}
 use Rattle.code.specs.Erasure.{member, distinct, symbolsFrom, differ, changes, masked, syndromesOf}
 use Rattle.code.specs.Near.{distance, radius, codewords, Near, nearby, Restoration, none, one, several, found, restoration}
-use Rattle.code.specs.Call.{maxErasures, written, done, shown, decided, restored, restoreAsked, restoreWritten}
-use Rattle.code.specs.Demands.{Passes, NeverTwo, Nearest, Accepts, RefusesSeven, TwoNear, RefusesFourteen, FewErasures, RefusedUnchanged}
+use Rattle.code.specs.Call.{maxErasures, written, done, shown, decided, restored, restoreAsked, followed, withinAsked, withinOf, withinWritten}
+use Rattle.code.specs.Demands.{Passes, PassesWithin, NeverTwo, Nearest, Accepts, RefusesSeven, TwoNear, RefusesFourteen, FewErasures, RefusedUnchanged}
+use Rattle.code.specs.Demands.{LongerReach, ShorterReach}
 use Rattle.code.specs.Demands.{SameErasures, AgreeOutside, SameRestored, SameDisplayed}
 use Rattle.code.proofs.Sums.{total-cong, syndrome-cong}
 use Rattle.code.proofs.Horner.{five-cong}
 use Rattle.code.proofs.Questions.{bool-eq, allBelow-means, allBelow-holds, member-means, member-at, symbols-means, symbols-holds}
 use Rattle.code.proofs.Members.{distinct-once, once-distinct, same-member, same-length}
 use Rattle.code.proofs.DistanceLaw.{distance-of}
-use Rattle.code.proofs.Unique.{near-unique, radius-few}
-use Rattle.code.proofs.Passing.{given}
+use Rattle.code.proofs.Unique.{same-near, radius-few}
+use Rattle.code.proofs.Passing.{Given, given, asksReach, within-passes}
 use Rattle.code.proofs.Codewords.{keep-cong, restoration-none, restoration-far, restoration-near, restoration-only, restoration-one}
 use Rattle.code.proofs.Codewords.{restoration-several, restoration-two}
 
@@ -50,12 +52,12 @@ module _ (m : ℕ) (w es : List ℕ) where
   refused-means Passed several n e = refl
   refused-means (Refused q) r n e = refl
 
-  written-one : (c : List ℕ) → Passes m w es → restoration m es w (radius m (length es)) ≡ one c → restoreWritten m w es ≡ c
-  written-one c p f = simp (p, f)
+  written-one : (reach : ℕ) (c : List ℕ) → PassesWithin m w es reach → restoration m es w reach ≡ one c → withinWritten m w es reach ≡ c
+  written-one reach c p f = simp (p, f)
 
 -- what is refused stays as it was
 pub refused-unchanged : RefusedUnchanged
-refused-unchanged m w es n e = refused-means m w es (restoreAsked m w es) (restoration m es w (radius m (length es))) n e
+refused-unchanged m w es reach n e = refused-means m w es (withinAsked m w es reach) (restoration m es w reach) n e
 
 -- a number that no question before question 8 has
 record Late (n : ℕ) : Type 0 where
@@ -65,6 +67,7 @@ record Late (n : ℕ) : Type 0 where
   place : refusal ErasurePlace ≢ n
   distinct : refusal ErasureDistinct ≢ n
   symbol : refusal Symbol ≢ n
+  reach : refusal Reach ≢ n
 
 late-step : (n : ℕ) (b : Bool) (q : Question) (v : Verdict) (o : Outcome) → refusal q ≢ n → (after v o ≡ refused n → v ≡ Passed)
     → after (ask b q v) o ≡ refused n → ask b q v ≡ Passed
@@ -82,58 +85,78 @@ late-passed n L m w es o =
     (late-step n (distinct es) ErasureDistinct _ o (L .distinct)
     (late-step n (symbolsFrom (order m) es 0 w) Symbol Passed o (L .symbol) (λ e. refl))))))
 
-late : (n : ℕ) → 6 < n → Late n
-late n h = record {
+late-within : (n : ℕ) → Late n → (m : ℕ) (w es : List ℕ) (reach : ℕ) (o : Outcome) → after (withinAsked m w es reach) o ≡ refused n
+    → PassesWithin m w es reach
+unfolding withinAsked
+late-within n L m w es reach o e = go (restoreAsked m w es) refl e
+  where
+    go : (v : Verdict) → restoreAsked m w es ≡ v → after (followed v (asksReach m w es reach)) o ≡ refused n
+        → followed v (asksReach m w es reach) ≡ Passed
+    go Passed f e = late-step n (leb reach (radius m (length es))) Reach Passed o (L .reach) (λ e. refl) e
+    go (Refused q) f e =
+        let p = late-passed n L m w es o (ap (λ (v : Verdict). after v o) f ∙ e) in
+        let z : _≡_ {A = ℕ} 0 1 = cc in absurd (omega arith)
+
+late : (n : ℕ) → 6 < n → n < 16 → Late n
+late n h l = record {
   width = λ e. omega arith;
   length = λ e. omega arith;
   count = λ e. omega arith;
   place = λ e. omega arith;
   distinct = λ e. omega arith;
   symbol = λ e. omega arith;
+  reach = λ e. omega arith;
 }
 
 -- ---- what restoring finds, of an input that passes
 
--- with fewer erasures than the distance there is never more than one near codeword
-pub never-two : NeverTwo
-never-two m w es p h c d N N′ =
-    let G = given m w es p in
-    near-unique (field-of m (G .width)) (distance m) (distance-of m (G .width)) N N′ (radius-few m (length es) h)
+-- what passes, with fewer erasures than the distance, has s + 2 reach below the distance
+reach-few : (m : ℕ) (w es : List ℕ) (reach : ℕ) → PassesWithin m w es reach → length es < distance m → length es + reach + reach < distance m
+reach-few m w es reach p h = omega (arith, within-passes m w es reach p .1, radius-few m (length es) h)
 
-module _ (m : ℕ) (w es : List ℕ) (p : Passes m w es) where
-  abbrev r : ℕ
-  r = radius m (length es)
+module _ (m : ℕ) (w es : List ℕ) (reach : ℕ) (p : PassesWithin m w es reach) where
+  pub G : Given m w es
+  G = given m w es (within-passes m w es reach p .0)
 
   F : IsField m
-  F = field-of m (given m w es p .width)
+  F = field-of m (G .width)
 
-  finds-nearest : (c : List ℕ) (k : ℕ) → restoration m es w r ≡ one c → k ≡ changes m es w c → Nearest m w es c k
-  finds-nearest c k f e = record { near = restoration-near F es w r c f; only = restoration-only F es w r c f; count = e }
+  -- two codewords near enough to w are one
+  alike : (c d : List ℕ) (a b : ℕ) → Near m es w a c → Near m es w b d → length es + a + b < distance m → c ≡ d
+  alike c d a b N N′ few =
+      same-near F (distance m) (distance-of m (G .width)) (N .codeword) (N′ .codeword) es w a b few (N .few) (N′ .few)
 
-  pub finds-one : (c : List ℕ) → Near m es w r c → ((d : List ℕ) → Near m es w r d → d ≡ c) → restoration m es w r ≡ one c
-  finds-one = restoration-one F es w r
+  finds-nearest : (c : List ℕ) (k : ℕ) → restoration m es w reach ≡ one c → k ≡ changes m es w c → Nearest m w es reach c k
+  finds-nearest c k f e = record { near = restoration-near F es w reach c f; only = restoration-only F es w reach c f; count = e }
 
-  pub finds-none : restoration m es w r ≡ none ↔ ((c : List ℕ) → Near m es w r c → ⊥)
-  finds-none = (restoration-far F es w r, restoration-none F es w r)
+  pub finds-one : (c : List ℕ) → Near m es w reach c → ((d : List ℕ) → Near m es w reach d → d ≡ c) → restoration m es w reach ≡ one c
+  finds-one = restoration-one F es w reach
 
-  pub finds-several : restoration m es w r ≡ several ↔ TwoNear m es w
+  pub finds-none : restoration m es w reach ≡ none ↔ ((c : List ℕ) → Near m es w reach c → ⊥)
+  finds-none = (restoration-far F es w reach, restoration-none F es w reach)
+
+  pub finds-several : restoration m es w reach ≡ several ↔ TwoNear m es w reach
   finds-several = (
     λ e.
-        let t = restoration-two F es w r e in
+        let t = restoration-two F es w reach e in
         record { first = t .0; second = t .1; first-near = t .2; second-near = t .3; different = t .4 },
-    λ T. restoration-several F es w r (T .first) (T .second) (T .first-near) (T .second-near) (T .different),
+    λ T. restoration-several F es w reach (T .first) (T .second) (T .first-near) (T .second-near) (T .different),
   )
+
+-- with fewer erasures than the distance there is never more than one near codeword
+pub never-two : NeverTwo
+never-two m w es reach p h c d N N′ = alike m w es reach p c d reach reach N N′ (reach-few m w es reach p h)
 
 -- accepted exactly when one codeword alone is near, and then the word ends equal to it
 pub accepts : Accepts
-accepts m w es k c = (
+accepts m w es reach k c = (
   λ h.
-      let r = accepted-means m w es (restoreAsked m w es) (restoration m es w (radius m (length es))) k (h .0) in
-      let d : r .1 ≡ c = sym (written-one m w es (r .1) (r .0) (r .2)) ∙ h .1 in
-      (r .0, finds-nearest m w es (r .0) c k (r .2 ∙ ap one d) (r .3 ∙ ap (changes m es w) d)),
+      let r = accepted-means m w es (withinAsked m w es reach) (restoration m es w reach) k (h .0) in
+      let d : r .1 ≡ c = sym (written-one m w es reach (r .1) (r .0) (r .2)) ∙ h .1 in
+      (r .0, finds-nearest m w es reach (r .0) c k (r .2 ∙ ap one d) (r .3 ∙ ap (changes m es w) d)),
   λ h.
-      let f = finds-one m w es (h .0) c (h .1 .near) (h .1 .only) in
-      (simp (h .0, f, h .1 .count), written-one m w es c (h .0) f),
+      let f = finds-one m w es reach (h .0) c (h .1 .near) (h .1 .only) in
+      (simp (h .0, f, h .1 .count), written-one m w es reach c (h .0) f),
 )
 
 -- the number that question 8 or the one behind it gives tells what was found
@@ -150,32 +173,66 @@ module _ (m : ℕ) (w es : List ℕ) where
 
 -- refused with 7 exactly when none is near
 pub refuses-seven : RefusesSeven
-refuses-seven m w es = (
+refuses-seven m w es reach = (
   λ e.
-      let x = restoration m es w (radius m (length es)) in
-      let p = late-passed 7 (late 7 (omega arith)) m w es (decided m w es x) e in
-      (p, finds-none m w es p .0 (tells-none m w es x (simp p at e))),
-  λ h. let f = finds-none m w es (h .0) .1 (h .1) in simp (h .0, f),
+      let x = restoration m es w reach in
+      let p = late-within 7 (late 7 (omega arith) (omega arith)) m w es reach (decided m w es x) e in
+      (p, finds-none m w es reach p .0 (tells-none m w es x (simp p at e))),
+  λ h. let f = finds-none m w es reach (h .0) .1 (h .1) in simp (h .0, f),
 )
 
 -- refused with 14 exactly when several are near
 pub refuses-fourteen : RefusesFourteen
-refuses-fourteen m w es = (
+refuses-fourteen m w es reach = (
   λ e.
-      let x = restoration m es w (radius m (length es)) in
-      let p = late-passed 14 (late 14 (omega arith)) m w es (decided m w es x) e in
-      (p, finds-several m w es p .0 (tells-several m w es x (simp p at e))),
-  λ h. let f = finds-several m w es (h .0) .1 (h .1) in simp (h .0, f),
+      let x = restoration m es w reach in
+      let p = late-within 14 (late 14 (omega arith) (omega arith)) m w es reach (decided m w es x) e in
+      (p, finds-several m w es reach p .0 (tells-several m w es x (simp p at e))),
+  λ h. let f = finds-several m w es reach (h .0) .1 (h .1) in simp (h .0, f),
 )
 
 -- which does not happen with fewer erasures than the distance
 pub few-erasures : FewErasures
-few-erasures m w es h = (
+few-erasures m w es reach h = (
   le-leb (length es) (maxErasures m) (omega arith),
   λ e.
-      let t = refuses-fourteen m w es .0 e in
-      t .1 .different (never-two m w es (t .0) h (t .1 .first) (t .1 .second) (t .1 .first-near) (t .1 .second-near)),
+      let t = refuses-fourteen m w es reach .0 e in
+      t .1 .different (never-two m w es reach (t .0) h (t .1 .first) (t .1 .second) (t .1 .first-near) (t .1 .second-near)),
 )
+
+-- ---- a shorter reach
+
+near-more : {m : ℕ} {es w : List ℕ} {r s : ℕ} {c : List ℕ} → r ≤ s → Near m es w r c → Near m es w s c
+near-more h N = record { codeword = N .codeword; few = le-trans (N .few) h }
+
+pub longer-reach : LongerReach
+longer-reach m w es reach longer k few h p e =
+    let a = accepts m w es reach k (withinWritten m w es reach) .0 (e, refl) in
+    let N = near-more h (a .1 .near) in
+    accepts m w es longer k (withinWritten m w es reach) .1 (
+      p,
+      record { near = N; only = λ d N′. never-two m w es longer p few d _ N′ N; count = a .1 .count },
+    )
+
+-- what comes back is c, or nothing is within the reach
+pub shorter-reach : ShorterReach
+shorter-reach m w es reach c p C few = go (restoration m es w reach) refl
+  where
+    N : Near m es w (changes m es w c) c
+    N = record { codeword = C; few = le-refl (changes m es w c) }
+
+    same : (d : List ℕ) → Near m es w reach d → d ≡ c
+    same d N′ = alike m w es reach p d c reach (changes m es w c) N′ N few
+
+    go : (x : Restoration) → restoration m es w reach ≡ x
+        → ((withinOf m w es reach ≡ accepted (changes m es w c)) × (withinWritten m w es reach ≡ c)) ⊎ (withinOf m w es reach ≡ refused 7)
+    go none f = inr (simp (p, f))
+    go (one d) f =
+        let e = same d (finds-nearest m w es reach p d (changes m es w d) f refl .near) in
+        inl (simp (p, f, ap (changes m es w) e), written-one m w es reach d p f ∙ e)
+    go several f =
+        let t = finds-several m w es reach p .0 f in
+        absurd (t .different (same (t .first) (t .first-near) ∙ sym (same (t .second) (t .second-near))))
 
 -- ---- words that agree outside the same erasures
 
@@ -246,25 +303,28 @@ same-asked {w} {w′} {es} {es′} a m =
       bool-eq _ _ (symbols-too a (order m)) (symbols-too (flipped a) (order m)),
     )
 
--- words that agree outside the same erasures get the same answers and, if accepted, end equal
+same-within : {w w′ es es′ : List ℕ} → Alike w w′ es es′ → (m reach : ℕ) → withinAsked m w es reach ≡ withinAsked m w′ es′ reach
+unfolding withinAsked
+same-within {w} {w′} {es} {es′} a m reach =
+    ap₂ (λ (v : Verdict) (n : ℕ). followed v (ask (leb reach (radius m n)) Reach Passed)) (same-asked a m) (same-length es es′ (a .erasures))
+
+-- words that agree outside the same erasures get the same answers at the same reach and, if accepted, end equal
 pub same-restored : SameRestored
-same-restored m w w′ es es′ l same agree = (
-  ap₂ after asked (ap (decided m w es) found′ ∙ same-decided a m (restoration m es′ w′ (radius m (length es′)))),
+same-restored m w w′ es es′ reach l same agree = (
+  ap₂ after asked (ap (decided m w es) found′ ∙ same-decided a m (restoration m es′ w′ reach)),
   λ k e.
-      let r = accepted-means m w es (restoreAsked m w es) (restoration m es w (radius m (length es))) k e in
-      written-one m w es (r .1) (r .0) (r .2) ∙ sym (written-one m w′ es′ (r .1) (sym asked ∙ r .0) (sym found′ ∙ r .2)),
+      let r = accepted-means m w es (withinAsked m w es reach) (restoration m es w reach) k e in
+      written-one m w es reach (r .1) (r .0) (r .2) ∙ sym (written-one m w′ es′ reach (r .1) (sym asked ∙ r .0) (sym found′ ∙ r .2)),
 )
   where
     a : Alike w w′ es es′
     a = record { size = l; erasures = same; outside = agree }
 
-    asked : restoreAsked m w es ≡ restoreAsked m w′ es′
-    asked = same-asked a m
+    asked : withinAsked m w es reach ≡ withinAsked m w′ es′ reach
+    asked = same-within a m reach
 
-    found′ : restoration m es w (radius m (length es)) ≡ restoration m es′ w′ (radius m (length es′))
-    found′ =
-        same-restoration a m (radius m (length es))
-        ∙ ap (λ (n : ℕ). restoration m es′ w′ (radius m n)) (same-length es es′ (a .erasures))
+    found′ : restoration m es w reach ≡ restoration m es′ w′ reach
+    found′ = same-restoration a m reach
 
 -- ---- the display
 

@@ -95,11 +95,6 @@ module _ {m : ℕ} (F : IsField m) (d : ℕ) (dist : Distance m d) {c c′ : Lis
       v : ℕ → ℕ
       v p = cond (member p es) 0 (differ (at w p) (at c′ p))
 
--- with s erasures and s + 2r below the distance, there is at most one codeword within r places
-pub near-unique : {m : ℕ} → IsField m → (d : ℕ) → Distance m d → {es w c c′ : List ℕ} {r : ℕ}
-    → Near m es w r c → Near m es w r c′ → length es + r + r < d → c ≡ c′
-near-unique F d dist {es} {w} {r = r} N N′ h = same-near F d dist (N .codeword) (N′ .codeword) es w r r h (N .few) (N′ .few)
-
 -- s + 2r is below the distance
 pub radius-few : (m s : ℕ) → s < distance m → s + radius m s + radius m s < distance m
 radius-few m s h = omega arith

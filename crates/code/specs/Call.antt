@@ -7,7 +7,7 @@ use lib.Dec.{eqb, leb}
 use lib.ListN.{length, replicate}
 use Rattle.field.specs.Field.{order}
 use Rattle.field.specs.Question.{Outcome, accepted, refused, refusal, ask, after, isWidth, allBelow}
-use Rattle.field.specs.declared.Question.the-variants.{Width, Length, ErasureCount, ErasurePlace, ErasureDistinct, Symbol, Correctable, Unique, Syndrome}
+use Rattle.field.specs.declared.Question.the-variants.{Width, Length, ErasureCount, ErasurePlace, ErasureDistinct, Symbol, Reach, Correctable, Unique, Syndrome}
 use Rattle.field.specs.declared.Verdict.{Verdict}
 use Rattle.field.specs.declared.Verdict.the-variants.{Passed, Refused as RefusedBy}
 use Rattle.code.specs.declared.Syndromes.{Syndromes}
@@ -137,7 +137,16 @@ pub record Displays (m : ℕ) (word es : List ℕ) (r : Syndromes) : Type 0 wher
   pub answer : done (r .verdict) ≡ displayOf m word es
   pub sums : r .sums ≡ displayed m word es
 
--- ---- the restorer: question 8
+-- ---- the restorer with a reach: document 02's question about it, then question 8
+
+-- the next question, put where all before it were answered yes
+abbrev pub followed : Verdict → Verdict → Verdict
+followed Passed next = next
+followed (RefusedBy q) next = RefusedBy q
+
+-- all questions before question 8, the last of them whether the reach is at most r
+unfoldable pub withinAsked : ℕ → List ℕ → List ℕ → ℕ → Verdict
+withinAsked m word es reach = followed (restoreAsked m word es) (ask (leb reach (radius m (length es))) Reach Passed)
 
 -- question 8, then document 02's question whether there are not several near codewords, and the number of changed places
 abbrev pub decided : ℕ → List ℕ → List ℕ → Restoration → Outcome
@@ -151,13 +160,13 @@ restored word none = word
 restored word (one c) = c
 restored word several = word
 
--- what the restorer answers
-abbrev pub restoreOf : ℕ → List ℕ → List ℕ → Outcome
-restoreOf m word es = after (restoreAsked m word es) (decided m word es (restoration m es word (radius m (length es))))
+-- what the restorer answers at a reach
+abbrev pub withinOf : ℕ → List ℕ → List ℕ → ℕ → Outcome
+withinOf m word es reach = after (withinAsked m word es reach) (decided m word es (restoration m es word reach))
 
 -- the word after the call
-abbrev pub restoreWritten : ℕ → List ℕ → List ℕ → List ℕ
-restoreWritten m word es = written (restoreAsked m word es) word (restored word (restoration m es word (radius m (length es))))
+abbrev pub withinWritten : ℕ → List ℕ → List ℕ → ℕ → List ℕ
+withinWritten m word es reach = written (withinAsked m word es reach) word (restored word (restoration m es word reach))
 
 -- the outcome that the restorer's answer stands for
 abbrev pub repair : Repair → Outcome
@@ -165,6 +174,17 @@ repair (Restored k) = accepted k
 repair (RefusedRepair q) = refused (refusal q)
 
 -- the call's promise: what restore answers and leaves in the word
-pub record Restores (m : ℕ) (old es : List ℕ) (r : Repair) (new : List ℕ) : Type 0 where
-  pub answer : repair r ≡ restoreOf m old es
-  pub word : new ≡ restoreWritten m old es
+pub record RestoresWithin (m : ℕ) (old es : List ℕ) (reach : ℕ) (r : Repair) (new : List ℕ) : Type 0 where
+  pub answer : repair r ≡ withinOf m old es reach
+  pub word : new ≡ withinWritten m old es reach
+
+-- ---- who names no reach gets r
+
+abbrev pub restoreOf : ℕ → List ℕ → List ℕ → Outcome
+restoreOf m word es = withinOf m word es (radius m (length es))
+
+abbrev pub restoreWritten : ℕ → List ℕ → List ℕ → List ℕ
+restoreWritten m word es = withinWritten m word es (radius m (length es))
+
+abbrev pub Restores : ℕ → List ℕ → List ℕ → Repair → List ℕ → Type 0
+Restores m old es r new = RestoresWithin m old es (radius m (length es)) r new

@@ -1,7 +1,7 @@
 -- The demands on encoder, reader and restorer, as statements about the definitions. The calls' contracts say that they answer by these
 -- definitions; proofs/Demands.antt proves each statement under the same name in small letters. Assumes nothing.
 use mathlib.Core.Path.{_≡_}
-use mathlib.Core.Logic.{_↔_, _≢_}
+use mathlib.Core.Logic.{_↔_, _≢_, _⊎_}
 use mathlib.Core.Bool.{true, false, cond}
 use mathlib.Core.List.{List, [], _∷_}
 use Prim.Native.Nat.{ℕ, _+_, _≤_, _<_}
@@ -12,8 +12,8 @@ use Rattle.field.specs.Question.{accepted, refused, isWidth}
 use Rattle.field.specs.declared.Verdict.the-variants.{Passed}
 use Rattle.code.specs.Word.{checks, five, places, items, at, syndrome, Codeword, dataOf}
 use Rattle.code.specs.Erasure.{member, changes}
-use Rattle.code.specs.Near.{distance, radius, Near}
-use Rattle.code.specs.Call.{maxErasures, encodeOf, encodeWritten, testAsked, testOf, readOf, readWritten, restoreAsked, displayOf, displayed, restoreOf, restoreWritten}
+use Rattle.code.specs.Near.{distance, Near}
+use Rattle.code.specs.Call.{maxErasures, encodeOf, encodeWritten, testAsked, testOf, readOf, readWritten, restoreAsked, displayOf, displayed, withinAsked, withinOf, withinWritten}
 
 -- ---- demand 2
 
@@ -48,64 +48,83 @@ TestsCodeword =
 
 -- ---- demand 3
 
--- the input passes the questions before question 8
+-- the input passes the questions about the word and its erasures
 abbrev pub Passes : ℕ → List ℕ → List ℕ → Type 0
 Passes m w es = restoreAsked m w es ≡ Passed
 
--- c is near with the radius that the number of erasures leaves
-abbrev pub NearBy : ℕ → List ℕ → List ℕ → List ℕ → Type 0
-NearBy m es w c = Near m es w (radius m (length es)) c
+-- and with the reach all questions before question 8. The calls without a reach are those with r, so that each statement below is about them
+-- too: their reach is `radius m (length es)`, and with it this is Passes (`passes-radius` of proofs/Passing.antt)
+abbrev pub PassesWithin : ℕ → List ℕ → List ℕ → ℕ → Type 0
+PassesWithin m w es reach = withinAsked m w es reach ≡ Passed
 
 -- with fewer erasures than the distance there is never more than one near codeword
 abbrev pub NeverTwo : Type 0
 NeverTwo =
-    (m : ℕ) (w es : List ℕ) → Passes m w es → length es < distance m → (c d : List ℕ) → NearBy m es w c → NearBy m es w d → c ≡ d
+    (m : ℕ) (w es : List ℕ) (reach : ℕ) → PassesWithin m w es reach → length es < distance m
+    → (c d : List ℕ) → Near m es w reach c → Near m es w reach d → c ≡ d
 
 -- c alone is near, and the answer k is the number of places, outside the erasures, where c differs from w
-pub record Nearest (m : ℕ) (w es c : List ℕ) (k : ℕ) : Type 0 where
-  pub near : NearBy m es w c
-  pub only : (d : List ℕ) → NearBy m es w d → d ≡ c
+pub record Nearest (m : ℕ) (w es : List ℕ) (reach : ℕ) (c : List ℕ) (k : ℕ) : Type 0 where
+  pub near : Near m es w reach c
+  pub only : (d : List ℕ) → Near m es w reach d → d ≡ c
   pub count : k ≡ changes m es w c
 
 -- the restorer accepts exactly when the input passes and exactly one codeword is near; the word then ends equal to it, and the answer counts
 -- the changed places
 abbrev pub Accepts : Type 0
 Accepts =
-    (m : ℕ) (w es : List ℕ) (k : ℕ) (c : List ℕ)
-    → ((restoreOf m w es ≡ accepted k) × (restoreWritten m w es ≡ c)) ↔ (Passes m w es × Nearest m w es c k)
+    (m : ℕ) (w es : List ℕ) (reach k : ℕ) (c : List ℕ)
+    → ((withinOf m w es reach ≡ accepted k) × (withinWritten m w es reach ≡ c)) ↔ (PassesWithin m w es reach × Nearest m w es reach c k)
 
 -- it refuses with 7 exactly when the input passes and no codeword is near
 abbrev pub RefusesSeven : Type 0
 RefusesSeven =
-    (m : ℕ) (w es : List ℕ) → (restoreOf m w es ≡ refused 7) ↔ (Passes m w es × ((c : List ℕ) → NearBy m es w c → ⊥))
+    (m : ℕ) (w es : List ℕ) (reach : ℕ)
+    → (withinOf m w es reach ≡ refused 7) ↔ (PassesWithin m w es reach × ((c : List ℕ) → Near m es w reach c → ⊥))
 
 -- two different codewords are near
-pub record TwoNear (m : ℕ) (es w : List ℕ) : Type 0 where
+pub record TwoNear (m : ℕ) (es w : List ℕ) (reach : ℕ) : Type 0 where
   pub first : List ℕ
   pub second : List ℕ
-  pub first-near : NearBy m es w first
-  pub second-near : NearBy m es w second
+  pub first-near : Near m es w reach first
+  pub second-near : Near m es w reach second
   pub different : first ≢ second
 
 -- it refuses with 14 exactly when the input passes and several codewords are near
 abbrev pub RefusesFourteen : Type 0
-RefusesFourteen = (m : ℕ) (w es : List ℕ) → (restoreOf m w es ≡ refused 14) ↔ (Passes m w es × TwoNear m es w)
+RefusesFourteen =
+    (m : ℕ) (w es : List ℕ) (reach : ℕ) → (withinOf m w es reach ≡ refused 14) ↔ (PassesWithin m w es reach × TwoNear m es w reach)
 
--- words lent with up to four erasures get what they got before a fifth was allowed: question 3 lets them pass, and several codewords are
--- never near, so that the answer is never 14
+-- words lent with fewer erasures than the distance get what they got before more were allowed: question 3 lets them pass, and several
+-- codewords are never near, so that the answer is never 14
 abbrev pub FewErasures : Type 0
 FewErasures =
-    (m : ℕ) (w es : List ℕ) → length es < distance m
-    → (leb (length es) (maxErasures m) ≡ true) × (restoreOf m w es ≡ refused 14 → ⊥)
+    (m : ℕ) (w es : List ℕ) (reach : ℕ) → length es < distance m
+    → (leb (length es) (maxErasures m) ≡ true) × (withinOf m w es reach ≡ refused 14 → ⊥)
 
 -- what is refused stays as it was
 abbrev pub RefusedUnchanged : Type 0
-RefusedUnchanged = (m : ℕ) (w es : List ℕ) (n : ℕ) → restoreOf m w es ≡ refused n → restoreWritten m w es ≡ w
+RefusedUnchanged = (m : ℕ) (w es : List ℕ) (reach n : ℕ) → withinOf m w es reach ≡ refused n → withinWritten m w es reach ≡ w
 
--- an accepted word has at most r changed places, and r is at most two
+-- what is restored at a reach is restored equally at each longer one allowed
+abbrev pub LongerReach : Type 0
+LongerReach =
+    (m : ℕ) (w es : List ℕ) (reach longer k : ℕ) → length es < distance m → reach ≤ longer → PassesWithin m w es longer
+    → withinOf m w es reach ≡ accepted k
+    → (withinOf m w es longer ≡ accepted k) × (withinWritten m w es longer ≡ withinWritten m w es reach)
+
+-- where the codeword c was written and no more than d - 1 - s - reach places outside the s erasures are wrong, d being the distance, c comes
+-- back or the call refuses with 7
+abbrev pub ShorterReach : Type 0
+ShorterReach =
+    (m : ℕ) (w es : List ℕ) (reach : ℕ) (c : List ℕ) → PassesWithin m w es reach → Codeword m c
+    → length es + reach + changes m es w c < distance m
+    → ((withinOf m w es reach ≡ accepted (changes m es w c)) × (withinWritten m w es reach ≡ c)) ⊎ (withinOf m w es reach ≡ refused 7)
+
+-- an accepted word has at most as many changed places as the reach, which is at most two
 abbrev pub FewChanged : Type 0
 FewChanged =
-    (m : ℕ) (w es : List ℕ) (k : ℕ) → restoreOf m w es ≡ accepted k → (k ≤ radius m (length es)) × (radius m (length es) ≤ 2)
+    (m : ℕ) (w es : List ℕ) (reach k : ℕ) → withinOf m w es reach ≡ accepted k → (k ≤ reach) × (reach ≤ 2)
 
 -- how often the number stands in the list
 unfoldable pub occurs : ℕ → List ℕ → ℕ
@@ -120,12 +139,12 @@ SameErasures es es′ = (p : ℕ) → occurs p es ≡ occurs p es′
 abbrev pub AgreeOutside : List ℕ → List ℕ → List ℕ → Type 0
 AgreeOutside es w w′ = (p : ℕ) → p < length w → member p es ≡ false → at w p ≡ at w′ p
 
--- words of one width and length that agree outside the same erasures get the same answers and, if accepted, end equal
+-- words of one width and length that agree outside the same erasures get the same answers at the same reach and, if accepted, end equal
 abbrev pub SameRestored : Type 0
 SameRestored =
-    (m : ℕ) (w w′ es es′ : List ℕ) → length w ≡ length w′ → SameErasures es es′ → AgreeOutside es w w′
-    → (restoreOf m w es ≡ restoreOf m w′ es′)
-    × ((k : ℕ) → restoreOf m w es ≡ accepted k → restoreWritten m w es ≡ restoreWritten m w′ es′)
+    (m : ℕ) (w w′ es es′ : List ℕ) (reach : ℕ) → length w ≡ length w′ → SameErasures es es′ → AgreeOutside es w w′
+    → (withinOf m w es reach ≡ withinOf m w′ es′ reach)
+    × ((k : ℕ) → withinOf m w es reach ≡ accepted k → withinWritten m w es reach ≡ withinWritten m w′ es′ reach)
 
 -- ---- the display of the syndromes
 

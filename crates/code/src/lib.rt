@@ -12,9 +12,9 @@ ghost use Rattle.field.specs.declared.Question.the-variants.{Symbol};
 ghost use Rattle.field.specs.declared.Verdict.the-variants.{Passed};
 ghost use Rattle.code.specs.Word.{checks, places, longest, wordLength, items, encode as encodeM};
 ghost use Rattle.code.specs.Call.{zeroSyndromes, wordAsked, dataAsked, Encodes, testAsked, testOf, membership, readAsked, Reads};
-ghost use Rattle.code.specs.Call.{erasuresAsked, restoreAsked, Displays, Restores};
+ghost use Rattle.code.specs.Call.{erasuresAsked, restoreAsked, Displays, withinAsked, RestoresWithin, Restores};
 ghost use Rattle.code.specs.Near.{radius};
-ghost use Rattle.code.specs.Demands.{Passes};
+ghost use Rattle.code.specs.Demands.{PassesWithin};
 
 mod place;
 pub mod question;
@@ -265,22 +265,42 @@ pub fn masked_syndromes(width: u8, word: &[u8], erasures: &[u8]) -> Syndromes
 }
 
 // r, the number of silent wrong symbols that are restored beside s erasures.
-fn radius_of(s: usize) -> usize
+pub fn radius_of(s: usize) -> u8
     ensures { λ r. ⌜ ((m : ℕ) → r ≡ radius m s) ⌝ }
 {
-    if s < 4 { (4 - s) / 2 } else { 0 }
+    match s {
+        0 => 2,
+        1 | 2 => 1,
+        _ => 0,
+    }
 }
 
-// Question 8, and whether there is just one near codeword: then it is written.
-fn correct(width: u8, word: &mut [u8], erasures: &[u8]) -> Repair
-    requires { ⌜ Passes width (now word) (now erasures) ⌝ }
-    ensures { λ r. ⌜ Restores width (now (word .entry)) (now (erasures .entry)) r (now (word .exit)) ⌝ }
+// All questions before question 8, with that about the reach.
+fn ask_within(width: u8, word: &[u8], erasures: &[u8], reach: u8) -> Verdict
+    ensures { λ r. ⌜ r ≡ withinAsked width (now (word .entry)) (now (erasures .entry)) reach ⌝ }
+{
+    match ask_restore(width, word, erasures) {
+        Verdict::Passed => {
+            if reach <= radius_of(erasures.len()) {
+                Verdict::Passed
+            } else {
+                Verdict::Refused(Question::Reach)
+            }
+        }
+        Verdict::Refused(q) => Verdict::Refused(q),
+    }
+}
+
+// Question 8, and whether there is just one codeword within the reach: then it is written.
+fn correct(width: u8, word: &mut [u8], erasures: &[u8], reach: u8) -> Repair
+    requires { ⌜ PassesWithin width (now word) (now erasures) reach ⌝ }
+    ensures { λ r. ⌜ RestoresWithin width (now (word .entry)) (now (erasures .entry)) reach r (now (word .exit)) ⌝ }
 {
     let t = started(width, word, erasures);
     if is_clean(t) {
         return Repair::Restored(0);
     }
-    let c = search(width, word, t, 0, radius_of(erasures.len()));
+    let c = search(width, word, t, 0, reach as usize);
     let found = c.found;
     match found {
         Solutions::None => Repair::Refused(Question::Correctable),
@@ -289,12 +309,19 @@ fn correct(width: u8, word: &mut [u8], erasures: &[u8]) -> Repair
     }
 }
 
-// Restores a word: the near codeword is written in its place.
+// Restores a word: the codeword that differs from it, outside the erasures, at no more places than the reach is written in its place.
+pub fn restore_within(width: u8, word: &mut [u8], erasures: &[u8], reach: u8) -> Repair
+    ensures { λ r. ⌜ RestoresWithin width (now (word .entry)) (now (erasures .entry)) reach r (now (word .exit)) ⌝ }
+{
+    match ask_within(width, word, erasures, reach) {
+        Verdict::Passed => correct(width, word, erasures, reach),
+        Verdict::Refused(q) => Repair::Refused(q),
+    }
+}
+
+// Restores a word with the longest reach that its erasures leave.
 pub fn restore(width: u8, word: &mut [u8], erasures: &[u8]) -> Repair
     ensures { λ r. ⌜ Restores width (now (word .entry)) (now (erasures .entry)) r (now (word .exit)) ⌝ }
 {
-    match ask_restore(width, word, erasures) {
-        Verdict::Passed => correct(width, word, erasures),
-        Verdict::Refused(q) => Repair::Refused(q),
-    }
+    restore_within(width, word, erasures, radius_of(erasures.len()))
 }

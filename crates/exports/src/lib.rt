@@ -4,9 +4,9 @@
 ghost use mathlib.Core.Path.{_≡_};
 ghost use Prim.Native.Nat.{_<_};
 ghost use Rattle.field.specs.Answer.{outcome, sumOf, productOf, powerOf, inverseOf};
-ghost use Rattle.code.specs.Call.{displayOf, displayed};
+ghost use Rattle.code.specs.Call.{displayOf, displayed, withinOf, withinWritten};
 ghost use Rattle.code.specs.Call.{done, membership, repair, encodeOf, encodeWritten, testOf, readOf, readWritten, restoreOf, restoreWritten};
-ghost use Rattle.card.specs.Record.{recordOf, recordWritten};
+ghost use Rattle.card.specs.Record.{recordOf, recordWritten, recordWithinOf, recordWithinWritten};
 ghost use Rattle.card.specs.Card.{firstRefused};
 ghost use Rattle.card.specs.Conversion.{toNewOf, toNewWritten, toOldOf, toOldWritten};
 ghost use Rattle.sheet.specs.Call.{writeSheetOf, writeSheetWritten, readSheetOf, readSheetWritten};
@@ -16,6 +16,7 @@ use card::cards::check;
 use card::conversion::card_to_new;
 use card::conversion::card_to_old;
 use card::records::restore_record;
+use card::records::restore_record_within;
 use code::Membership;
 use code::Repair;
 use field::Answer;
@@ -168,6 +169,20 @@ pub extern "C" fn xrs_restore_word(width: u8, word: &mut [u8], erasures: &[u8]) 
     pack_repair(code::restore(width, word, erasures))
 }
 
+// The same with a reach: the codeword differs from the word, outside the erasures, at no more places.
+#[no_mangle]
+pub extern "C" fn xrs_restore_word_within(
+    width: u8,
+    word: &mut [u8],
+    erasures: &[u8],
+    reach: u8,
+) -> u32
+    ensures answer { λ r. ⌜ r ≡ packed (withinOf width (now (word .entry)) (now (erasures .entry)) reach) ⌝ }
+    ensures written { λ r. ⌜ now (word .exit) ≡ withinWritten width (now (word .entry)) (now (erasures .entry)) reach ⌝ }
+{
+    pack_repair(code::restore_within(width, word, erasures, reach))
+}
+
 // Writes the near codeword in place of the record's word, and no erasures.
 #[no_mangle]
 pub extern "C" fn xrs_restore_record(bytes: &mut [u8]) -> u32
@@ -175,6 +190,15 @@ pub extern "C" fn xrs_restore_record(bytes: &mut [u8]) -> u32
     ensures written { λ r. ⌜ now (bytes .exit) ≡ recordWritten (now (bytes .entry)) ⌝ }
 {
     pack_repair(restore_record(bytes))
+}
+
+// The same with a reach.
+#[no_mangle]
+pub extern "C" fn xrs_restore_record_within(bytes: &mut [u8], reach: u8) -> u32
+    ensures answer { λ r. ⌜ r ≡ packed (recordWithinOf (now (bytes .entry)) reach) ⌝ }
+    ensures written { λ r. ⌜ now (bytes .exit) ≡ recordWithinWritten (now (bytes .entry)) reach ⌝ }
+{
+    pack_repair(restore_record_within(bytes, reach))
 }
 
 // The card check: 0 where every record would be accepted, else the number of the first that would not be.

@@ -44,6 +44,8 @@ pub enum Question {
     Unique,
     // Has every record of the card at most four erasures?
     FourErasures,
+    // Is the reach that the caller names at most r?
+    Reach,
 }
 
 // Every question so far was answered yes, or one was answered no.
@@ -81,6 +83,7 @@ pub fn refusal_number(q: Question) -> u8
         Question::Unused => 13,
         Question::Unique => 14,
         Question::FourErasures => 15,
+        Question::Reach => 16,
     }
 }
 

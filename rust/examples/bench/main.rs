@@ -46,12 +46,14 @@ struct Words {
     codewords: Vec<u8>,
     worn: Vec<u8>,
     marks: Vec<Vec<u8>>,
+    /// Whether the restorer is to refuse each word and leave it as it is.
+    refused: bool,
 }
 
 impl Words {
     fn new(width: u8, wrong: usize, marks: usize) -> Words {
         let mut chance = Chance::new();
-        let mut words = Words { width, wrong, codewords: Vec::new(), worn: Vec::new(), marks: Vec::new() };
+        let mut words = Words { width, wrong, codewords: Vec::new(), worn: Vec::new(), marks: Vec::new(), refused: false };
         for _ in 0..WORDS {
             let clean = codeword(&mut chance, width);
             let spoiled = restorable(&mut chance, width, &clean, wrong + marks);
@@ -66,16 +68,22 @@ impl Words {
         words
     }
 
-    /// Restores fresh copies of the words, made before the clock starts. Fails where a word is not restored.
+    /// The words as a restorer meets them that looks no further than `reach`.
+    fn within(self, reach: u8) -> Words {
+        Words { refused: self.wrong > reach as usize, ..self }
+    }
+
+    /// Restores fresh copies of the words, made before the clock starts. Fails where a word is not restored, or not refused, as it should be.
     fn round(&self, name: &str, restore: &impl Fn(&mut [u8], &[u8]) -> Option<u8>) -> Duration {
         let mut copies = self.worn.clone();
-        let mut restored = 0;
+        let mut right = 0;
+        let (answer, left) = if self.refused { (None, &self.worn) } else { (Some(self.wrong as u8), &self.codewords) };
         let start = Instant::now();
         for (word, marks) in copies.chunks_mut(places(self.width)).zip(&self.marks) {
-            restored += (restore(word, marks) == Some(self.wrong as u8)) as usize;
+            right += (restore(word, marks) == answer) as usize;
         }
         let spent = start.elapsed();
-        assert!(restored == WORDS && copies == self.codewords, "{name} does not restore every word");
+        assert!(right == WORDS && copies == *left, "{name} does not treat every word as it should");
         spent
     }
 
@@ -102,6 +110,10 @@ fn time_words() {
     }
     for marks in 1..=5 {
         Words::new(7, 0, marks).time("ours", |word, marks| xrs::restore_word(7, word, marks).ok());
+    }
+    for (wrong, reach) in (0..=2).flat_map(|wrong| (0..=2).map(move |reach| (wrong, reach))) {
+        let words = Words::new(7, wrong, 0).within(reach);
+        words.time(&format!("reach{reach}"), |word, marks| xrs::restore_word_within(7, word, marks, reach).ok());
     }
     for (wrong, marks) in [(0, 0), (1, 0), (2, 0), (0, 1), (0, 2), (0, 3), (0, 4)] {
         let words = Words::new(7, wrong, marks);

@@ -62,18 +62,18 @@ pub fn judge(piece: &[u8]) -> Result<u8, u8> {
 
 /// The number of changed places with the restored record, or the refusal number.
 pub fn restore(piece: &[u8]) -> Result<(u8, Vec<u8>), u8> {
-    restore_of(MARKS, piece)
+    restore_of(MARKS, piece, None)
 }
 
-/// The same for a record with so many mark bytes.
-pub fn restore_of(mark_bytes: usize, piece: &[u8]) -> Result<(u8, Vec<u8>), u8> {
+/// The same for a record with so many mark bytes, at a reach.
+pub fn restore_of(mark_bytes: usize, piece: &[u8], reach: Option<u8>) -> Result<(u8, Vec<u8>), u8> {
     if piece.len() != size(mark_bytes) {
         return Err(2);
     }
     ask(mark_bytes, &[piece])?;
     let (width, marks) = (piece[0], &piece[2..2 + piece[1] as usize]);
     let word = &piece[header(mark_bytes)..][..places(width)];
-    search::restore(width, word, marks).map(|(changed, word)| (changed, record_of(mark_bytes, width, &word, &[])))
+    search::restore_at(width, word, marks, reach).map(|(changed, word)| (changed, record_of(mark_bytes, width, &word, &[])))
 }
 
 /// Questions 1, 3 and 4 of whole records with so many mark bytes, each put for all of them before the next.

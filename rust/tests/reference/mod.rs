@@ -61,9 +61,11 @@ pub fn items(width: u8) -> usize {
     order(width) - 1
 }
 
-/// The field sum over i of α^(k·i) times c_i, each power raised anew.
+/// The field sum over i of α^(k·i) times c_i, each power from the one before.
 pub fn weighted(width: u8, data: &[u8], k: usize) -> u8 {
-    data.iter().enumerate().fold(0, |sum, (i, &c)| sum ^ multiply(width, raise(width, 2, (k * i) as u16), c))
+    let step = raise(width, 2, k as u16);
+    let powers = std::iter::successors(Some(1), |&power| Some(multiply(width, power, step)));
+    data.iter().zip(powers).fold(0, |sum, (&c, power)| sum ^ multiply(width, power, c))
 }
 
 /// The five syndromes of a word, by equation (11) of document 003.

@@ -16,8 +16,18 @@ pub fn radius(marks: usize) -> usize {
 
 /// The restored word with the number of changes, or the refusal number.
 pub fn restore(width: u8, word: &[u8], marks: &[u8]) -> Result<(u8, Vec<u8>), u8> {
+    restore_at(width, word, marks, None)
+}
+
+/// The same at a reach, request (h); who names none gets r.
+pub fn restore_at(width: u8, word: &[u8], marks: &[u8], reach: Option<u8>) -> Result<(u8, Vec<u8>), u8> {
     ask(width, word, marks)?;
-    let restored = match decoder(width).near(word, marks, radius(marks.len())) {
+    let longest = radius(marks.len());
+    let reach = reach.map_or(longest, usize::from);
+    if reach > longest {
+        return Err(16);
+    }
+    let restored = match decoder(width).near(word, marks, reach) {
         Near::None => return Err(7),
         Near::One(codeword) => codeword,
         Near::Several => return Err(14),

@@ -10,7 +10,7 @@ const RIM: usize = 24;
 
 /// Lends copies of the slices, each inside a larger buffer that is filled with `rim`, and hands back what the call answers and what the
 /// written slice then holds. Nothing else may change, and nothing at all where the call is refused.
-fn lend_within<T: std::fmt::Debug>(
+fn lend_inside<T: std::fmt::Debug>(
     rim: u8,
     read: &[u8],
     write: &[u8],
@@ -35,7 +35,7 @@ fn lend<T: PartialEq + std::fmt::Debug>(
     write: &[u8],
     call: impl Fn(&[u8], &mut [u8]) -> Result<T, Refusal>,
 ) -> (Result<T, Refusal>, Vec<u8>) {
-    let [first, second] = [0x00, 0xA7].map(|rim| lend_within(rim, read, write, &call));
+    let [first, second] = [0x00, 0xA7].map(|rim| lend_inside(rim, read, write, &call));
     assert_eq!(first, second, "bytes beside a lent slice were read");
     first
 }
@@ -62,19 +62,32 @@ pub fn syndromes(width: u8, word: &[u8], marks: &[u8]) -> Result<[u8; 5], Refusa
     answer
 }
 
+/// The answer of a call that restores, and what it leaves in the slice.
+pub type Restored = (Result<u8, Refusal>, Vec<u8>);
+
 /// `xrs::restore_word` on copies of the slices: its answer, and the word afterwards.
-pub fn restore_word(width: u8, word: &[u8], marks: &[u8]) -> (Result<u8, Refusal>, Vec<u8>) {
+pub fn restore_word(width: u8, word: &[u8], marks: &[u8]) -> Restored {
     lend(marks, word, |marks, word| xrs::restore_word(width, word, marks))
 }
 
 /// The same with one call, inside bytes `rim`.
-pub fn restore_word_within(rim: u8, width: u8, word: &[u8], marks: &[u8]) -> (Result<u8, Refusal>, Vec<u8>) {
-    lend_within(rim, marks, word, |marks, word| xrs::restore_word(width, word, marks))
+pub fn restore_word_inside(rim: u8, width: u8, word: &[u8], marks: &[u8]) -> Restored {
+    lend_inside(rim, marks, word, |marks, word| xrs::restore_word(width, word, marks))
+}
+
+/// `xrs::restore_word_within` on copies of the slices: its answer, and the word afterwards.
+pub fn restore_word_within(width: u8, word: &[u8], marks: &[u8], reach: u8) -> Restored {
+    lend(marks, word, |marks, word| xrs::restore_word_within(width, word, marks, reach))
 }
 
 /// `xrs::restore_record` on a copy of the record: its answer, and the record afterwards.
-pub fn restore_record(record: &[u8]) -> (Result<u8, Refusal>, Vec<u8>) {
+pub fn restore_record(record: &[u8]) -> Restored {
     lend(&[], record, |_, record| xrs::restore_record(record))
+}
+
+/// `xrs::restore_record_within` on a copy of the record: its answer, and the record afterwards.
+pub fn restore_record_within(record: &[u8], reach: u8) -> Restored {
+    lend(&[], record, |_, record| xrs::restore_record_within(record, reach))
 }
 
 /// `xrs::check_card` on a copy of the card.
@@ -105,6 +118,14 @@ pub fn read_sheet(width: u8, word: &[u8], symbols: &[u8]) -> (Result<(), Refusal
 /// The answer of the reference, its number as a refusal.
 pub fn refusal<T>(answer: Result<T, u8>) -> Result<T, Refusal> {
     answer.map_err(|number| Refusal::from_number(number).expect("a refusal number"))
+}
+
+/// What a call answers and leaves in the slice by the reference: with a refusal, what it held `before`.
+pub fn wanted<T>(answer: Result<(T, Vec<u8>), u8>, before: &[u8]) -> (Result<T, Refusal>, Vec<u8>) {
+    match refusal(answer) {
+        Ok((value, after)) => (Ok(value), after),
+        Err(refused) => (Err(refused), before.to_vec()),
+    }
 }
 
 /// The generator xorshift64 from a fixed seed, so that each run tries the same.

@@ -2,12 +2,44 @@
 
 use super::Chance;
 use crate::reference::card::{record_of, size, MARKS};
-use crate::reference::{encode, items, order, places, WIDTHS};
+use crate::reference::{encode, items, order, places, raise, WIDTHS};
 
 /// A codeword of random data, by the reference.
 pub fn codeword(chance: &mut Chance, width: u8) -> Vec<u8> {
     let data = chance.symbols(items(width), order(width));
     encode(width, &data, places(width)).expect("data of the width")
+}
+
+/// The word with zero data whose syndromes are the digits of a number below q^5.
+pub fn word_of_syndromes(width: u8, number: usize) -> Vec<u8> {
+    let digit = |place: usize| (number >> (width as usize * place)) % order(width);
+    (0..places(width)).map(|place| if place < 5 { digit(place) as u8 } else { 0 }).collect()
+}
+
+/// The word with another symbol at each of the places.
+pub fn spoiled(chance: &mut Chance, width: u8, word: &[u8], at: &[u8]) -> Vec<u8> {
+    let mut wrong = word.to_vec();
+    for &place in at {
+        wrong[place as usize] ^= 1 + chance.below(order(width) - 1) as u8;
+    }
+    wrong
+}
+
+/// The word with any byte at each of the places.
+pub fn with_any_bytes(chance: &mut Chance, word: &[u8], at: &[u8]) -> Vec<u8> {
+    let mut bytes = word.to_vec();
+    at.iter().for_each(|&place| bytes[place as usize] = chance.below(256) as u8);
+    bytes
+}
+
+/// Five marks outside which some codeword other than zeros is zero: p_2, p_4 and three data places whose points add up to 0, so that the
+/// columns of these three are dependent in the rows 0, 1 and 3 that are left (see case M of document 01).
+pub fn dependent(chance: &mut Chance, width: u8) -> Vec<u8> {
+    let point = |i: usize| raise(width, 2, i as u16);
+    let mut data = chance.places(2, items(width));
+    let third = point(data[0] as usize) ^ point(data[1] as usize);
+    data.extend((0..items(width)).find(|&i| point(i) == third).map(|i| i as u8));
+    [2, 4].into_iter().chain(data.iter().map(|i| 5 + i)).collect()
 }
 
 /// So many marks, five at most; at width 7, where the reference takes long with five, they are rare.
@@ -18,6 +50,20 @@ fn mark_count(chance: &mut Chance, width: u8) -> usize {
     }
 }
 
+/// A codeword with up to three wrong symbols and any bytes at up to `most` marks, and these marks. Of five marks, every other time, the
+/// columns are dependent.
+fn worn_word(chance: &mut Chance, width: u8, most: usize) -> (Vec<u8>, Vec<u8>) {
+    let clean = codeword(chance, width);
+    let marks = match mark_count(chance, width).min(most) {
+        5 if chance.below(2) == 0 => dependent(chance, width),
+        count => chance.places(count, places(width)),
+    };
+    let wrong = chance.below(4);
+    let wrong = chance.places(wrong, places(width));
+    let word = spoiled(chance, width, &clean, &wrong);
+    (with_any_bytes(chance, &word, &marks), marks)
+}
+
 /// A record whose cells wore: up to five erasures, up to three wrong symbols, and now and then a byte anywhere that is another.
 pub fn worn(chance: &mut Chance, width: u8) -> Vec<u8> {
     worn_of(chance, MARKS, width)
@@ -25,14 +71,7 @@ pub fn worn(chance: &mut Chance, width: u8) -> Vec<u8> {
 
 /// The same with so many mark bytes, and up to as many erasures.
 pub fn worn_of(chance: &mut Chance, mark_bytes: usize, width: u8) -> Vec<u8> {
-    let mut word = codeword(chance, width);
-    let marks = mark_count(chance, width).min(mark_bytes);
-    let marks = chance.places(marks, places(width));
-    marks.iter().for_each(|&place| word[place as usize] = chance.below(256) as u8);
-    let wrong = chance.below(4);
-    for place in chance.places(wrong, places(width)) {
-        word[place as usize] ^= 1 + chance.below(order(width) - 1) as u8;
-    }
+    let (word, marks) = worn_word(chance, width, mark_bytes);
     let mut bytes = record_of(mark_bytes, width, &word, &marks);
     if chance.below(3) == 0 {
         let at = [chance.below(9), chance.below(size(mark_bytes))][chance.below(2)];
@@ -46,13 +85,7 @@ pub fn worn_of(chance: &mut Chance, mark_bytes: usize, width: u8) -> Vec<u8> {
 pub fn hostile(chance: &mut Chance) -> (u8, Vec<u8>, Vec<u8>) {
     let mut width = WIDTHS[chance.below(WIDTHS.len())];
     let (n, q) = (places(width), order(width));
-    let mut word = codeword(chance, width);
-    let (marked, wrong) = (mark_count(chance, width), chance.below(4));
-    let mut marks = chance.places(marked, n);
-    for place in chance.places(wrong, n) {
-        word[place as usize] ^= 1 + chance.below(q - 1) as u8;
-    }
-    marks.iter().for_each(|&mark| word[mark as usize] = chance.below(256) as u8);
+    let (mut word, mut marks) = worn_word(chance, width, MARKS);
     for _ in 0..[0, 0, 1, 2][chance.below(4)] {
         match chance.below(6) {
             0 => width = [0, 1, 2, 6, 8, 128, 255, chance.below(256) as u8][chance.below(8)],

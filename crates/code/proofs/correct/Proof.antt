@@ -3,22 +3,27 @@ use borrow.Author.Needs.{needs}
 use mathlib.Core.Path.{_≡_, refl, sym, _∙_, subst}
 use mathlib.Core.Bool.{true}
 use mathlib.Core.List.{List}
-use Prim.Native.Nat.{ℕ}
+use Prim.Native.Nat.{ℕ, _≤_}
 use lib.ListN.{length, take}
 use native.Mathlib.Omega.{arith}
 use Rattle.field.specs.Question.{allBelow}
 use Rattle.code.specs.declared.solver.Solutions.the-variants.{None, One, Several}
 use Rattle.code.specs.Near.{radius}
+use Rattle.code.specs.Demands.{Passes}
 use Rattle.code.specs.Correction.{tried, Ready, Workable, NoneFrom, Searched}
-use Rattle.code.proofs.Passing.{given}
+use Rattle.code.proofs.Passing.{given, within-passes}
 use Rattle.code.proofs.Trying.{none-within}
 use Rattle.code.proofs.Repairing.{workable, restores-clean, restores-found, restores-none, restores-several}
 use Rattle.code.proofs.correct.Statement.{statement}
 use Rattle.code.proofs.correct.Tie as tie
 
 -- what the questions passed say of the word and the erasures
+passes : (s : tie.Start)
+    → let a = s .args in Passes (a .width) (a .word .now) (a .erasures .now) × (a .reach ≤ radius (a .width) (length (a .erasures .now)))
+passes s = within-passes (s .args .width) (s .args .word .now) (s .args .erasures .now) (s .args .reach) (s .pre)
+
 work : (s : tie.Start) → Workable (s .args .word .now) (s .args .erasures .now)
-work s = workable (s .args .width) (s .args .word .now) (s .args .erasures .now) (s .pre)
+work s = workable (s .args .width) (s .args .word .now) (s .args .erasures .now) (passes s .0)
 
 abbrev start : tie.After-started → tie.Start
 start s = s .before .before .before .before
@@ -27,24 +32,21 @@ start s = s .before .before .before .before
 ready : (s : tie.After-started) → Ready (start s .args .width) (start s .args .word .now) (s .started .result)
 ready s =
     let a = start s .args in
-    let g = given (a .width) (a .word .now) (a .erasures .now) (start s .pre) in
+    let g = given (a .width) (a .word .now) (a .erasures .now) (passes (start s) .0) in
     s .started .ensures .2 (g .width) (g .lent)
 
 abbrev began : tie.After-search → tie.After-started
-began s = s .before .before .before .before .before
+began s = s .before .before .before .before
 
 -- what the search has found
-abbrev Found : tie.After-search → List ℕ → ℕ → Type 0
-Found s ls r =
-    let a = start (began s) .args in
-    Searched (a .width) (a .word .now) ls r (NoneFrom (a .width) (a .word .now) ls 0 r) (s .search .result)
-
 found : (s : tie.After-search)
-    → let a = start (began s) .args in Found s (a .erasures .now) (radius (a .width) (length (a .erasures .now)))
+    → let a = start (began s) .args in
+    Searched (a .width) (a .word .now) (a .erasures .now) (a .reach) (NoneFrom (a .width) (a .word .now) (a .erasures .now) 0 (a .reach))
+    (s .search .result)
 found s =
     let a = start (began s) .args in
-    subst (Found s (a .erasures .now)) (s .before .radius-of .ensures (a .width))
-    (subst (λ (ls : List ℕ). Found s ls (s .before .radius-of .result)) (began s .started .ensures .1) (s .search .ensures .1 (ready (began s))))
+    subst (λ (ls : List ℕ). Searched (a .width) (a .word .now) ls (a .reach) (NoneFrom (a .width) (a .word .now) ls 0 (a .reach)) (s .search .result))
+    (began s .started .ensures .1) (s .search .ensures .1 (ready (began s)))
 
 started-requires : tie.Need-started-requires
 started-requires c κs = work (c .before .before .before)
@@ -61,15 +63,12 @@ returns c =
     let a = start s .args in
     let e = s .started .ensures in
     let z = c .before .is-clean .ensures (c .if1 .taken) in
-    restores-clean (a .width) (a .word .now) (a .erasures .now) (start s .pre) (s .started .result) (e .1) (ready s) (sym (e .0) ∙ z .0) (z .1) _ refl
-
-radius-of-requires : tie.Need-radius-of-requires
-radius-of-requires c κs = search needs
+    restores-clean (a .width) (a .word .now) (a .erasures .now) (a .reach) (start s .pre) (s .started .result) (e .1) (ready s) (sym (e .0) ∙ z .0) (z .1) _ refl
 
 search-requires : tie.Need-search-requires
 search-requires c κs =
-    let s = c .before .before .before .before in
-    (omega (arith, work (start s) .few, s .started .ensures .0, c .radius-of .ensures 0), omega (arith, work (start s) .short))
+    let s = c .before .before .before in
+    (omega (arith, work (start s) .few, s .started .ensures .0, passes (start s) .1), omega (arith, work (start s) .short))
 
 enum-told : tie.Need-enum-told
 enum-told c = search needs
@@ -100,8 +99,8 @@ returns-2 c =
     let t = start (began s) in
     let a = t .args in
     let e : s .search .result .found ≡ None = search needs in
-    restores-none (a .width) (a .word .now) (a .erasures .now) (t .pre)
-    (none-within (a .width) (a .word .now) (a .erasures .now) (given (a .width) (a .word .now) (a .erasures .now) (t .pre) .lent) _ (found s .none e))
+    restores-none (a .width) (a .word .now) (a .erasures .now) (a .reach) (t .pre)
+    (none-within (a .width) (a .word .now) (a .erasures .now) (given (a .width) (a .word .now) (a .erasures .now) (passes t .0) .lent) _ (found s .none e))
     _ refl
 
 same-length-3 : tie.Need-same-length-3
@@ -114,7 +113,7 @@ returns-3 c =
     let t = start (began s) in
     let a = t .args in
     let e : s .search .result .found ≡ One = search needs in
-    restores-found (a .width) (a .word .now) (a .erasures .now) (t .pre) (s .search .result) (w .result) _ (found s .one e)
+    restores-found (a .width) (a .word .now) (a .erasures .now) (a .reach) (t .pre) (s .search .result) (w .result) _ (found s .one e)
     (w .ensures .0) (w .ensures .1)
 
 same-length-4 : tie.Need-same-length-4
@@ -126,7 +125,7 @@ returns-4 c =
     let t = start (began s) in
     let a = t .args in
     let e : s .search .result .found ≡ Several = search needs in
-    restores-several (a .width) (a .word .now) (a .erasures .now) (t .pre) (found s .several e) _ refl
+    restores-several (a .width) (a .word .now) (a .erasures .now) (a .reach) (t .pre) (found s .several e) _ refl
 
 pub correct-spec : {M : Type 1} → statement M
 correct-spec =
@@ -136,7 +135,6 @@ correct-spec =
     is-clean-requires
     same-length
     returns
-    radius-of-requires
     search-requires
     enum-told
     enum-told-2

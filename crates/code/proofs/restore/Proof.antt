@@ -1,50 +1,26 @@
 -- `code::restore` meets its contract. Assumes nothing.
 use borrow.Author.Needs.{needs}
-use mathlib.Core.Path.{_≡_, refl, sym, _∙_}
-use Rattle.field.specs.declared.Verdict.the-variants.{Passed}
-use Rattle.code.proofs.Repairing.{restores-refused}
+use mathlib.Core.Path.{subst}
+use Prim.Native.Nat.{ℕ}
+use Rattle.code.specs.Call.{RestoresWithin}
 use Rattle.code.proofs.restore.Statement.{statement}
 use Rattle.code.proofs.restore.Tie as tie
 
-ask-restore-requires : tie.Need-ask-restore-requires
-ask-restore-requires c κs = search needs
+radius-of-requires : tie.Need-radius-of-requires
+radius-of-requires c κs = search needs
 
-enum-told : tie.Need-enum-told
-enum-told c = search needs
-
-correct-requires : tie.Need-correct-requires
-correct-requires c κs =
-    let v = c .before .before .before .ask-restore in
-    let p : v .result ≡ Passed = search needs in
-    sym (v .ensures) ∙ p
-
-enum-known-q : tie.Need-enum-known-q
-enum-known-q c = search needs
+restore-within-requires : tie.Need-restore-within-requires
+restore-within-requires c κs = search needs
 
 same-length : tie.Need-same-length
 same-length c = search needs
 
 returns : tie.Need-returns
-returns c = c .before .before .correct .ensures
-
-same-length-2 : tie.Need-same-length-2
-same-length-2 c = search needs
-
-returns-2 : tie.Need-returns-2
-returns-2 c =
-    let v = c .before .before .before .ask-restore in
+returns c =
+    let x = c .before .before .restore-within in
+    let r = c .before .before .before .radius-of in
     let a = c .before .before .before .before .before .before .before .args in
-    restores-refused (a .width) (a .word .now) (a .erasures .now) (v .result) _ (v .ensures) (search needs) _ refl
+    subst (λ (n : ℕ). RestoresWithin (a .width) (a .word .now) (a .erasures .now) n (x .result) (x .last .1 .0)) (r .ensures (a .width)) (x .ensures)
 
 pub restore-spec : {M : Type 1} → statement M
-restore-spec =
-    tie.close
-    (tie.spec
-    ask-restore-requires
-    enum-told
-    correct-requires
-    enum-known-q
-    same-length
-    returns
-    same-length-2
-    returns-2)
+restore-spec = tie.close (tie.spec radius-of-requires restore-within-requires same-length returns)

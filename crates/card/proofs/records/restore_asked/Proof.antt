@@ -33,14 +33,14 @@ add-end c =
     let s = c .before .before .before .before .before .before in
     omega (arith, length-most (widthOf (s .args .bytes .now)) (c .word-length .result) (c .word-length .ensures))
 
-sub-restore : tie.Need-sub-restore
-sub-restore c = search needs
+sub-restore-within : tie.Need-sub-restore-within
+sub-restore-within c = search needs
 
-part-restore-start : tie.Need-part-restore-start
-part-restore-start c = search needs
+part-restore-within-start : tie.Need-part-restore-within-start
+part-restore-within-start c = search needs
 
-part-restore-end : tie.Need-part-restore-end
-part-restore-end c =
+part-restore-within-end : tie.Need-part-restore-within-end
+part-restore-within-end c =
     let s = c .before .before .before .before .before .before in
     let r = s .args .bytes .now in
     omega (arith, word-fits r (asked r (s .pre)) (c .word-length .result) (c .word-length .ensures))
@@ -51,15 +51,15 @@ array-share-prefix-erasures c =
     let l : erasureBytes ≡ length (c .before .before .erasure-row .result) = search needs in
     omega (arith, asked (s .args .bytes .now) (s .pre) .few)
 
-slice-aggregate-restore : tie.Need-slice-aggregate-restore
-slice-aggregate-restore c =
+slice-aggregate-restore-within : tie.Need-slice-aggregate-restore-within
+slice-aggregate-restore-within c =
     let s = c .before .before .before .before .before .before .before .before in
     let e = c .before .before .before .erasure-row .result in
     let l : erasureBytes ≡ length e = search needs in
     sym (length-take-le (countOf (s .args .bytes .now)) e (omega (arith, asked (s .args .bytes .now) (s .pre) .few)))
 
-restore-requires : tie.Need-restore-requires
-restore-requires c κs = search needs
+restore-within-requires : tie.Need-restore-within-requires
+restore-within-requires c κs = search needs
 
 enum-known-k : tie.Need-enum-known-k
 enum-known-k c = search needs
@@ -84,9 +84,10 @@ returns c =
     let a = asked r (s .pre) in
     let e = measured .before .erasure-row in
     let n = measured .word-length in
-    let x = called .restore in
-    let R = restores-parts r a (n .result) (n .ensures) (e .result) (e .ensures) (x .result) _ (x .ensures) in
-    word-restored r (s .pre) (x .result) _ R _ (word-long r a (n .result) (n .ensures)) _ (search needs) _
+    let x = called .restore-within in
+    let reach = s .args .reach in
+    let R = restores-parts r a (n .result) (n .ensures) (e .result) (e .ensures) reach (x .result) _ (x .ensures) in
+    word-restored r (s .pre) reach (x .result) _ R _ (word-long r a (n .result) (n .ensures)) _ (search needs) _
     (c .before .before .clear-header .ensures)
 
 same-length-2 : tie.Need-same-length-2
@@ -101,9 +102,10 @@ returns-2 c =
     let a = asked r (s .pre) in
     let e = measured .before .erasure-row in
     let n = measured .word-length in
-    let x = called .restore in
-    let R = restores-parts r a (n .result) (n .ensures) (e .result) (e .ensures) (x .result) _ (x .ensures) in
-    word-refused r (s .pre) (x .result) _ R _ (word-long r a (n .result) (n .ensures)) _ (search needs)
+    let x = called .restore-within in
+    let reach = s .args .reach in
+    let R = restores-parts r a (n .result) (n .ensures) (e .result) (e .ensures) reach (x .result) _ (x .ensures) in
+    word-refused r (s .pre) reach (x .result) _ R _ (word-long r a (n .result) (n .ensures)) _ (search needs)
 
 pub restore-asked-spec : {M : Type 1} → statement M
 restore-asked-spec =
@@ -115,12 +117,12 @@ restore-asked-spec =
     erasure-row-requires
     word-length-requires
     add-end
-    sub-restore
-    part-restore-start
-    part-restore-end
+    sub-restore-within
+    part-restore-within-start
+    part-restore-within-end
     array-share-prefix-erasures
-    slice-aggregate-restore
-    restore-requires
+    slice-aggregate-restore-within
+    restore-within-requires
     enum-known-k
     clear-header-requires
     enum-known-q

@@ -1,0 +1,49 @@
+-- `card::records::restore_record_within` meets its contract. Assumes nothing.
+use borrow.Author.Needs.{needs}
+use mathlib.Core.Path.{_≡_, refl, sym, _∙_}
+use Rattle.field.specs.declared.Verdict.the-variants.{Passed}
+use Rattle.card.proofs.Recording.{restores-refused}
+use Rattle.card.proofs.records.restore_record_within.Statement.{statement}
+use Rattle.card.proofs.records.restore_record_within.Tie as tie
+
+ask-record-requires : tie.Need-ask-record-requires
+ask-record-requires c κs = search needs
+
+enum-told : tie.Need-enum-told
+enum-told c = search needs
+
+restore-asked-requires : tie.Need-restore-asked-requires
+restore-asked-requires c κs =
+    let v = c .before .before .before .ask-record in
+    let p : v .result ≡ Passed = search needs in
+    sym (v .ensures) ∙ p
+
+enum-known-q : tie.Need-enum-known-q
+enum-known-q c = search needs
+
+same-length : tie.Need-same-length
+same-length c = search needs
+
+returns : tie.Need-returns
+returns c = search needs
+
+same-length-2 : tie.Need-same-length-2
+same-length-2 c = search needs
+
+returns-2 : tie.Need-returns-2
+returns-2 c =
+    let v = c .before .before .before .ask-record in
+    restores-refused (c .before .before .before .before .before .before .args .bytes .now) _ (v .result) _ (v .ensures) (search needs) _ refl
+
+pub restore-record-within-spec : {M : Type 1} → statement M
+restore-record-within-spec =
+    tie.close
+    (tie.spec
+    ask-record-requires
+    enum-told
+    restore-asked-requires
+    enum-known-q
+    same-length
+    returns
+    same-length-2
+    returns-2)
