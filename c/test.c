@@ -65,7 +65,8 @@ static void field(void) {
     uint16_t e;
     int same = 1;
     answers("sum 5 + 6", xrs_sum(3, 5, 6), XRS_ACCEPTED, 3);
-    answers("sum at width 4", xrs_sum(4, 5, 6), XRS_REFUSED_WIDTH, 0);
+    answers("sum at width 6", xrs_sum(6, 5, 6), XRS_REFUSED_WIDTH, 0);
+    answers("product 8 * 2 at width 4", xrs_product(4, 8, 2), XRS_ACCEPTED, 3);
     answers("sum with the symbol 8", xrs_sum(3, 8, 0), XRS_REFUSED_SYMBOL, 0);
     answers("product 7 * 7", xrs_product(3, 7, 7), XRS_ACCEPTED, 3);
     answers("product at width 6", xrs_product(6, 7, 7), XRS_REFUSED_WIDTH, 0);
@@ -160,9 +161,9 @@ static void refusals(void) {
     memset(input, 200, sizeof input);
     lend(&word, old, 12);
     lend(&data, old, 7);
-    answers("encode at width 4", xrs_encode(4, input, 7, word.bytes + RIM, 11), XRS_REFUSED_WIDTH, 0);
-    answers("test at width 4", xrs_is_codeword(4, input, 11), XRS_REFUSED_WIDTH, 0);
-    answers("read at width 4", xrs_read_data(4, input, 11, data.bytes + RIM, 7), XRS_REFUSED_WIDTH, 0);
+    answers("encode at width 6", xrs_encode(6, input, 7, word.bytes + RIM, 11), XRS_REFUSED_WIDTH, 0);
+    answers("test at width 6", xrs_is_codeword(6, input, 11), XRS_REFUSED_WIDTH, 0);
+    answers("read at width 6", xrs_read_data(6, input, 11, data.bytes + RIM, 7), XRS_REFUSED_WIDTH, 0);
     answers("encode with short data", xrs_encode(3, input, 6, word.bytes + RIM, 12), XRS_REFUSED_LENGTH, 0);
     answers("encode with long data", xrs_encode(3, input, 8, word.bytes + RIM, 12), XRS_REFUSED_LENGTH, 0);
     answers("read with short data", xrs_read_data(3, input, 12, data.bytes + RIM, 6), XRS_REFUSED_LENGTH, 0);
@@ -271,22 +272,25 @@ static void restore_cases(void) {
     }
 }
 
-/* Two wrong symbols of a codeword, then four marks. */
+/* Two wrong symbols of a codeword, then four marks; at width 4, where the distance is less, one of each fewer. */
 static void restore_at(uint8_t width) {
-    size_t q = (size_t)1 << width, n = q + 4, i;
+    size_t q = (size_t)1 << width, n = q + 4, i, wrong = width == 4 ? 1 : 2, most = width == 4 ? 3 : 4;
     uint8_t message[127], clean[132], marks[4] = {6, 0, 0, 2};
     lent word;
     fill(message, q);
     marks[1] = (uint8_t)(n - 1);
     answers(at("encode for the restorer at width", width), xrs_encode(width, message, q - 1, clean, n), XRS_ACCEPTED, 0);
-    lend(&word, clean, n)[1] ^= 1;
-    word.bytes[RIM + n - 1] ^= (uint8_t)(q - 1);
-    answers(at("restore two wrong symbols at width", width), xrs_restore_word(width, word.bytes + RIM, n, marks, 0), XRS_ACCEPTED, 2);
+    lend(&word, clean, n);
+    for (i = 0; i < wrong; i++) {
+        word.bytes[RIM + marks[i]] ^= (uint8_t)(q - 1);
+    }
+    answers(at("restore wrong symbols at width", width), xrs_restore_word(width, word.bytes + RIM, n, marks, 0), XRS_ACCEPTED,
+        (uint32_t)wrong);
     check(at("the codeword is written at width", width), holds(&word, clean));
-    for (i = 0; i < 4; i++) {
+    for (i = 0; i < most; i++) {
         word.bytes[RIM + marks[i]] = 255;
     }
-    answers(at("restore four marks at width", width), xrs_restore_word(width, word.bytes + RIM, n, marks, 4), XRS_ACCEPTED, 0);
+    answers(at("restore marked symbols at width", width), xrs_restore_word(width, word.bytes + RIM, n, marks, most), XRS_ACCEPTED, 0);
     check(at("the marked symbols are written at width", width), holds(&word, clean));
 }
 
@@ -299,10 +303,10 @@ static void restore_refused_at(uint8_t width) {
     marks[2] = (uint8_t)n;
     old[8] = (uint8_t)q;
     word = lend(&slice, old, n);
-    answers(at("restore at the width above", width), xrs_restore_word((uint8_t)(width + 1), word, n - 1, marks, 6), XRS_REFUSED_WIDTH, 0);
+    answers(at("restore at width 6 what has width", width), xrs_restore_word(6, word, n - 1, marks, 6), XRS_REFUSED_WIDTH, 0);
     answers(at("restore a short word at width", width), xrs_restore_word(width, word, n - 1, marks, 6), XRS_REFUSED_LENGTH, 0);
     answers(at("restore six marks at width", width), xrs_restore_word(width, word, n, marks, 6), XRS_REFUSED_ERASURE_COUNT, 0);
-    answers(at("restore with the mark n at width", width), xrs_restore_word(width, word, n, marks, 5), XRS_REFUSED_ERASURE_PLACE, 0);
+    answers(at("restore with the mark n at width", width), xrs_restore_word(width, word, n, marks, 3), XRS_REFUSED_ERASURE_PLACE, 0);
     answers(at("restore a double mark at width", width), xrs_restore_word(width, word, n, marks, 2), XRS_REFUSED_ERASURE_DISTINCT, 0);
     answers(at("restore with the symbol q at width", width), xrs_restore_word(width, word, n, marks, 1), XRS_REFUSED_SYMBOL, 0);
     check(at("refused restores write nothing at width", width), holds(&slice, old));
@@ -313,6 +317,27 @@ static void restore_refused_at(uint8_t width) {
     word = lend(&slice, old, n + 1);
     answers(at("restore a long word at width", width), xrs_restore_word(width, word, n + 1, marks, 6), XRS_REFUSED_LENGTH, 0);
     check(at("a long word stays at width", width), holds(&slice, old));
+}
+
+/* At width 4 the distance is 4: zeros and this codeword, and the words between them. */
+static void restore_at_width_4(void) {
+    static const uint8_t zeros[20] = {0}, marks[4] = {5, 15, 10, 2};
+    uint8_t codeword[20] = {0}, between[20] = {0};
+    lent word;
+    codeword[5] = between[5] = 1;
+    codeword[10] = between[10] = 6;
+    codeword[15] = 7;
+    codeword[2] = 1;
+    answers("test a codeword with four symbols", xrs_is_codeword(4, codeword, 20), XRS_ACCEPTED, 1);
+    answers("restore two of them at width 4", xrs_restore_word(4, lend(&word, between, 20), 20, marks, 0), XRS_REFUSED_CORRECTABLE, 0);
+    answers("restore at the reach 2 at width 4", xrs_restore_word_within(4, word.bytes + RIM, 20, marks, 0, 2), XRS_REFUSED_REACH, 0);
+    answers("restore with two marks at the reach 1", xrs_restore_word_within(4, word.bytes + RIM, 20, marks, 2, 1), XRS_REFUSED_REACH, 0);
+    answers("restore four marks at width 4", xrs_restore_word(4, word.bytes + RIM, 20, marks, 4), XRS_REFUSED_ERASURE_COUNT, 0);
+    check("refused restores of width 4 write nothing", holds(&word, between));
+    answers("restore with one mark at width 4", xrs_restore_word(4, word.bytes + RIM, 20, marks, 1), XRS_ACCEPTED, 1);
+    check("zeros are written at width 4", holds(&word, zeros));
+    answers("restore with another mark", xrs_restore_word(4, lend(&word, between, 20), 20, marks + 1, 1), XRS_ACCEPTED, 1);
+    check("the codeword with four symbols is written", holds(&word, codeword));
 }
 
 /* The syndromes are these, or all 0 beside a refusal. */
@@ -478,14 +503,16 @@ static void sheets(void) {
 
     lend(&word, old, 132);
     lend(&read, old, 100);
-    answers("write a sheet at width 4", xrs_write_sheet(4, symbols, 99, word.bytes + RIM, 131), XRS_REFUSED_WIDTH, 0);
+    answers("write a sheet at width 6", xrs_write_sheet(6, symbols, 99, word.bytes + RIM, 131), XRS_REFUSED_WIDTH, 0);
     answers("write 101 symbols", xrs_write_sheet(7, symbols, 101, word.bytes + RIM, 132), XRS_REFUSED_LENGTH, 0);
     answers("write a sheet into a short word", xrs_write_sheet(7, symbols, 100, word.bytes + RIM, 131), XRS_REFUSED_LENGTH, 0);
     answers("read 99 symbols", xrs_read_sheet(7, sheet, 132, read.bytes + RIM, 99), XRS_REFUSED_LENGTH, 0);
     answers("read 132 symbols at width 5", xrs_read_sheet(5, sheet, 132, read.bytes + RIM, 100), XRS_REFUSED_LENGTH, 0);
     answers("write symbols of width 7 at width 5", xrs_write_sheet(5, symbols, 100, word.bytes + RIM, 36), XRS_REFUSED_SYMBOL, 0);
     answers("write zeros at width 5", xrs_write_sheet(5, zeros, 100, word.bytes + RIM, 36), XRS_REFUSED_SHEET_WIDTH, 0);
+    answers("write zeros at width 4", xrs_write_sheet(4, zeros, 100, word.bytes + RIM, 20), XRS_REFUSED_SHEET_WIDTH, 0);
     answers("read zeros at width 3", xrs_read_sheet(3, words[0], 12, read.bytes + RIM, 100), XRS_REFUSED_SHEET_WIDTH, 0);
+    answers("read zeros at width 4", xrs_read_sheet(4, zeros, 20, read.bytes + RIM, 100), XRS_REFUSED_SHEET_WIDTH, 0);
     symbols[XRS_SHEET_YEAR] = 100;
     answers("write 29 February 2100", xrs_write_sheet(7, symbols, 100, word.bytes + RIM, 132), XRS_REFUSED_DATE, 0);
     symbols[XRS_SHEET_PUMP] = 128;
@@ -502,18 +529,18 @@ static void sheets(void) {
 }
 
 int main(void) {
-    uint8_t width;
+    static const uint8_t widths[4] = {3, 4, 5, 7};
+    size_t i;
     field();
     words_of_01();
-    round_trip(3);
-    round_trip(5);
-    round_trip(7);
     refusals();
     restore_cases();
-    for (width = 3; width <= 7; width += 2) {
-        restore_at(width);
-        restore_refused_at(width);
+    for (i = 0; i < 4; i++) {
+        round_trip(widths[i]);
+        restore_at(widths[i]);
+        restore_refused_at(widths[i]);
     }
+    restore_at_width_4();
     syndromes();
     records();
     cards();

@@ -1,8 +1,8 @@
 /*
- * The proved library for the five times extended Reed-Solomon code over 8, 32 or 128 symbols.
+ * The proved library for the five times extended Reed-Solomon code over 8, 16, 32 or 128 symbols.
  *
- * Widths: the width is 3, 5 or 7, and q is 2^width. A symbol is a number below q, one to a byte. A word has n = q + 4 symbols (12, 36 or
- * 132): five check symbols, then the q - 1 data symbols (7, 31 or 127).
+ * Widths: the width is 3, 4, 5 or 7, and q is 2^width. A symbol is a number below q, one to a byte. A word has n = q + 4 symbols (12, 20,
+ * 36 or 132): five check symbols, then the q - 1 data symbols (7, 15, 31 or 127).
  *
  * Answers: every call but xrs_check_card has a refusal in the lowest byte of what it returns. The refusal is 0 where the call was accepted;
  * otherwise it is that of the first question answered no, and the bytes above are 0. The questions are put in the order 1, 2, 3, 8, 15, 4,
@@ -32,9 +32,9 @@ extern "C" {
 /* Why a call was refused. */
 enum xrs_refusal {
     XRS_ACCEPTED = 0,                 /* it was not */
-    XRS_REFUSED_WIDTH = 1,            /* the width is not 3, 5 or 7 */
+    XRS_REFUSED_WIDTH = 1,            /* the width is not 3, 4, 5 or 7 */
     XRS_REFUSED_LENGTH = 2,           /* a slice has not its exact length */
-    XRS_REFUSED_ERASURE_COUNT = 3,    /* there are more than five erasures */
+    XRS_REFUSED_ERASURE_COUNT = 3,    /* there are more than five erasures, or at width 4 more than three */
     XRS_REFUSED_ERASURE_PLACE = 4,    /* an erasure is no place of the word */
     XRS_REFUSED_ERASURE_DISTINCT = 5, /* an erasure is given twice */
     XRS_REFUSED_SYMBOL = 6,           /* a symbol outside the erasures is not below q */
@@ -85,23 +85,24 @@ uint32_t xrs_is_codeword(uint8_t width, const uint8_t *word, size_t word_length)
 uint32_t xrs_read_data(uint8_t width, const uint8_t *word, size_t word_length, uint8_t *data, size_t data_length);
 
 /*
- * The five syndromes of the word (n bytes) over its unmarked places: a marked place counts as 0, whatever byte it holds. The marks are those
- * of xrs_restore_word. Syndrome k, a symbol, is XRS_BYTE(answer, 1 + k), k from 0 to 4; bytes 6 and 7 are 0. Refused with 1 to 6.
+ * The five syndromes of the word (n bytes) over its unmarked places: a marked place counts as 0, whatever byte it holds. The marks are
+ * those of xrs_restore_word. Syndrome k, a symbol, is XRS_BYTE(answer, 1 + k), k from 0 to 4; bytes 6 and 7 are 0. Refused with 1 to 6.
  */
 uint64_t xrs_syndromes(uint8_t width, const uint8_t *word, size_t word_length, const uint8_t *marks, size_t marks_length);
 
 /*
- * Writes the near codeword in place of the word (n bytes). The marks are the erasures: at most five different places of the word, counted
- * from 0, in any order. A marked place may hold any byte. The near codeword differs from the word at no more than (4 - marks_length) / 2
- * unmarked places, rounded down, and with five marks at none. With up to four marks there is never a second one; with five there may be
- * several, and then the call is refused with 14. The value is the number of unmarked places changed, 0 to 2. Refused with 1 to 7 and 14.
+ * Writes the near codeword in place of the word (n bytes). The marks are the erasures: at most five different places of the word, at width
+ * 4 at most three, counted from 0, in any order. A marked place may hold any byte. The near codeword differs from the word at no more than
+ * (4 - marks_length) / 2 unmarked places, rounded down, and with five marks at none; at width 4 at no more than (3 - marks_length) / 2.
+ * With up to four marks there is never a second one; with five there may be several, and then the call is refused with 14. The value is the
+ * number of unmarked places changed, 0 to 2. Refused with 1 to 7 and 14.
  */
 uint32_t xrs_restore_word(uint8_t width, uint8_t *word, size_t word_length, const uint8_t *marks, size_t marks_length);
 
 /*
  * xrs_restore_word that looks no further than the reach: the near codeword differs at no more unmarked places. The longest reach is the one
- * of xrs_restore_word, and a longer one is refused with 16. With up to four marks, and no more than 4 - marks_length - reach unmarked symbols
- * wrong, the codeword that was written comes back or the call is refused with 7; another never comes.
+ * of xrs_restore_word, and a longer one is refused with 16. With up to four marks, and no more than 4 - marks_length - reach unmarked
+ * symbols wrong (3 in place of 4 at width 4), the codeword that was written comes back or the call is refused with 7; another never comes.
  */
 uint32_t xrs_restore_word_within(
     uint8_t width, uint8_t *word, size_t word_length, const uint8_t *marks, size_t marks_length, uint8_t reach);
@@ -109,8 +110,8 @@ uint32_t xrs_restore_word_within(
 /* ---- The card. */
 
 /*
- * Bytes of a slot of a card, which holds a record or is blank. A record: the width, the number of marks, five bytes for the marks (255 where
- * unused), the word, and zeros. A blank slot: every byte is 255.
+ * Bytes of a slot of a card, which holds a record or is blank. A record: the width, the number of marks, five bytes for the marks (255
+ * where unused), the word, and zeros. A blank slot: every byte is 255.
  */
 #define XRS_RECORD_SIZE 139
 

@@ -1,16 +1,16 @@
 //! Restores a million worn words from a fixed seed. Prints how many, and how many came out wrong; ends with an error where one did.
 //!
 //! The words are sums of codewords by the reference, so each is known before its cells wear. Where no more than r symbols beside the
-//! erasures are wrong, that codeword must come back, with their number; with five erasures there may be several. Otherwise the answer is that
-//! of the reference at width 3; at the others, where its search takes long, an accepted word must be a codeword that is near, and a refused
-//! one as it was.
+//! erasures are wrong, that codeword must come back, with their number; with five erasures there may be several. Otherwise the answer is
+//! that of the reference at widths 3 and 4; at the others, where its search takes long, an accepted word must be a codeword that is near,
+//! and a refused one as it was.
 
 #[path = "../tests/reference/mod.rs"]
 mod reference;
 #[path = "../tests/tools/mod.rs"]
 mod tools;
 
-use reference::search::{self, radius};
+use reference::search::{self, most_marks, radius};
 use reference::{order, places, syndromes};
 use std::time::Instant;
 use tools::wear::codeword;
@@ -20,7 +20,7 @@ use xrs::Refusal;
 const WORDS: usize = 1_000_000;
 
 /// Of 20 words so many have this width: the wide ones take long.
-const SHARES: [(u8, usize); 3] = [(3, 13), (5, 6), (7, 1)];
+const SHARES: [(u8, usize); 4] = [(3, 9), (4, 4), (5, 6), (7, 1)];
 
 /// Codewords of a width, whose sums are codewords too.
 struct Source {
@@ -52,11 +52,11 @@ fn changes(a: &[u8], b: &[u8], marks: &[u8]) -> usize {
 /// Is this answer right for the worn word, of which `clean` is the codeword?
 fn is_right(width: u8, clean: &[u8], worn: &[u8], marks: &[u8], answer: Result<u8, Refusal>, after: &[u8]) -> bool {
     let wrong = changes(clean, worn, marks);
-    let reach = radius(marks.len());
+    let reach = radius(width, marks.len());
     if wrong <= reach && answer != Err(Refusal::Unique) {
         return answer == Ok(wrong as u8) && after == clean;
     }
-    if width == 3 {
+    if width < 5 {
         return match search::restore(width, worn, marks) {
             Ok((count, near)) => answer == Ok(count) && after == near,
             Err(number) => answer.map_err(Refusal::number) == Err(number) && after == worn,
@@ -78,7 +78,7 @@ fn soak(chance: &mut Chance, source: &Source) -> bool {
     let width = source.width;
     let clean = source.draw(chance);
     let mut worn = clean.clone();
-    let (marked, wrong) = (chance.below(6), chance.below(4));
+    let (marked, wrong) = (chance.below(1 + most_marks(width)), chance.below(4));
     let spoiled = chance.places(marked + wrong, places(width));
     let (marks, others) = spoiled.split_at(marked);
     marks.iter().for_each(|&place| worn[place as usize] = chance.below(256) as u8);

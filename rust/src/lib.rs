@@ -1,16 +1,17 @@
 //! Safe calls of the proved library. Nothing here can panic: a bad input is an `Err` that says which question was answered no.
 //!
-//! A word of width 3, 5 or 7 has n = q + 4 symbols, one to a byte, where q is 2^width: 12, 36 or 132. Its first five are check symbols, the
-//! other q - 1 are the data. A call that returns `Err` leaves every slice as it was.
+//! A word of width 3, 4, 5 or 7 has n = q + 4 symbols, one to a byte, where q is 2^width: 12, 20, 36 or 132. Its first five are check
+//! symbols, the other q - 1 are the data. Two codewords differ at five places or more, at width 4 at four or more. A call that returns
+//! `Err` leaves every slice as it was.
 
 /// The question that was answered no.
 #[derive(Clone, Copy, Debug, PartialEq, Eq)]
 pub enum Refusal {
-    /// The width is not 3, 5 or 7.
+    /// The width is not 3, 4, 5 or 7.
     Width,
     /// A slice has not its exact length.
     Length,
-    /// There are more than five erasures.
+    /// There are more than five erasures, or at width 4 more than three.
     ErasureCount,
     /// An erasure is no place of the word.
     ErasurePlace,
@@ -92,9 +93,9 @@ impl Refusal {
 impl std::fmt::Display for Refusal {
     fn fmt(&self, out: &mut std::fmt::Formatter<'_>) -> std::fmt::Result {
         out.write_str(match self {
-            Refusal::Width => "the width is not 3, 5 or 7",
+            Refusal::Width => "the width is not 3, 4, 5 or 7",
             Refusal::Length => "a slice has not its exact length",
-            Refusal::ErasureCount => "there are more than five erasures",
+            Refusal::ErasureCount => "there are more than five erasures, or at width 4 more than three",
             Refusal::ErasurePlace => "an erasure is no place of the word",
             Refusal::ErasureDistinct => "an erasure is given twice",
             Refusal::Symbol => "a symbol outside the erasures is not below 2^width",
@@ -163,7 +164,7 @@ fn symbol(packed: u32) -> Result<u8, Refusal> {
 ///
 /// ```
 /// assert_eq!(xrs::sum(3, 5, 6), Ok(3));
-/// assert_eq!(xrs::sum(4, 5, 6), Err(xrs::Refusal::Width));
+/// assert_eq!(xrs::sum(6, 5, 6), Err(xrs::Refusal::Width));
 /// ```
 pub fn sum(width: u8, a: u8, b: u8) -> Result<u8, Refusal> {
     symbol(unsafe { raw::xrs_sum(width, a, b) })
@@ -250,10 +251,12 @@ pub fn syndromes(width: u8, word: &[u8], marks: &[u8]) -> Result<[u8; 5], Refusa
 }
 
 /// Writes the near codeword in place of `word`, and answers the number of unmarked places that changed, 0 to 2. The near codeword differs
-/// from `word` at no more than (4 - `marks.len()`) / 2 unmarked places, rounded down, and with five marks at none. With up to four marks
-/// there is never a second one; with five there may be several, and then the call is refused.
+/// from `word` at no more than (4 - `marks.len()`) / 2 unmarked places, rounded down, and with five marks at none; at width 4 at no more
+/// than (3 - `marks.len()`) / 2. With up to four marks there is never a second one; with five there may be several, and then the call is
+/// refused.
 ///
-/// `marks` are the erasures: at most five different places, in any order. A marked place may hold any byte, and its change is not counted.
+/// `marks` are the erasures: at most five different places, at width 4 at most three, in any order. A marked place may hold any byte, and
+/// its change is not counted.
 ///
 /// ```
 /// // Two wrong symbols, no marks.
@@ -280,17 +283,24 @@ pub fn syndromes(width: u8, word: &[u8], marks: &[u8]) -> Result<[u8; 5], Refusa
 /// assert_eq!(word, [1, 2, 4, 3, 6, 0, 1, 0, 0, 0, 0, 0]);
 /// assert_eq!(xrs::restore_word(3, &mut [1, 0, 0, 0, 0, 0, 0, 0, 0, 0, 0, 0], &[2, 4, 5, 6, 8]), Err(xrs::Refusal::Correctable));
 /// assert_eq!(xrs::restore_word(3, &mut [0; 12], &[2, 4, 5, 6, 8]), Err(xrs::Refusal::Unique));
+///
+/// // Width 4.
+/// let mut word = [0; 20];
+/// word[7] = 9;
+/// assert_eq!(xrs::restore_word(4, &mut word, &[0]), Ok(1));
+/// assert_eq!(xrs::restore_word(4, &mut word, &[0, 1, 2, 3]), Err(xrs::Refusal::ErasureCount));
 /// ```
 pub fn restore_word(width: u8, word: &mut [u8], marks: &[u8]) -> Result<u8, Refusal> {
     unpack(unsafe { raw::xrs_restore_word(width, word.as_mut_ptr(), word.len(), marks.as_ptr(), marks.len()) }).map(|count| count as u8)
 }
 
 /// `restore_word` that looks no further than `reach`: no more unmarked places are changed, and a word for which more would have to be is
-/// refused. The longest reach is the one that `restore_word` has: (4 - `marks.len()`) / 2 rounded down, and 0 with five marks.
+/// refused. The longest reach is the one that `restore_word` has: (4 - `marks.len()`) / 2 rounded down, and 0 with five marks; at width 4
+/// (3 - `marks.len()`) / 2.
 ///
 /// A word with more wrong symbols than can be undone may be near another codeword than the one that was written. A shorter reach makes this
-/// rarer. With up to four marks, and no more than 4 - `marks.len()` - `reach` unmarked symbols wrong, the codeword that was written comes
-/// back or the call is refused with `Refusal::Correctable`; another never comes.
+/// rarer. With up to four marks, and no more than 4 - `marks.len()` - `reach` unmarked symbols wrong (3 in place of 4 at width 4), the
+/// codeword that was written comes back or the call is refused with `Refusal::Correctable`; another never comes.
 ///
 /// ```
 /// // Zeros were written, and three symbols are wrong.
@@ -353,7 +363,7 @@ pub fn restore_record_within(record: &mut [u8], reach: u8) -> Result<u8, Refusal
 /// }
 /// assert_eq!(xrs::check_card(&card), Ok(()));
 /// assert_eq!(xrs::check_card(&card[..200]), Err(2));
-/// card[0] = 4;
+/// card[0] = 6;
 /// assert_eq!(xrs::check_card(&card), Err(1));
 /// card[..xrs::RECORD_SIZE].fill(255);
 /// assert_eq!(xrs::check_card(&card), Ok(()));

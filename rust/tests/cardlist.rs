@@ -4,6 +4,7 @@ mod reference;
 mod tools;
 
 use reference::card::{is_blank, judge, list, record, Listing, LISTED, RECORD};
+use reference::WIDTHS;
 use std::fs::{self, File};
 use std::io::Write;
 use std::process::{Command, Output, Stdio};
@@ -40,7 +41,7 @@ fn listed(make: impl FnOnce(&mut dyn Write) + Send) -> String {
 fn slot(chance: &mut Chance) -> Vec<u8> {
     match chance.below(8) {
         0 => vec![255; RECORD],
-        n => worn(chance, [3, 5, 7][n % 3]),
+        n => worn(chance, WIDTHS[n % WIDTHS.len()]),
     }
 }
 

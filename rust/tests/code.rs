@@ -3,12 +3,9 @@
 mod reference;
 mod tools;
 
-use reference::{items, order, places};
-use tools::{encode, is_codeword, read_data, refusal, Chance};
+use reference::{distance, items, order, places, WIDTHS};
+use tools::{encode, is_codeword, read_data, refusal, Chance, BAD_WIDTHS};
 use xrs::Refusal::{Length, Symbol, Syndrome, Width};
-
-const WIDTHS: [u8; 3] = [3, 5, 7];
-const BAD_WIDTHS: [u8; 8] = [0, 1, 2, 4, 6, 8, 128, 255];
 
 /// The words A to E of document 01, all of width 3.
 const WORDS: [[u8; 12]; 5] = [
@@ -44,6 +41,16 @@ fn words_a_to_e() {
         assert_eq!(read_data(3, &word, &[200; 7]), (Ok(()), word[5..].to_vec()));
         assert_eq!(refusal(reference::encode(3, &word[5..], 12)), Ok(word.to_vec()));
     }
+}
+
+/// Request (i): at width 4 two codewords differ at four places.
+#[test]
+fn a_codeword_of_width_4_beside_zeros() {
+    let mut word = [0; 20];
+    (word[2], word[5], word[10], word[15]) = (1, 1, 6, 7);
+    assert_eq!(encode(4, &word[5..], &[200; 20]), (Ok(()), word.to_vec()));
+    assert_eq!(is_codeword(4, &word), Ok(true));
+    assert_eq!(is_codeword(4, &[0; 20]), Ok(true));
 }
 
 #[test]
@@ -139,14 +146,14 @@ fn words_near_codewords_are_judged_as_by_the_reference() {
 }
 
 #[test]
-fn up_to_four_changes_are_seen() {
+fn fewer_changes_than_the_distance_are_seen() {
     let mut chance = Chance::new();
     for width in WIDTHS {
         for round in 0..400 {
             let word = random_codeword(&mut chance, width);
             let mut changed = word.clone();
             while changed == word {
-                for _ in 0..1 + round % 4 {
+                for _ in 0..1 + round % (distance(width) - 1) {
                     changed[chance.below(places(width))] = chance.below(order(width)) as u8;
                 }
             }
@@ -261,6 +268,7 @@ fn random_calls_are_answered_as_by_the_reference() {
             0 => 7,
             1..=9 => 5,
             10..=19 => BAD_WIDTHS[chance.below(6)],
+            20..=39 => 4,
             _ => 3,
         };
         let mut near = |length: usize| if chance.below(8) == 0 { (length + chance.below(3)).saturating_sub(1) } else { length };

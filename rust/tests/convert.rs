@@ -4,6 +4,7 @@ mod reference;
 mod tools;
 
 use reference::card::{self, record_of, restore_of, size, MARKS, OLD_MARKS, OLD_RECORD, RECORD};
+use reference::search::most_marks;
 use reference::{order, places, WIDTHS};
 use tools::wear::{codeword, worn_of};
 use tools::{card_to_new, card_to_old, refusal, restore_record, Chance};
@@ -62,7 +63,7 @@ impl Way {
 fn one_mark_byte_is_added_or_taken() {
     let mut chance = Chance::new();
     for width in WIDTHS {
-        for count in 0..=OLD_MARKS {
+        for count in 0..=OLD_MARKS.min(most_marks(width)) {
             let word = codeword(&mut chance, width);
             let marks = chance.places(count, places(width));
             let (old, new) = (record_of(OLD_MARKS, width, &word, &marks), record_of(MARKS, width, &word, &marks));
@@ -134,7 +135,7 @@ fn every_byte_of_a_record() {
     for way in [NEW, OLD] {
         for width in WIDTHS {
             let word = codeword(&mut chance, width);
-            for count in [0, 1, way.from] {
+            for count in [0, 1, way.from.min(most_marks(width))] {
                 let marks = chance.places(count, places(width));
                 let record = record_of(way.from, width, &word, &marks);
                 for at in 0..record.len() {
@@ -156,12 +157,24 @@ fn marks_and_symbols_are_not_asked_about() {
     let mut chance = Chance::new();
     for width in WIDTHS {
         let n = places(width) as u8;
-        for marks in [vec![n], vec![255, 255], vec![0, 0], vec![3, n, 3], vec![0, 1, 2, 2]] {
+        let all: [&[u8]; 5] = [&[n], &[255, 255], &[0, 0], &[3, n, 3], &[0, 1, 2, 2]];
+        for marks in all.into_iter().filter(|marks| marks.len() <= most_marks(width)) {
             for word in [vec![order(width) as u8; n as usize], vec![255; n as usize], chance.symbols(n as usize, 256)] {
-                let (old, new) = (record_of(OLD_MARKS, width, &word, &marks), record_of(MARKS, width, &word, &marks));
+                let (old, new) = (record_of(OLD_MARKS, width, &word, marks), record_of(MARKS, width, &word, marks));
                 assert_eq!(NEW.convert(&old), (Ok(()), new.clone()), "marks {marks:?} at width {width}");
                 assert_eq!(OLD.convert(&new), (Ok(()), old), "marks {marks:?} at width {width}");
             }
+        }
+    }
+}
+
+/// At width 4 both editions have as many mark bytes as elsewhere, and at most three of them are used.
+#[test]
+fn marks_of_width_4() {
+    for way in [NEW, OLD] {
+        for count in 0..=way.from {
+            let record = record_of(way.from, 4, &[0; 20], &[0, 1, 2, 3, 4][..count]);
+            assert_eq!(way.convert(&record).0, if count <= 3 { Ok(()) } else { Err(ErasureCount) }, "{count} marks");
         }
     }
 }

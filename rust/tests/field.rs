@@ -1,11 +1,11 @@
-//! Every symbol of the three fields against the reference, and every refusal of the field's calls.
+//! Every symbol of the four fields against the reference, and every refusal of the field's calls.
 
 mod reference;
+mod tools;
 
+use reference::WIDTHS;
+use tools::BAD_WIDTHS;
 use xrs::{inverse, power, product, sum, Refusal};
-
-const WIDTHS: [u8; 3] = [3, 5, 7];
-const BAD_WIDTHS: [u8; 7] = [0, 1, 2, 4, 6, 8, 255];
 
 fn symbols(width: u8) -> std::ops::Range<u8> {
     0..1 << width

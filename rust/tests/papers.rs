@@ -117,3 +117,31 @@ fn h_a_shorter_reach() {
     let within = |reach| card::restore_of(card::MARKS, &three_wrong, Some(reach));
     assert_eq!((within(2), within(3)), (Err(7), Err(16)));
 }
+
+#[test]
+fn i_width_4() {
+    assert_eq!((reference::multiply(4, 8, 2), reference::multiply(4, 9, 2)), (0b0011, 0b0001));
+    let light = |symbols: &[(usize, u8)]| {
+        let mut word = vec![0; 20];
+        symbols.iter().for_each(|&(place, symbol)| word[place] = symbol);
+        word
+    };
+    let codeword = light(&[(5, 1), (10, 6), (15, 7), (2, 1)]);
+    assert_eq!(reference::is_codeword(4, &codeword), Ok(true));
+    // Halfway to it: two symbols of four are wrong.
+    let between = light(&[(5, 1), (10, 6)]);
+    assert_eq!(search::restore(4, &between, &[]), Err(7));
+    assert_eq!(search::restore(4, &between, &[5]), Ok((1, vec![0; 20])));
+    assert_eq!(search::restore(4, &between, &[15]), Ok((1, codeword.clone())));
+    assert_eq!(search::restore(4, &between, &[2, 15]), Ok((0, codeword)));
+    for (count, longest) in [1, 1, 0, 0].into_iter().enumerate() {
+        let at = |reach| search::restore_at(4, &[0; 20], &[19, 0, 7][..count], Some(reach)).map(|(changed, _)| changed);
+        assert_eq!((at(longest), at(longest + 1)), (Ok(0), Err(16)), "{count} marks");
+    }
+    assert_eq!(search::restore(4, &[16; 20], &[0, 1, 2, 20]), Err(3));
+    assert_eq!(search::restore(4, &[16; 20], &[1, 1, 20]), Err(4));
+    assert_eq!(search::restore(6, &[0; 68], &[]), Err(1));
+    let record = |count| card::judge(&card::record(4, &[0; 20], &[0, 1, 2, 3][..count]));
+    assert_eq!((record(3), record(4)), (Ok(0), Err(3)));
+    assert_eq!(reference::sheet::write(4, &[0; 100], 20), Err(11));
+}

@@ -4,8 +4,8 @@ mod reference;
 mod tools;
 
 use reference::card::{self, record, MARKS, RECORD};
-use reference::search::{self, radius};
-use reference::{places, WIDTHS};
+use reference::search::{self, most_marks, radius};
+use reference::{distance, places, WIDTHS};
 use tools::wear::{codeword, hostile, spoiled, with_any_bytes, word_of_syndromes, worn};
 use tools::{restore_record, restore_record_within, restore_word, restore_word_within, wanted, Chance, Restored};
 use xrs::Refusal::{self, Correctable, Length, Padding, Reach, Symbol, Unique};
@@ -33,7 +33,7 @@ fn every_syndrome_of_width_3() {
     for marks in marks {
         let others = 12 - marks.len();
         let patterns = [1, 7 * others, 49 * others * (others - 1) / 2];
-        for reach in 0..=radius(marks.len()) {
+        for reach in 0..=radius(3, marks.len()) {
             let words = (0..8usize.pow(5)).map(|number| word_of_syndromes(3, number));
             let accepted = words.filter(|word| within(3, word, marks, reach as u8).0.is_ok()).count();
             let wanted: usize = patterns[..=reach].iter().sum();
@@ -45,7 +45,7 @@ fn every_syndrome_of_width_3() {
 /// The answers at the reaches that are allowed beside these marks, the shortest first, and what holds of them where `wrong` symbols of the
 /// codeword beside the marks are others in the word.
 fn at_each_reach(width: u8, codeword: &[u8], word: &[u8], marks: &[u8], wrong: usize) -> Vec<Restored> {
-    let answers: Vec<Restored> = (0..=radius(marks.len())).map(|reach| within(width, word, marks, reach as u8)).collect();
+    let answers: Vec<Restored> = (0..=radius(width, marks.len())).map(|reach| within(width, word, marks, reach as u8)).collect();
     assert_eq!(answers.last(), Some(&restore_word(width, word, marks)), "who names none gets the longest");
     for (reach, found) in answers.iter().enumerate() {
         let (answer, after) = found;
@@ -55,22 +55,23 @@ fn at_each_reach(width: u8, codeword: &[u8], word: &[u8], marks: &[u8], wrong: u
         if wrong <= reach && *answer != Err(Unique) {
             assert_eq!((answer, &after[..]), (&Ok(wrong as u8), codeword), "within the reach {reach} nothing is missed");
         }
-        if marks.len() + reach + wrong <= 4 {
+        if marks.len() + reach + wrong < distance(width) {
             assert!(*answer == Err(Correctable) || after == codeword, "another codeword came at the reach {reach}: {found:?}");
         }
     }
     answers
 }
 
-/// Codewords with up to five marks and up to four wrong symbols. With more than 4 less the marks less the reach another codeword may come: at
-/// width 3 some do.
+/// Codewords with as many marks as are allowed, or fewer, and up to four wrong symbols. Where these, the marks and the reach together make
+/// the distance or more, another codeword may come: at width 3 some do.
 #[test]
 fn words_near_codewords() {
     let mut chance = Chance::new();
-    for (width, rounds) in [(3, 8000), (5, 4000), (7, 600)] {
+    for (width, rounds) in [(3, 8000), (4, 8000), (5, 4000), (7, 600)] {
         let mut others = 0;
         for round in 0..rounds {
-            let (marked, wrong) = (if width == 7 { round % 5 } else { round % 6 }, round / 6 % 5);
+            let most = if width == 7 { 4 } else { most_marks(width) };
+            let (marked, wrong) = (round % (1 + most), round / 6 % 5);
             let clean = codeword(&mut chance, width);
             let chosen = chance.places(marked + wrong, places(width));
             let (marks, wrong) = chosen.split_at(marked);
@@ -90,11 +91,11 @@ fn words_near_codewords() {
 fn every_number_as_a_reach() {
     let mut chance = Chance::new();
     for width in WIDTHS {
-        for count in 0..5 {
+        for count in 0..=most_marks(width).min(4) {
             let clean = codeword(&mut chance, width);
             let marks = chance.places(count, places(width));
             for reach in 0..=255 {
-                let wanted = if reach as usize <= radius(count) { (Ok(0), clean.clone()) } else { (Err(Reach), clean.clone()) };
+                let wanted = if reach as usize <= radius(width, count) { (Ok(0), clean.clone()) } else { (Err(Reach), clean.clone()) };
                 assert_eq!(within(width, &clean, &marks, reach), wanted, "{count} marks, reach {reach} at width {width}");
             }
         }
@@ -107,14 +108,22 @@ fn every_number_as_a_reach() {
     }
 }
 
-/// Zeros were written and three symbols are wrong: the codeword beside them comes at the reach 2, and at a shorter one none.
+/// Zeros were written and three symbols are wrong: another codeword comes at the longest reach, and at a shorter one none.
 #[test]
 fn a_shorter_reach_refuses_where_a_longer_one_guesses() {
-    let other = [0, 0, 6, 0, 4, 1, 2, 0, 3, 0, 0, 0];
-    let word = [0, 0, 6, 0, 4, 1, 0, 0, 0, 0, 0, 0];
-    assert_eq!(within(3, &word, &[], 2), (Ok(2), other.to_vec()));
-    for reach in [0, 1] {
-        assert_eq!(within(3, &word, &[], reach).0, Err(Correctable));
+    let zeros_but = |width: u8, symbols: &[(usize, u8)]| {
+        let mut word = vec![0; places(width)];
+        symbols.iter().for_each(|&(place, symbol)| word[place] = symbol);
+        word
+    };
+    let odd = [(2, 6), (4, 4), (5, 1), (6, 2), (8, 3)];
+    let even = [(5, 1), (10, 6), (15, 7), (2, 1)];
+    for (width, codeword, longest) in [(3, &odd[..], 2), (4, &even[..], 1)] {
+        let word = zeros_but(width, &codeword[..3]);
+        assert_eq!(within(width, &word, &[], longest), (Ok(longest), zeros_but(width, codeword)));
+        for reach in 0..longest {
+            assert_eq!(within(width, &word, &[], reach).0, Err(Correctable), "reach {reach} at width {width}");
+        }
     }
 }
 

@@ -4,11 +4,11 @@ mod reference;
 mod tools;
 
 use reference::card::{check, record, restore, HEADER, RECORD};
+use reference::search::most_marks;
+use reference::WIDTHS;
 use tools::wear::{codeword, worn};
 use tools::{check_card, restore_record, wanted, Chance};
 use xrs::Refusal;
-
-const WIDTHS: [u8; 3] = [3, 5, 7];
 
 /// Fails unless the answer and the bytes afterwards are those of the reference.
 fn compare(old: &[u8]) -> Result<u8, Refusal> {
@@ -23,7 +23,7 @@ fn worn_records() {
     let mut chance = Chance::new();
     let mut seen = [0; 15];
     for _ in 0..3000 {
-        let width = WIDTHS[chance.below(3)];
+        let width = WIDTHS[chance.below(WIDTHS.len())];
         let number = compare(&worn(&mut chance, width)).map_or_else(|refusal| refusal.number() as usize, |_| 0);
         seen[number] += 1;
     }
@@ -38,8 +38,9 @@ fn every_byte_of_the_header() {
     for width in WIDTHS {
         let word = codeword(&mut chance, width);
         let clean = record(width, &word, &[]);
-        let marked = record(width, &word, &[1, 5, 8, 11]);
-        let all_marked = record(width, &word, &[1, 5, 8, 11, 0]);
+        let marks = &[1, 5, 8, 11, 0][..most_marks(width)];
+        let marked = record(width, &word, &marks[1..]);
+        let all_marked = record(width, &word, marks);
         for at in 0..HEADER {
             for byte in (0..=255).filter(|&byte| width < 7 || byte < 16 || byte > 125) {
                 for mut bytes in [clean.clone(), marked.clone(), all_marked.clone()] {
@@ -68,7 +69,7 @@ fn every_byte_of_the_tail() {
 fn the_length_comes_first() {
     let clean = record(3, &codeword(&mut Chance::new(), 3), &[]);
     let mut bytes: Vec<u8> = clean.iter().cycle().take(300).copied().collect();
-    bytes[0] = 4;
+    bytes[0] = 6;
     for length in (0..300).filter(|&length| length != RECORD) {
         assert_eq!(compare(&bytes[..length]), Err(Refusal::Length));
     }
@@ -79,7 +80,7 @@ fn restored_records_stay() {
     let mut chance = Chance::new();
     let mut accepted = 0;
     for _ in 0..500 {
-        let width = WIDTHS[chance.below(3)];
+        let width = WIDTHS[chance.below(WIDTHS.len())];
         let (answer, restored) = restore_record(&worn(&mut chance, width));
         if answer.is_ok() {
             assert_eq!(restore_record(&restored), (Ok(0), restored));
@@ -134,7 +135,8 @@ fn two_bad_records() {
 #[test]
 fn cards() {
     let mut chance = Chance::new();
-    let clean: Vec<u8> = (0..40).flat_map(|i| record(WIDTHS[i % 3], &codeword(&mut chance, WIDTHS[i % 3]), &[])).collect();
+    let widths = WIDTHS.into_iter().cycle().take(40);
+    let clean: Vec<u8> = widths.flat_map(|width| record(width, &codeword(&mut chance, width), &[])).collect();
     assert_eq!(check_card(&[]), Ok(()));
     for records in 0..=40 {
         assert_eq!(check_card(&clean[..records * RECORD]), Ok(()));

@@ -1,15 +1,14 @@
-//! The restorer against a search of the reference: the cases of document 01, every syndrome at width 3, random words, and every refusal.
+//! The restorer against a search of the reference: the cases of document 01, every syndrome at the small widths, random words, and every
+//! refusal.
 
 mod reference;
 mod tools;
 
-use reference::{order, places, search};
+use reference::search::{self, most_marks, radius};
+use reference::{distance, order, places, ODD_WIDTHS, WIDTHS};
 use tools::wear::{codeword as random_codeword, dependent, spoiled, with_any_bytes, word_of_syndromes};
-use tools::{restore_word, restore_word_inside, restore_word_within, wanted, Chance, Restored};
+use tools::{restore_word, restore_word_inside, restore_word_within, wanted, Chance, Restored, BAD_WIDTHS};
 use xrs::Refusal::{self, Correctable, ErasureCount, ErasureDistinct, ErasurePlace, Length, Reach, Symbol, Unique, Width};
-
-const WIDTHS: [u8; 3] = [3, 5, 7];
-const BAD_WIDTHS: [u8; 8] = [0, 1, 2, 4, 6, 8, 128, 255];
 
 /// Fails unless the answer and the bytes afterwards are those of the reference.
 fn compare(width: u8, word: &[u8], marks: &[u8], found: &Restored) {
@@ -55,37 +54,60 @@ fn cases_f_to_n() {
     }
 }
 
-/// Restores the words of width 3 with all check symbols and zero data: they have all syndromes. The marked places hold any bytes. Each
-/// pattern of errors that can be undone has syndromes of its own, since the distance is 5, so it is known how many are accepted. With five
-/// marks it is every word or none: then several codewords agree, or none does.
-fn every_syndrome(chance: &mut Chance, marks: &[u8]) {
+/// Restores the words with zero data that have these syndromes, and any bytes at the marks. Answers how many are accepted.
+fn with_syndromes(chance: &mut Chance, width: u8, marks: &[u8], numbers: impl Iterator<Item = usize>) -> usize {
     let mut accepted = 0;
-    for number in 0..8usize.pow(5) {
-        let word = with_any_bytes(chance, &word_of_syndromes(3, number), marks);
-        let result = restore_word_inside(number as u8, 3, &word, marks);
-        compare(3, &word, marks, &result);
+    for number in numbers {
+        let word = with_any_bytes(chance, &word_of_syndromes(width, number), marks);
+        let result = restore_word_inside(number as u8, width, &word, marks);
+        compare(width, &word, marks, &result);
         accepted += result.0.is_ok() as usize;
     }
-    let others = 12 - marks.len();
+    accepted
+}
+
+/// The same with all syndromes. Each pattern of errors that can be undone has syndromes of its own, by the distance, so it is known how
+/// many are accepted. With five marks it is every word or none: then several codewords agree, or none does.
+fn every_syndrome(chance: &mut Chance, width: u8, marks: &[u8]) {
+    let (q, others) = (order(width), places(width) - marks.len());
+    let accepted = with_syndromes(chance, width, marks, 0..q.pow(5));
+    let patterns = [1, (q - 1) * others, (q - 1).pow(2) * others * (others - 1) / 2];
     let beside_the_marks = match marks.len() {
-        0 => 1 + 7 * others + 49 * others * (others - 1) / 2,
-        1 | 2 => 1 + 7 * others,
-        5 => (restore_word(3, &[0; 12], marks).0 == Ok(0)) as usize,
-        _ => 1,
+        5 => (restore_word(width, &vec![0; places(width)], marks).0 == Ok(0)) as usize,
+        count => patterns[..=radius(width, count)].iter().sum(),
     };
-    assert_eq!(accepted, 8usize.pow(marks.len() as u32) * beside_the_marks, "marks {marks:?}");
+    assert_eq!(accepted, q.pow(marks.len() as u32) * beside_the_marks, "marks {marks:?} at width {width}");
 }
 
 #[test]
 fn every_syndrome_without_marks() {
-    every_syndrome(&mut Chance::new(), &[]);
+    every_syndrome(&mut Chance::new(), 3, &[]);
+}
+
+#[test]
+fn every_syndrome_of_width_4_without_marks() {
+    every_syndrome(&mut Chance::new(), 4, &[]);
+}
+
+/// With one mark a word in 229 is accepted, with two one in 4,096, with three one in 256.
+#[test]
+fn syndromes_of_width_4_with_marks() {
+    let mut chance = Chance::new();
+    for place in 0..20 {
+        for (count, least) in [(1, 40), (2, 1), (3, 40)] {
+            let marks: Vec<u8> = (0..count).map(|i| (place + 7 * i) % 20).collect();
+            let numbers: Vec<usize> = (1..20_000).map(|_| chance.below(1 << 20)).collect();
+            let accepted = with_syndromes(&mut chance, 4, &marks, numbers.into_iter().chain([0]));
+            assert!(accepted >= least, "{accepted} were accepted with the marks {marks:?}");
+        }
+    }
 }
 
 #[test]
 fn every_syndrome_with_one_mark() {
     let mut chance = Chance::new();
     for mark in 0..12 {
-        every_syndrome(&mut chance, &[mark]);
+        every_syndrome(&mut chance, 3, &[mark]);
     }
 }
 
@@ -94,7 +116,7 @@ fn every_syndrome_with_two_marks() {
     let mut chance = Chance::new();
     for first in 0..12 {
         for second in 0..first {
-            every_syndrome(&mut chance, &[first, second]);
+            every_syndrome(&mut chance, 3, &[first, second]);
         }
     }
 }
@@ -104,7 +126,7 @@ fn every_syndrome_with_three_or_four_marks() {
     let mut chance = Chance::new();
     for round in 0..40 {
         let marks = chance.places(3 + round % 2, 12);
-        every_syndrome(&mut chance, &marks);
+        every_syndrome(&mut chance, 3, &marks);
     }
 }
 
@@ -113,30 +135,35 @@ fn every_syndrome_with_five_marks() {
     let mut chance = Chance::new();
     for _ in 0..12 {
         let marks = chance.places(5, 12);
-        every_syndrome(&mut chance, &marks);
+        every_syndrome(&mut chance, 3, &marks);
         let marks = dependent(&mut chance, 3);
-        every_syndrome(&mut chance, &marks);
+        every_syndrome(&mut chance, 3, &marks);
     }
 }
 
-/// Codewords with `marked` places that hold any bytes and `wrong` other symbols changed.
+/// Codewords with up to four marks, or three at width 4, that hold any bytes and up to three other symbols changed.
 fn words_near_codewords(width: u8, rounds: usize) {
     let mut chance = Chance::new();
-    let mut seen = [0; 4];
+    let mut seen = vec![0; radius(width, 0) + 2];
     for round in 0..rounds {
-        let (marked, wrong) = (round % 5, round / 5 % 4);
+        let (marked, wrong) = (round % distance(width), round / 5 % 4);
         let codeword = random_codeword(&mut chance, width);
         let chosen = chance.places(marked + wrong, places(width));
         let (marks, others) = chosen.split_at(marked);
         let word = spoiled(&mut chance, width, &codeword, others);
         let word = with_any_bytes(&mut chance, &word, marks);
         let result = restored(width, &word, marks);
-        if marked + 2 * wrong <= 4 {
+        if marked + 2 * wrong < distance(width) {
             assert_eq!(result, (Ok(wrong as u8), codeword), "{word:?}, marks {marks:?}");
         }
-        seen[result.0.map_or(3, |count| count as usize)] += 1;
+        seen[result.0.map_or(0, |count| 1 + count as usize)] += 1;
     }
     assert!(seen.iter().all(|&count| count > rounds / 40), "all answers were tried: {seen:?}");
+}
+
+#[test]
+fn words_near_codewords_of_width_4() {
+    words_near_codewords(4, 16000);
 }
 
 #[test]
@@ -191,9 +218,9 @@ fn five_marks_at_width_7() {
 #[test]
 fn random_words() {
     let mut chance = Chance::new();
-    for (width, rounds) in [(3, 4000), (5, 2000), (7, 400)] {
+    for (width, rounds) in [(3, 4000), (4, 4000), (5, 2000), (7, 400)] {
         for round in 0..rounds {
-            let marks = chance.places(round % 5, places(width));
+            let marks = chance.places(round % distance(width), places(width));
             let word = chance.symbols(places(width), order(width));
             let _ = restored(width, &word, &marks);
         }
@@ -216,11 +243,12 @@ fn every_change_of_one_symbol_is_undone() {
     }
 }
 
-/// At width 7 the pairs have a place among the check symbols, the first data symbols or the last ones.
+/// At width 4 two wrong symbols are not undone. At width 7 the pairs have a place among the check symbols, the first data symbols or the
+/// last ones.
 #[test]
 fn changes_of_two_symbols_are_undone() {
     let mut chance = Chance::new();
-    for width in WIDTHS {
+    for width in ODD_WIDTHS {
         let n = places(width);
         for first in (0..n).filter(|&first| n < 132 || first < 8 || first > 129) {
             for second in (0..n).filter(|&second| second != first) {
@@ -238,7 +266,7 @@ fn any_byte_may_stand_at_a_mark() {
     for width in WIDTHS {
         for byte in 0..=255 {
             let codeword = random_codeword(&mut chance, width);
-            let marks = chance.places(1 + byte as usize % 4, places(width));
+            let marks = chance.places(1 + byte as usize % (distance(width) - 1), places(width));
             let mut word = codeword.clone();
             word[marks[0] as usize] = byte;
             assert_eq!(restored(width, &word, &marks), (Ok(0), codeword), "{byte} at width {width}");
@@ -252,7 +280,7 @@ fn the_order_of_the_marks_changes_nothing() {
     for width in WIDTHS {
         for round in 0..200 {
             let codeword = random_codeword(&mut chance, width);
-            let mut marks = chance.places(2 + round % 3, places(width));
+            let mut marks = chance.places(2 + round % (distance(width) - 2), places(width));
             let wrong = chance.places(round % 5, places(width));
             let word = spoiled(&mut chance, width, &codeword, &wrong);
             let first = restored(width, &word, &marks);
@@ -294,27 +322,30 @@ fn bad_marks() {
     for width in WIDTHS {
         let n = places(width);
         let zeros = vec![0; n];
-        for count in [6, 7, 12, 255, 256, 257, 261, 65536, 65541] {
+        let most = most_marks(width);
+        for count in [most + 1, most + 2, 12, 255, 256, 257, 261, 65536, 65541] {
             let marks: Vec<u8> = (0..count).map(|i| (i % n) as u8).collect();
             assert_eq!(refused(width, &zeros, &marks), ErasureCount, "{count} marks at width {width}");
         }
         for mark in 0..=255 {
-            for index in 0..4 {
+            for index in 0..most.min(4) {
                 let mut marks = [0, 1, 2, 3].map(|i| (i + mark as usize + 1) as u8 % n as u8);
                 marks[index] = mark;
+                let marks = &marks[..most.min(4)];
                 if (mark as usize) < n {
-                    assert_eq!(restored(width, &zeros, &marks), (Ok(0), zeros.clone()), "mark {mark} at width {width}");
+                    assert_eq!(restored(width, &zeros, marks), (Ok(0), zeros.clone()), "mark {mark} at width {width}");
                 } else {
-                    assert_eq!(refused(width, &zeros, &marks), ErasurePlace, "mark {mark} at width {width}");
+                    assert_eq!(refused(width, &zeros, marks), ErasurePlace, "mark {mark} at width {width}");
                     assert_eq!(refused(width, &zeros, &[mark, mark]), ErasurePlace, "mark {mark} twice at width {width}");
                 }
             }
         }
-        for (first, second) in [(0, 1), (0, 2), (0, 3), (1, 2), (1, 3), (2, 3)] {
+        for (first, second) in [(0, 1), (0, 2), (1, 2), (0, 3), (1, 3), (2, 3)].into_iter().filter(|pair| pair.1 < most) {
             for place in [0, 3, 4, 5, n as u8 - 1] {
                 let mut marks = [6, 7, 8, 9];
                 (marks[first], marks[second]) = (place, place);
-                assert_eq!(refused(width, &zeros, &marks), ErasureDistinct, "marks {marks:?} at width {width}");
+                let marks = &marks[..most.min(4)];
+                assert_eq!(refused(width, &zeros, marks), ErasureDistinct, "marks {marks:?} at width {width}");
                 assert_eq!(refused(width, &zeros, &marks[first..=second]), ErasureDistinct);
             }
         }
@@ -340,7 +371,7 @@ fn bad_symbols() {
     }
 }
 
-/// What is restored with nothing changed beside the two marks, at the longest reach there.
+/// What is restored with nothing changed beside the marks, at the reach 1, the longest there.
 struct Input {
     width: u8,
     word: Vec<u8>,
@@ -356,8 +387,8 @@ impl Input {
             Width => self.width = BAD_WIDTHS[kind % 8],
             Length => self.word.resize([n - 1, n + 1, n + 256, 0][kind % 4], 0),
             ErasureCount => self.marks.extend(if kind % 2 == 0 { vec![1, 2, 3, 4] } else { vec![5; 256] }),
-            ErasurePlace => self.marks.insert(kind % 3, if kind % 2 == 0 { n as u8 } else { 255 }),
-            ErasureDistinct => self.marks.insert(kind % 3, self.marks[kind % 2]),
+            ErasurePlace => self.marks.insert(kind % (1 + self.marks.len()), if kind % 2 == 0 { n as u8 } else { 255 }),
+            ErasureDistinct => self.marks.insert(kind % (1 + self.marks.len()), self.marks[kind % self.marks.len()]),
             Symbol => self.word[8 + kind % 2] = if kind % 4 < 2 { n as u8 - 4 } else { 255 },
             Reach => self.reach = [2, 3, 128, 255][kind % 4],
             _ => [0, 1, 2].into_iter().for_each(|place| self.word[place] ^= 1),
@@ -373,9 +404,11 @@ fn each_question_alone_and_before_the_later_ones() {
     for width in WIDTHS {
         for kind in 0..16 {
             let codeword = random_codeword(&mut chance, width);
+            let marks = [places(width) as u8 - 1, 6];
+            let marks = &marks[..distance(width) - 3];
             for (i, &first) in questions.iter().enumerate() {
                 for &later in &questions[..=i] {
-                    let mut input = Input { width, word: codeword.clone(), marks: vec![places(width) as u8 - 1, 6], reach: 1 };
+                    let mut input = Input { width, word: codeword.clone(), marks: marks.to_vec(), reach: 1 };
                     assert_eq!(restore_word_within(width, &input.word, &input.marks, 1), (Ok(0), codeword.clone()));
                     input.spoil(later, kind / 4);
                     if later != first {

@@ -5,7 +5,7 @@ mod tools;
 
 use reference::sheet::{exists, DAYS, SIZE};
 use reference::{items, order, places};
-use tools::{encode, read_sheet, refusal, write_sheet, Chance};
+use tools::{encode, read_sheet, refusal, write_sheet, Chance, BAD_WIDTHS};
 use xrs::Refusal::{self, Date, Length, SheetWidth, Symbol, Syndrome, Unused, Width};
 
 const N: usize = 132;
@@ -119,7 +119,7 @@ fn the_unused_symbols_are_zero() {
 #[test]
 fn other_widths_are_refused_last() {
     let mut chance = Chance::new();
-    for width in [3, 5] {
+    for width in [3, 4, 5] {
         let (n, q) = (places(width), order(width) as u8);
         // 100 symbols below q, and a word of the width: only then is the sheet's width asked.
         for symbols in [vec![0; SIZE], vec![q - 1; SIZE], dated(1, 1, 1)] {
@@ -144,7 +144,7 @@ fn other_widths_are_refused_last() {
 fn each_question_comes_before_the_later_ones() {
     // The input has every fault that comes later; one after the other is mended.
     let (bad_symbols, mut bad_word) = (vec![200; SIZE], vec![200; N]);
-    for width in [0, 4, 6, 255] {
+    for width in BAD_WIDTHS {
         assert_eq!(write_sheet(width, &bad_symbols[1..], &bad_word[1..]).0, Err(Width));
         assert_eq!(read_sheet(width, &bad_word[1..], &bad_symbols[1..]).0, Err(Width));
     }
@@ -172,7 +172,7 @@ fn lengths() {
         assert_eq!(write_sheet(7, &long[..length], &[9; N]).0, Err(Length), "{length} symbols");
         assert_eq!(read_sheet(7, &word, &vec![9; length]).0, Err(Length), "{length} symbols");
     }
-    for length in [0, 12, 36, 131, 133, 264, 388, 65668] {
+    for length in [0, 12, 20, 36, 131, 133, 264, 388, 65668] {
         assert_eq!(write_sheet(7, &good, &vec![9; length]).0, Err(Length), "a word of {length}");
         assert_eq!(read_sheet(7, &long[..length], &[9; SIZE]).0, Err(Length), "a word of {length}");
     }
@@ -184,7 +184,7 @@ fn random_calls_are_answered_as_by_the_reference() {
     let mut seen = [0; 14];
     let mut count = |answer: &Result<(), Refusal>| seen[answer.err().map_or(0, |refusal| refusal.number() as usize)] += 1;
     for _ in 0..3000 {
-        let width = [7, 7, 7, 7, 7, 7, 7, 3, 5, 4][chance.below(10)];
+        let width = [7, 7, 7, 7, 7, 7, 3, 4, 5, 6][chance.below(10)];
         let n = places(width);
         let near = |length: usize, chance: &mut Chance| if chance.below(10) == 0 { length + chance.below(3) - 1 } else { length };
         let mut symbols = random_symbols(&mut chance);

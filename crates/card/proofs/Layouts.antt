@@ -188,7 +188,7 @@ asked r p1 =
     record {
       size = eqb-true (length r) recordSize (ask-yes (eqb (length r) recordSize) Length _ p1);
       width = ask-yes (isWidth (widthOf r)) Width _ p2;
-      few = leb-true (countOf r) (allowedIn erasureBytes r) (ask-yes (leb (countOf r) (allowedIn erasureBytes r)) ErasureCount _ p3);
+      few = omega (arith, leb-true (countOf r) (allowedIn erasureBytes r) (ask-yes (leb (countOf r) (allowedIn erasureBytes r)) ErasureCount _ p3));
       tail = and-true-right (allAre 255 (unusedOf r)) (allAre 0 (tailOf r))
           (ask-yes (allAre 255 (unusedOf r) && allAre 0 (tailOf r)) Padding Passed p4);
     }

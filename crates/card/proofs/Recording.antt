@@ -117,9 +117,9 @@ longest-reach r reach e x new R =
     record { answer = R .answer ∙ ap (recordWithinOf r) e; content = R .content ∙ ap (recordWithinWritten r) e }
 
 -- the reach by the number of erasures
-pub reach-counted : (r : List ℕ) → Asked r → (k : ℕ) → ((m : ℕ) → k ≡ radius m (countOf r)) → k ≡ reachOf r
+pub reach-counted : (r : List ℕ) → Asked r → (k : ℕ) → k ≡ radius (widthOf r) (countOf r) → k ≡ reachOf r
 reach-counted r A k h =
-    h (widthOf r) ∙ ap (radius (widthOf r)) (sym (length-take-le (countOf r) (drop 2 r) (omega (arith, A .few, A .size, length-drop 2 r))))
+    h ∙ ap (radius (widthOf r)) (sym (length-take-le (countOf r) (drop 2 r) (omega (arith, A .few, A .size, length-drop 2 r))))
 
 -- ---- a record of another length
 

@@ -9,6 +9,7 @@ ghost use Rattle.code.specs.Call.{maxErasures, repair};
 ghost use Rattle.card.specs.Record.{sizeOf, erasureBytes, headerSize, recordSize, allAre, recordAsked, recordOf, RestoresRecordWithin, RestoresRecord};
 ghost use Rattle.card.specs.Leading.{recordPasses, verdictAt};
 use code::Repair;
+use code::max_erasures;
 use code::radius_of;
 use code::slice::copy;
 use code::word_length;
@@ -65,7 +66,8 @@ fn padded(bytes: &[u8], k: usize, count: usize, end: usize) -> bool
 fn allowed(width: u8, k: usize) -> usize
     ensures { λ r. ⌜ r ≡ min k (maxErasures width) ⌝ }
 {
-    if k < 5 { k } else { 5 }
+    let most = max_erasures(width);
+    if k < most { k } else { most }
 }
 
 // How many of the questions 1, 3, 4 and 15 a record of the right length passes, put in this order, before the first that it does not.
@@ -164,7 +166,7 @@ pub fn restore_record(bytes: &mut [u8]) -> Repair
 {
     match ask_record(bytes) {
         Verdict::Passed => {
-            let reach = radius_of(bytes[1] as usize);
+            let reach = radius_of(bytes[0], bytes[1] as usize);
             restore_asked(bytes, reach)
         }
         Verdict::Refused(q) => Repair::Refused(q),

@@ -216,12 +216,16 @@ module _ (m : ℕ) (w old : List ℕ) (v : Verdict) (e : v ≡ readAsked m w old
 
 -- ---- the restorer's questions before question 8
 
-module _ (m : ℕ) (w es : List ℕ) where
-  pub count-no : maxErasures m < length es → Refused ErasureCount ≡ erasuresAsked m w es
-  count-no h = simp (lt-leb (length es) (maxErasures m) h)
+-- k is the number of erasures that question 3 allows
+module _ (m : ℕ) (w es : List ℕ) (k : ℕ) (ek : k ≡ maxErasures m) where
+  pub count-no : k < length es → Refused ErasureCount ≡ erasuresAsked m w es
+  count-no h = simp (lt-leb (length es) (maxErasures m) (omega arith))
 
   -- each question on the way was answered yes; b is the answer of the function that puts the next
-  module _ (size : length w ≡ places m) (few : length es ≤ maxErasures m) (b : Bool) (eb : b ≡ allBelow (length w) es) where
+  module _ (size : length w ≡ places m) (allowed : length es ≤ k) (b : Bool) (eb : b ≡ allBelow (length w) es) where
+    few : length es ≤ maxErasures m
+    few = omega arith
+
     below-is : b ≡ allBelow (places m) es
     below-is = eb ∙ ap (λ (n : ℕ). allBelow n es) size
 

@@ -22,7 +22,7 @@ use Rattle.code.specs.Erasure.{changes, maskedSyndrome}
 use Rattle.code.specs.Near.{distance, radius, Near}
 use Rattle.code.specs.Call.{written, done, zeroSyndromes, restoreAsked}
 use Rattle.code.specs.Demands.{Data, PassesWithin}
-use Rattle.code.specs.Cases.{Case, encoding, restoring, Holds, Table}
+use Rattle.code.specs.Cases.{Case, encoding, restoring, codeword, Holds, Table}
 use Rattle.code.proofs.Questions.{allBelow-means}
 use Rattle.code.proofs.Horner.{five-cong}
 use Rattle.code.proofs.Columns.{combine}
@@ -192,6 +192,7 @@ module _ (w es : List ℕ) where
 abbrev holds? : Case → Bool
 holds? (encoding ds w) = data? ds && same? (encode 3 ds) w
 holds? (restoring w es o c) = passed? (restoreAsked 3 w es) && (ltb (length es) (distance 3) && restores? w es o c)
+holds? (codeword m w) = codeword? m w
 
 holds-of : (x : Case) → T (holds? x) → Holds x
 holds-of (encoding ds w) t = encodes-of ds w t
@@ -199,6 +200,7 @@ holds-of (restoring w es o c) t =
     let v = restoreAsked 3 w es in
     let ts = and-three (passed? v) (ltb (length es) (distance 3)) (restores? w es o c) t in
     restores-of w es (passes-radius 3 w es ∙ passed-of v (ts .0)) (ltb→lt _ _ (ts .1)) o c (ts .2)
+holds-of (codeword m w) t = codeword-of m w t
 
 abbrev pub table? : List Case → Bool
 table? [] = true

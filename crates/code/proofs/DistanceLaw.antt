@@ -1,8 +1,8 @@
--- The distance of the code: 5 where cubing is one to one, 4 in any case. Assumes nothing.
+-- The distance of the code: 5 where cubing is one to one, 4 in any case; so it goes by the width's parity. Assumes nothing.
 use mathlib.Core.Path.{_≡_, refl, sym, ap, ap₂, _∙_, subst}
 use mathlib.Core.Logic.{_≢_}
 use mathlib.Core.Bool.{true}
-use Prim.Native.Nat.{ℕ, zero, suc, _+_, _-_, _*_, _≤_, _<_, zero-le}
+use Prim.Native.Nat.{ℕ, zero, suc, _+_, _-_, _*_, _%_, _≤_, _<_, zero-le}
 use native.Mathlib.Nat.{add-zero, not-suc-le-zero, suc-ne-zero, le-refl}
 use native.Mathlib.Numerals.{add-one}
 use native.Mathlib.Decide.{ℕ-discrete, decLt}
@@ -196,4 +196,9 @@ distance-four F = all-zero F 3 (omega arith) (λ P p s e0 e1 e3 e4. run F 2 P 0 
 
 -- the distance is as defined
 pub distance-of : (m : ℕ) → isWidth m ≡ true → Distance m (distance m)
-distance-of m h = distance-five (field-of m h) (cubes-of m h)
+distance-of m h = go (m % 2) refl
+  where
+    go : (p : ℕ) → m % 2 ≡ p → Distance m (4 + p)
+    go zero e = distance-four (field-of m h)
+    go (suc zero) e = distance-five (field-of m h) (cubes-of m h e)
+    go (suc (suc p)) e = absurd (omega arith)

@@ -2,7 +2,7 @@
 use mathlib.Core.Path.{_≡_}
 use mathlib.Core.Bool.{Bool, true, cond, _&&_}
 use mathlib.Core.List.{List, [], _∷_}
-use Prim.Native.Nat.{ℕ}
+use Prim.Native.Nat.{ℕ, _+_, _*_, _%_}
 use lib.Dec.{eqb, leb}
 use lib.ListN.{length, replicate}
 use Rattle.field.specs.Field.{order}
@@ -101,9 +101,9 @@ pub record Reads (m : ℕ) (word old : List ℕ) (v : Verdict) (new : List ℕ) 
 
 -- ---- a word with erasures: questions 1, 2, 3, 5, 6 and 7
 
--- question 3's bound: five erasures
+-- question 3's bound: five erasures at an odd width, three at an even one
 abbrev pub maxErasures : ℕ → ℕ
-maxErasures m = 5
+maxErasures m = 3 + 2 * (m % 2)
 
 -- questions 3, 5, 6 and 7, put to the erasures and the word
 abbrev pub erasuresAsked : ℕ → List ℕ → List ℕ → Verdict

@@ -1,11 +1,12 @@
--- The starred cases of document 01 and document 02's words with five erasures, all at width 3: the table `cases` and what it says.
+-- The starred cases of document 01 and document 02's words with five erasures, all at width 3, and its codeword of width 4: the table
+-- `cases` and what it says.
 -- proofs/Cases.antt proves it, in one theorem `cases-hold : Table cases`. Assumes nothing.
 use mathlib.Core.Path.{_≡_}
 use mathlib.Core.List.{List, [], _∷_, _++_}
 use Prim.Native.Nat.{ℕ}
-use lib.ListN.{length, set}
+use lib.ListN.{length, set, replicate}
 use Rattle.field.specs.Question.{Outcome, accepted, refused}
-use Rattle.code.specs.Word.{places, encode}
+use Rattle.code.specs.Word.{places, encode, Codeword}
 use Rattle.code.specs.Call.{encodeOf, encodeWritten, restoreOf, restoreWritten}
 
 -- a row of the table
@@ -14,6 +15,8 @@ pub data Case : Type 0 where
   encoding : List ℕ → List ℕ → Case
   -- a word and its erasures; the restorer's answer, and the word afterwards
   restoring : List ℕ → List ℕ → Outcome → List ℕ → Case
+  -- a codeword of a width
+  codeword : ℕ → List ℕ → Case
 
 -- a word that is refused, with the number, stays as it was
 abbrev pub refusing : List ℕ → List ℕ → ℕ → Case
@@ -69,15 +72,23 @@ fiveErasures =
     ∷ restoring (word 0 0 0 0 0 (symbols 0 1 0 0 0 0 0)) (0 ∷ 1 ∷ 2 ∷ 3 ∷ 4 ∷ []) (accepted 0) wordC
     ∷ []
 
+-- width 4: c_0, c_5, c_10 and p_2, and zeros elsewhere
+abbrev pub fourSymbols : List ℕ
+fourSymbols = replicate (places 4) 0 but 5 is 1 but 10 is 6 but 15 is 7 but 2 is 1
+
+abbrev pub widthFour : List Case
+widthFour = codeword 4 fourSymbols ∷ []
+
 abbrev pub cases : List Case
-cases = starred ++ fiveErasures
+cases = starred ++ (fiveErasures ++ widthFour)
 
 -- what a row says: the encoder accepts the data, whatever the output held before, and writes the word; the restorer answers the outcome
--- and leaves the word
+-- and leaves the word; the word of that width is a codeword
 abbrev pub Holds : Case → Type 0
 Holds (encoding ds w) =
     (encode 3 ds ≡ w) × ((out : List ℕ) → length out ≡ places 3 → (encodeOf 3 ds out ≡ accepted 0) × (encodeWritten 3 ds out ≡ w))
 Holds (restoring w es o c) = (restoreOf 3 w es ≡ o) × (restoreWritten 3 w es ≡ c)
+Holds (codeword m w) = Codeword m w
 
 -- every row holds
 abbrev pub Table : List Case → Type 0

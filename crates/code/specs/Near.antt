@@ -3,17 +3,18 @@
 -- the restorer does, on every input, without them. Assumes nothing.
 use mathlib.Core.Bool.{Bool, cond}
 use mathlib.Core.List.{List, [], _∷_, _++_, map}
-use Prim.Native.Nat.{ℕ, zero, suc, _-_, _/_, _≤_}
+use Prim.Native.Nat.{ℕ, zero, suc, _+_, _-_, _/_, _%_, _≤_}
 use lib.Dec.{leb}
 use Rattle.field.specs.Field.{order}
 use Rattle.code.specs.Word.{items, Codeword, encode}
 use Rattle.code.specs.Erasure.{changes}
 
--- the code's distance: any two codewords differ at five places or more
+-- the code's distance: two codewords differ at five places or more at an odd width, at four or more at an even one
 abbrev pub distance : ℕ → ℕ
-distance m = 5
+distance m = 4 + m % 2
 
--- the radius r, the number of silent wrong symbols that are restored beside s erasures: 2, 1, 1, 0, 0, 0 for s from 0 to 5
+-- the radius r, the number of silent wrong symbols that are restored beside s erasures: at an odd width 2, 1, 1, 0, 0, 0 for s from 0 to 5,
+-- at an even one 1, 1, 0, 0 for s from 0 to 3
 abbrev pub radius : ℕ → ℕ → ℕ
 radius m s = (distance m - 1 - s) / 2
 

@@ -12,7 +12,7 @@ ghost use Rattle.field.specs.declared.Question.the-variants.{Symbol};
 ghost use Rattle.field.specs.declared.Verdict.the-variants.{Passed};
 ghost use Rattle.code.specs.Word.{checks, places, longest, wordLength, items, encode as encodeM};
 ghost use Rattle.code.specs.Call.{zeroSyndromes, wordAsked, dataAsked, Encodes, testAsked, testOf, membership, readAsked, Reads};
-ghost use Rattle.code.specs.Call.{erasuresAsked, restoreAsked, Displays, withinAsked, RestoresWithin, Restores};
+ghost use Rattle.code.specs.Call.{maxErasures, erasuresAsked, restoreAsked, Displays, withinAsked, RestoresWithin, Restores};
 ghost use Rattle.code.specs.Near.{radius};
 ghost use Rattle.code.specs.Demands.{PassesWithin};
 
@@ -201,6 +201,13 @@ pub enum Repair {
     Refused(Question),
 }
 
+// The number of erasures that question 3 allows.
+pub fn max_erasures(width: u8) -> usize
+    ensures { λ r. ⌜ r ≡ maxErasures width ⌝ }
+{
+    3 + 2 * (width % 2) as usize
+}
+
 // Questions 3, 5, 6 and 7, put to the erasures and a word of the right length.
 fn ask_erasures(width: u8, word: &[u8], erasures: &[u8]) -> Verdict
     requires { ⌜ length (now word) ≤ longest ⌝ }
@@ -212,7 +219,7 @@ fn ask_erasures(width: u8, word: &[u8], erasures: &[u8]) -> Verdict
         )
         ⌝ }
 {
-    if 5 < erasures.len() {
+    if max_erasures(width) < erasures.len() {
         return Verdict::Refused(Question::ErasureCount);
     }
     if !below(erasures, word.len() as u8) {
@@ -265,14 +272,11 @@ pub fn masked_syndromes(width: u8, word: &[u8], erasures: &[u8]) -> Syndromes
 }
 
 // r, the number of silent wrong symbols that are restored beside s erasures.
-pub fn radius_of(s: usize) -> u8
-    ensures { λ r. ⌜ ((m : ℕ) → r ≡ radius m s) ⌝ }
+pub fn radius_of(width: u8, s: usize) -> u8
+    ensures { λ r. ⌜ r ≡ radius width s ⌝ }
 {
-    match s {
-        0 => 2,
-        1 | 2 => 1,
-        _ => 0,
-    }
+    let most = 3 + (width % 2) as usize;
+    if s < most { ((most - s) / 2) as u8 } else { 0 }
 }
 
 // All questions before question 8, with that about the reach.
@@ -281,7 +285,7 @@ fn ask_within(width: u8, word: &[u8], erasures: &[u8], reach: u8) -> Verdict
 {
     match ask_restore(width, word, erasures) {
         Verdict::Passed => {
-            if reach <= radius_of(erasures.len()) {
+            if reach <= radius_of(width, erasures.len()) {
                 Verdict::Passed
             } else {
                 Verdict::Refused(Question::Reach)
@@ -323,5 +327,5 @@ pub fn restore_within(width: u8, word: &mut [u8], erasures: &[u8], reach: u8) ->
 pub fn restore(width: u8, word: &mut [u8], erasures: &[u8]) -> Repair
     ensures { λ r. ⌜ Restores width (now (word .entry)) (now (erasures .entry)) r (now (word .exit)) ⌝ }
 {
-    restore_within(width, word, erasures, radius_of(erasures.len()))
+    restore_within(width, word, erasures, radius_of(width, erasures.len()))
 }

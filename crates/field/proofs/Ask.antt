@@ -44,8 +44,8 @@ and-true-right false b e = absurd (false≢true e)
 
 -- ---- questions 1 and 7, put to operands
 
-pub order-none : (m : ℕ) → m ≢ 3 → m ≢ 5 → m ≢ 7 → orderOf m ≡ 0
-order-none m a b c = simp (ne-eqb m 3 a, ne-eqb m 5 b, ne-eqb m 7 c)
+pub order-none : (m : ℕ) → m ≢ 3 → m ≢ 4 → m ≢ 5 → m ≢ 7 → orderOf m ≡ 0
+order-none m a b c d = simp (ne-eqb m 3 a, ne-eqb m 4 b, ne-eqb m 5 c, ne-eqb m 7 d)
 
 -- what `order_of` tells of the width
 pub width-yes : (m q : ℕ) → q ≡ orderOf m → q ≢ 0 → isWidth m ≡ true

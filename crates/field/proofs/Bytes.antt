@@ -1,11 +1,12 @@
 -- The laws of arithmetic on bytes below the questions: for symbols at a width of the field it is the arithmetic of the field.
 -- Assumes nothing.
 use mathlib.Core.Path.{_≡_, refl, ap, ap₂, _∙_}
-use mathlib.Core.Logic.{_≢_, inl, inr}
+use mathlib.Core.Logic.{_≢_, _⊎_, inl, inr}
 use mathlib.Core.Bool.{Bool, true, cond}
-use Prim.Native.Nat.{ℕ, _%_}
+use Prim.Native.Nat.{ℕ, _%_, _≤_, _<_}
 use native.Mathlib.Nat.{mod-lt, mod-eq-of-lt}
 use native.Mathlib.Decide.{ℕ-discrete}
+use native.Mathlib.Omega.{arith}
 use lib.Bits.{bitXor}
 use lib.Pow.{pow-pos}
 use borrow.Author.Tests.{ne-eqb}
@@ -26,32 +27,32 @@ pub width-own : (m : ℕ) → isWidth m ≡ true → widthFor m ≡ m
 unfolding widthFor
 width-own m w = ap (λ (b : Bool). cond b m 7) w
 
-pub width-three : (m : ℕ) → m ≡ 3 → widthFor m ≡ 3
-unfolding widthFor
-width-three m e = ap widthFor e
+pub width-is : (m n : ℕ) → isWidth n ≡ true → m ≡ n → widthFor m ≡ n
+width-is m n w e = ap widthFor e ∙ width-own n w
 
-pub width-five : (m : ℕ) → m ≡ 5 → widthFor m ≡ 5
+pub width-other : (m : ℕ) → m ≢ 3 → m ≢ 4 → m ≢ 5 → widthFor m ≡ 7
 unfolding widthFor
-width-five m e = ap widthFor e
-
-pub width-other : (m : ℕ) → m ≢ 3 → m ≢ 5 → widthFor m ≡ 7
-unfolding widthFor
-width-other m a b = go (ℕ-discrete m 7)
+width-other m a b c = go (ℕ-discrete m 7)
   where
     go : Dec (m ≡ 7) → widthFor m ≡ 7
     go (yes e) = ap widthFor e
-    go (no c) = simp (ne-eqb m 3 a, ne-eqb m 5 b, ne-eqb m 7 c)
+    go (no d) = simp (ne-eqb m 3 a, ne-eqb m 4 b, ne-eqb m 5 c, ne-eqb m 7 d)
+
+-- at a byte outside the range of `Small`, on either of two ways
+pub width-large : {A B : Type 0} (m : ℕ) → (A → m < 3) → (B → 6 ≤ m) → A ⊎ B → widthFor m ≡ 7
+width-large m f g (inl a) = let l = f a in width-other m (λ e. omega arith) (λ e. omega arith) (λ e. omega arith)
+width-large m f g (inr b) = let l = g b in width-other m (λ e. omega arith) (λ e. omega arith) (λ e. omega arith)
+
+pub small-five : (m : ℕ) → Small m → m ≢ 3 → m ≢ 4 → m ≡ 5
+small-five m s a b = omega arith
 
 pub small-width : (m : ℕ) → Small m → isWidth m ≡ true
-small-width m (inl e) = ap isWidth e
-small-width m (inr e) = ap isWidth e
-
-pub small-five : (m : ℕ) → Small m → m ≢ 3 → m ≡ 5
-small-five m (inl e) n = absurd (n e)
-small-five m (inr e) n = e
-
-pub width-large : (m : ℕ) → (Small m → ⊥) → widthFor m ≡ 7
-width-large m n = width-other m (λ e. n (inl e)) (λ e. n (inr e))
+small-width m s = go (ℕ-discrete m 3) (ℕ-discrete m 4)
+  where
+    go : Dec (m ≡ 3) → Dec (m ≡ 4) → isWidth m ≡ true
+    go (yes e) d = ap isWidth e
+    go (no a) (yes e) = ap isWidth e
+    go (no a) (no b) = ap isWidth (small-five m s a b)
 
 -- the lowest digits of a byte are a symbol
 pub operand-low : (n a : ℕ) → isWidth n ≡ true → Operand n (a % order n)

@@ -1,10 +1,10 @@
 -- The laws of the field, gathered in a record (`IsField`), and proved at every width at which α generates the symbols other than 0.
 -- The ring laws hold for all numbers, since a product reduces its operands; the others speak of symbols.
 -- Assumes nothing.
-use mathlib.Core.Path.{_≡_, sym, ap, ap₂, _∙_}
+use mathlib.Core.Path.{_≡_, refl, sym, ap, ap₂, _∙_}
 use mathlib.Core.Logic.{_≢_}
-use Prim.Native.Nat.{ℕ, zero, suc, _+_, _-_, _*_, _≤_, _<_}
-use native.Mathlib.Nat.{zero-add, add-zero, mul-comm}
+use Prim.Native.Nat.{ℕ, zero, suc, _+_, _-_, _*_, _/_, _%_, _≤_, _<_}
+use native.Mathlib.Nat.{zero-add, add-zero, mul-comm, pow-suc}
 use native.Mathlib.Decide.{decLt, ℕ-discrete}
 use native.Mathlib.Omega.{arith}
 use lib.Pow.{pow-mono}
@@ -26,6 +26,19 @@ pub record Generates (m : ℕ) : Type 0 where
   pub cycle : power m α (order m - 1) ≡ 1
   pub least : (k : ℕ) → 0 < k → k < order m - 1 → power m α k ≢ 1
   pub exponent : (a : ℕ) → a ≢ 0 → a < order m → ExponentOf m a
+
+-- at an odd width q is 2 more than this many times 3
+thirds : ℕ → ℕ
+thirds zero = 0
+thirds (suc j) = thirds j * 4 + 2
+
+odd-order : (j : ℕ) → order (suc (j * 2)) ≡ thirds j * 3 + 2
+unfolding thirds
+odd-order zero = refl
+odd-order (suc j) =
+    let n = suc (j * 2) in
+    let e : suc (suc j * 2) ≡ suc (suc n) = omega arith in
+    ap order e ∙ omega (arith, pow-suc 2 (suc n), pow-suc 2 n, odd-order j)
 
 -- a symbol is given back by its cube
 abbrev pub CubeInjective : ℕ → Type 0
@@ -211,12 +224,18 @@ module _ (m : ℕ) (g : Generates m) where
         α-generates = g .exponent;
       }
 
-  -- 3 does not divide q-1, which is so at every odd width
-  pub cubes : (k : ℕ) → order m ≡ 3 * k + 2 → CubeInjective m
-  cubes k q a b h l e = go (ℕ-discrete a 0) (ℕ-discrete b 0)
+  -- at an odd width, since 3 does not divide q-1
+  pub cubes : m % 2 ≡ 1 → CubeInjective m
+  cubes odd a b h l e = go (ℕ-discrete a 0) (ℕ-discrete b 0)
     where
+      k : ℕ
+      k = thirds (m / 2)
+
+      half : m ≡ suc (m / 2 * 2)
+      half = omega arith
+
       units : order m - 1 ≡ 1 + 3 * k
-      units = omega arith
+      units = omega (arith, ap order half ∙ odd-order (m / 2))
 
       -- a symbol times a power of its cube is 1
       split : (x : ℕ) → x ≢ 0 → x < order m → product m (power m (power m x 3) k) x ≡ 1

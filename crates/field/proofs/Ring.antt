@@ -33,9 +33,10 @@ degree : (m : ℕ) → Degree m (polynomial m)
 unfolding polynomial
 degree m =
     cases (Degree m) (eqb m 3) _ _ (λ e. at 3 _ e (record { low = lit≤ tt; high = lit< tt }))
-    (λ a. cases (Degree m) (eqb m 5) _ _ (λ e. at 5 _ e (record { low = lit≤ tt; high = lit< tt }))
-    (λ b. cases (Degree m) (eqb m 7) _ _ (λ e. at 7 _ e (record { low = lit≤ tt; high = lit< tt }))
-    (λ c. record { low = le-refl (2 ^ m); high = P.pow-lt (le-refl (suc m)) })))
+    (λ a. cases (Degree m) (eqb m 4) _ _ (λ e. at 4 _ e (record { low = lit≤ tt; high = lit< tt }))
+    (λ b. cases (Degree m) (eqb m 5) _ _ (λ e. at 5 _ e (record { low = lit≤ tt; high = lit< tt }))
+    (λ c. cases (Degree m) (eqb m 7) _ _ (λ e. at 7 _ e (record { low = lit≤ tt; high = lit< tt }))
+    (λ d. record { low = le-refl (2 ^ m); high = P.pow-lt (le-refl (suc m)) }))))
   where
     at : (k p : ℕ) → eqb m k ≡ true → Degree k p → Degree m p
     at k p e d = subst (λ (j : ℕ). Degree j p) (sym (eqb-true m k e)) d

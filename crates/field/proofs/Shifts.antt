@@ -8,7 +8,7 @@ use lib.Dec.{T, eqb, leb, eqb→eq, eqb-refl, le→leb, T-not}
 use Rattle.field.specs.Polynomial.{add}
 use Rattle.field.specs.Field.{order, polynomial, product, power, α, arithmetic}
 use Rattle.field.specs.Question.{isWidth}
-use Rattle.field.proofs.Widths.{Width, Width.three, Width.five, Width.seven, width-of, field-of, doubles, doubles-power}
+use Rattle.field.proofs.Widths.{Width, Width.three, Width.four, Width.five, Width.seven, width-of, field-of, doubles, doubles-power}
 use Rattle.field.proofs.Check.{or-right, and-both, all, all-at}
 
 -- what the code makes of a: the digits that stay, moved up by k, and the k digits that leave, at x^0 and at x^d
@@ -33,6 +33,7 @@ computed m = all (λ d. all (right m d) 8) 8
 computedAt : {m : ℕ} → Width m → T (computed m)
 unfolding arithmetic doubles computed right hasRoom multiplies
 computedAt three = tt
+computedAt four = tt
 computedAt five = tt
 computedAt seven = tt
 

@@ -1,11 +1,11 @@
--- The widths 3, 5 and 7 are fields: α generates the symbols other than 0, by tests that antt computes at each width over the powers of α
+-- The widths 3, 4, 5 and 7 are fields: α generates the symbols other than 0, by tests that antt computes at each width over the powers of α
 -- by doubling. Assumes nothing.
 use mathlib.Core.Path.{_≡_, refl, sym, ap, _∙_, subst}
 use mathlib.Core.Logic.{_≢_}
 use mathlib.Core.Bool.{Bool, true, false, not, _&&_, _||_, false≢true}
-use Prim.Native.Nat.{ℕ, zero, suc, _-_, _<_, _≤_}
+use Prim.Native.Nat.{ℕ, zero, suc, _-_, _%_, _<_, _≤_}
 use native.Mathlib.Omega.{arith}
-use lib.Dec.{T, eqb, ltb, eqb→eq, ltb→lt, T-not, lit≤}
+use lib.Dec.{T, eqb, leb, ltb, eqb→eq, leb→le, ltb→lt, T-not}
 use borrow.Author.Tests.{eqb-true}
 use Rattle.field.specs.Field.{order, double, power, α, arithmetic}
 use Rattle.field.specs.Question.{isWidth}
@@ -40,9 +40,10 @@ generated m a = eqb a 0 || (ltb (exponentOf m a) (order m - 1) && eqb (doubles m
 notOne : ℕ → ℕ → Bool
 notOne m k = eqb k 0 || not (eqb (doubles m k) 1)
 
--- what is computed at a width
+-- what is computed at a width; a symbol is a byte below 128
 record Computed (m : ℕ) : Type 0 where
   wide : T (ltb 1 m)
+  small : T (leb (order m) 128)
   cycle : T (eqb (doubles m (order m - 1)) 1)
   least : T (all (notOne m) (order m - 1))
   exponent : T (all (generated m) (order m))
@@ -81,64 +82,41 @@ generates m c =
     found : (a : ℕ) → a ≢ 0 → a < order m → T (small a && right a)
     found a n h = or-right (eqb a 0) (small a && right a) (all-at (generated m) (order m) (c .exponent) a h) (λ t. n (eqb→eq a 0 t))
 
-computed3 : Computed 3
-unfolding arithmetic doubles doublings notOne generated
-computed3 = record { wide = tt; cycle = tt; least = tt; exponent = tt }
-
-computed5 : Computed 5
-unfolding arithmetic doubles doublings notOne generated
-computed5 = record { wide = tt; cycle = tt; least = tt; exponent = tt }
-
-computed7 : Computed 7
-unfolding arithmetic doubles doublings notOne generated
-computed7 = record { wide = tt; cycle = tt; least = tt; exponent = tt }
-
 -- the widths, one by one
 pub data Width : ℕ → Type 0 where
   three : Width 3
+  four : Width 4
   five : Width 5
   seven : Width 7
 
-generatesAt : {m : ℕ} → Width m → Generates m
-generatesAt three = generates 3 computed3
-generatesAt five = generates 5 computed5
-generatesAt seven = generates 7 computed7
+computed : {m : ℕ} → Width m → Computed m
+unfolding arithmetic doubles doublings notOne generated
+computed three = record { wide = tt; small = tt; cycle = tt; least = tt; exponent = tt }
+computed four = record { wide = tt; small = tt; cycle = tt; least = tt; exponent = tt }
+computed five = record { wide = tt; small = tt; cycle = tt; least = tt; exponent = tt }
+computed seven = record { wide = tt; small = tt; cycle = tt; least = tt; exponent = tt }
 
 pub fieldAt : {m : ℕ} → Width m → IsField m
-fieldAt w = isField _ (generatesAt w)
-
--- cubing is one to one at each of them: 3 does not divide q-1
-pub cubesAt : {m : ℕ} → Width m → CubeInjective m
-cubesAt three = cubes 3 (generates 3 computed3) 2 refl
-cubesAt five = cubes 5 (generates 5 computed5) 10 refl
-cubesAt seven = cubes 7 (generates 7 computed7) 42 refl
-
-pub isWidth-at : {m : ℕ} → Width m → isWidth m ≡ true
-isWidth-at three = refl
-isWidth-at five = refl
-isWidth-at seven = refl
+fieldAt w = isField _ (generates _ (computed w))
 
 -- question 1 admits these widths alone
 pub width-of : (m : ℕ) → isWidth m ≡ true → Width m
-width-of m h = go (eqb m 3) (eqb m 5) (eqb m 7) refl refl refl h
+width-of m h = go (eqb m 3) (eqb m 4) (eqb m 5) (eqb m 7) refl refl refl refl h
   where
-    go : (a b c : Bool) → eqb m 3 ≡ a → eqb m 5 ≡ b → eqb m 7 ≡ c → (a || b || c) ≡ true → Width m
-    go true b c x y z h = subst Width (sym (eqb-true m 3 x)) three
-    go false true c x y z h = subst Width (sym (eqb-true m 5 y)) five
-    go false false true x y z h = subst Width (sym (eqb-true m 7 z)) seven
-    go false false false x y z h = absurd (false≢true h)
+    go : (a b c d : Bool) → eqb m 3 ≡ a → eqb m 4 ≡ b → eqb m 5 ≡ c → eqb m 7 ≡ d → (a || b || c || d) ≡ true → Width m
+    go true b c d x y z w h = subst Width (sym (eqb-true m 3 x)) three
+    go false true c d x y z w h = subst Width (sym (eqb-true m 4 y)) four
+    go false false true d x y z w h = subst Width (sym (eqb-true m 5 z)) five
+    go false false false true x y z w h = subst Width (sym (eqb-true m 7 w)) seven
+    go false false false false x y z w h = absurd (false≢true h)
 
-pub field-of : (m : ℕ) → isWidth m ≡ true → IsField m
-field-of m h = fieldAt (width-of m h)
+module _ (m : ℕ) (h : isWidth m ≡ true) where
+  pub field-of : IsField m
+  field-of = fieldAt (width-of m h)
 
-pub cubes-of : (m : ℕ) → isWidth m ≡ true → CubeInjective m
-cubes-of m h = cubesAt (width-of m h)
+  -- cubing is one to one at the odd ones alone: at width 4 three symbols have the cube 1
+  pub cubes-of : m % 2 ≡ 1 → CubeInjective m
+  cubes-of = cubes m (generates m (computed (width-of m h)))
 
--- a symbol is a byte below 128
-pub order-small : (m : ℕ) → isWidth m ≡ true → order m ≤ 128
-order-small m h = at (width-of m h)
-  where
-    at : {m : ℕ} → Width m → order m ≤ 128
-    at three = lit≤ tt
-    at five = lit≤ tt
-    at seven = lit≤ tt
+  pub order-small : order m ≤ 128
+  order-small = leb→le (order m) 128 (computed (width-of m h) .small)

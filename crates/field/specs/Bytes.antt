@@ -1,9 +1,7 @@
 -- Arithmetic on bytes below the questions: what it gives on every byte, symbol or not. Each byte stands for a width and for a symbol there,
 -- a width and a symbol for themselves (proofs/Bytes.antt). Assumes nothing.
-use mathlib.Core.Path.{_≡_}
-use mathlib.Core.Logic.{_⊎_}
 use mathlib.Core.Bool.{cond}
-use Prim.Native.Nat.{ℕ, _%_}
+use Prim.Native.Nat.{ℕ, _%_, _≤_}
 use Rattle.field.specs.Field.{order, product, power, inverse, α}
 use Rattle.field.specs.Question.{isWidth}
 
@@ -28,6 +26,6 @@ inverted m a = inverse (widthFor m) (symbolFor m a)
 unfoldable pub shifted : ℕ → ℕ → ℕ → ℕ
 shifted m a k = product (widthFor m) (power (widthFor m) α k) (symbolFor m a)
 
--- the widths without tables
+-- the widths without tables: 3, 4 and 5
 abbrev pub Small : ℕ → Type 0
-Small m = (m ≡ 3) ⊎ (m ≡ 5)
+Small m = (3 ≤ m) × (m ≤ 5)

@@ -9,9 +9,9 @@ use Rattle.field.specs.Polynomial.{add, carryless, digits, digitsFrom}
 abbrev pub order : ℕ → ℕ
 order m = 2 ^ m
 
--- the polynomial of the width: x³+x+1, x⁵+x²+1, x⁷+x³+1. No other width is used; x^m stands there
+-- the polynomial of the width: x³+x+1, x⁴+x+1, x⁵+x²+1, x⁷+x³+1. No other width is used; x^m stands there
 unfoldable pub polynomial : ℕ → ℕ
-polynomial m = cond (eqb m 3) 11 (cond (eqb m 5) 37 (cond (eqb m 7) 137 (2 ^ m)))
+polynomial m = cond (eqb m 3) 11 (cond (eqb m 4) 19 (cond (eqb m 5) 37 (cond (eqb m 7) 137 (2 ^ m))))
 
 -- a polynomial of degree at most m, with the width's polynomial taken away where the degree is m
 unfoldable pub reduce : ℕ → ℕ → ℕ

@@ -43,9 +43,9 @@ abbrev pub after : Verdict → Outcome → Outcome
 after Passed o = o
 after (Refused q) o = refused (refusal q)
 
--- question 1: is the width 3, 5 or 7?
+-- question 1: is the width 3, 4, 5 or 7?
 abbrev pub isWidth : ℕ → Bool
-isWidth m = eqb m 3 || eqb m 5 || eqb m 7
+isWidth m = eqb m 3 || eqb m 4 || eqb m 5 || eqb m 7
 
 -- question 7 of a list of symbols: is each below q?
 abbrev pub allBelow : ℕ → List ℕ → Bool

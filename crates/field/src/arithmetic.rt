@@ -2,7 +2,7 @@
 // what they give on every byte. A byte that is no width stands for width 7, and one that is no symbol for its lowest digits.
 ghost use mathlib.Core.Path.{_≡_};
 ghost use mathlib.Core.Bool.{true};
-ghost use Prim.Native.Nat.{ℕ, _%_, _<_};
+ghost use Prim.Native.Nat.{ℕ, _%_, _≤_, _<_};
 ghost use Rattle.field.specs.Field.{order, polynomial, double as doubleM, product as productM, power as powerM};
 ghost use Rattle.field.specs.Question.{isWidth};
 ghost use Rattle.field.specs.Answer.{Operand, orderOf};
@@ -17,28 +17,31 @@ pub fn order_of(width: u8) -> u8
 {
     match width {
         3 => 8,
+        4 => 16,
         5 => 32,
         7 => 128,
         _ => 0,
     }
 }
 
-// The number of symbols at width 3 or 5.
+// The number of symbols at width 3, 4 or 5.
 fn small_order(width: u8) -> u8
-    ensures { λ r. ⌜ (0 < r) × (Small width → r ≡ order width) ⌝ }
+    ensures { λ r. ⌜ (2 ≤ r) × (Small width → r ≡ order width) ⌝ }
 {
     match width {
         3 => 8,
+        4 => 16,
         _ => 32,
     }
 }
 
-// The polynomial of width 3 or 5.
+// The polynomial of width 3, 4 or 5.
 fn small_polynomial(width: u8) -> u8
     ensures { λ r. ⌜ (Small width → r ≡ polynomial width) ⌝ }
 {
     match width {
         3 => 11,
+        4 => 19,
         _ => 37,
     }
 }
@@ -51,7 +54,7 @@ fn double(q: u8, p: u8, a: u8) -> u8
     if d < q { d } else { d ^ p }
 }
 
-// The product at width 3 or 5: b is added for each digit of a, doubled in between.
+// The product at width 3, 4 or 5: b is added for each digit of a, doubled in between.
 fn multiply_by_digits(width: u8, a: u8, b: u8) -> u8
     ensures { λ r. ⌜ (Small width → r ≡ multiplied width a b) ⌝ }
 {
@@ -89,7 +92,7 @@ pub fn multiply(width: u8, a: u8, b: u8) -> u8
     ensures { λ r. ⌜ r ≡ multiplied width a b ⌝ }
 {
     match width {
-        3 | 5 => multiply_by_digits(width, a, b),
+        3..=5 => multiply_by_digits(width, a, b),
         _ => multiply7(a, b),
     }
 }
@@ -131,8 +134,7 @@ pub fn raise(width: u8, a: u8, e: Exponent) -> u8
     ensures { λ r. ⌜ r ≡ raised width a (e .0) ⌝ }
 {
     match width {
-        3 => raise_by_squares(3, a % 8, e),
-        5 => raise_by_squares(5, a % 32, e),
+        3..=5 => raise_by_squares(width, a % small_order(width), e),
         _ => raise7(a, e),
     }
 }
@@ -142,8 +144,7 @@ pub fn invert(width: u8, a: u8) -> u8
     ensures { λ r. ⌜ r ≡ inverted width a ⌝ }
 {
     match width {
-        3 => raise(3, a, Exponent(8 - 2)),
-        5 => raise(5, a, Exponent(32 - 2)),
+        3..=5 => raise(width, a, Exponent((small_order(width) - 2) as u16)),
         _ => {
             if a % 128 == 0 {
                 return 0;

@@ -1,4 +1,4 @@
-// The field of 2^m symbols at the widths m = 3, 5 and 7, and the questions that every call puts to its input.
+// The field of 2^m symbols at the widths m = 3, 4, 5 and 7, and the questions that every call puts to its input.
 ghost use mathlib.Core.Path.{_≡_};
 ghost use mathlib.Core.List.{_∷_, []};
 ghost use Rattle.field.specs.Question.{refusal};
@@ -14,11 +14,11 @@ use arithmetic::raise;
 
 // The questions of document 01, in its order, then those of document 02. What they call marks are the erasures here.
 pub enum Question {
-    // Is the width 3, 5 or 7?
+    // Is the width 3, 4, 5 or 7?
     Width,
     // Has each lent slice its exact length?
     Length,
-    // Are there at most five erasures?
+    // Are there at most five erasures, or three at an even width?
     ErasureCount,
     // Are the record's unused erasure bytes 255 and its tail bytes 0?
     Padding,

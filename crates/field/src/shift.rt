@@ -45,6 +45,7 @@ pub fn shift(width: u8, a: u8, k: u8) -> u8
 {
     match width {
         3 => shift_at(3, 1, a % 8, k),
+        4 => shift_at(4, 1, a % 16, k),
         5 => shift_at(5, 2, a % 32, k),
         _ => shift_at(7, 3, a % 128, k),
     }

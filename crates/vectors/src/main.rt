@@ -1,4 +1,4 @@
-// Runs the words of document 01, and what it says of marks, symbols and lengths. Each case is one line: its name, the refusal or 0, the
+// Runs the words of documents 01 and 02, and what they say of marks, symbols and lengths. Each case is one line: its name, the refusal or 0, the
 // value or 0, and what the lent memory holds afterwards. The file `stdout` has what the document says.
 use code::Membership;
 use code::Repair;
@@ -80,6 +80,11 @@ fn restore(name: &[u8], word: [u8; 12], marks: &[u8]) {
     restore_slice(name, 3, &mut w, marks);
 }
 
+fn restore_four(name: &[u8], word: [u8; 20], marks: &[u8]) {
+    let mut w = word;
+    restore_slice(name, 4, &mut w, marks);
+}
+
 // A word of width 3 through the encoder, the codeword test, the reader of data and the restorer.
 fn codeword(name: &[u8], word: [u8; 12]) {
     io::write_all(1, b"encode ");
@@ -96,10 +101,10 @@ fn codeword(name: &[u8], word: [u8; 12]) {
 
 fn field_calls() {
     show_answer(b"sum 5 6", field::sum(3, 5, 6));
-    show_answer(b"sum at width 4", field::sum(4, 5, 6));
+    show_answer(b"sum at width 6", field::sum(6, 5, 6));
     show_answer(b"sum 8 0", field::sum(3, 8, 0));
     show_answer(b"product 2 5", field::product(3, 2, 5));
-    show_answer(b"product at width 4", field::product(4, 2, 5));
+    show_answer(b"product at width 6", field::product(6, 2, 5));
     show_answer(b"product 0 8", field::product(3, 0, 8));
     show_answer(b"power 0", field::power(3, 2, Exponent(0)));
     show_answer(b"power 1", field::power(3, 2, Exponent(1)));
@@ -109,11 +114,11 @@ fn field_calls() {
     show_answer(b"power 5", field::power(3, 2, Exponent(5)));
     show_answer(b"power 6", field::power(3, 2, Exponent(6)));
     show_answer(b"power 0 of 0", field::power(3, 0, Exponent(0)));
-    show_answer(b"power at width 4", field::power(4, 2, Exponent(0)));
+    show_answer(b"power at width 6", field::power(6, 2, Exponent(0)));
     show_answer(b"power 0 of 8", field::power(3, 8, Exponent(0)));
     show_answer(b"inverse of 2", field::inverse(3, 2));
     show_answer(b"inverse of 0", field::inverse(3, 0));
-    show_answer(b"inverse at width 4", field::inverse(4, 0));
+    show_answer(b"inverse at width 6", field::inverse(6, 0));
     show_answer(b"inverse of 8", field::inverse(3, 8));
 }
 
@@ -167,25 +172,79 @@ fn restorer_bounds() {
     restore(b"marked 200", [0, 0, 0, 0, 0, 0, 0, 0, 0, 0, 0, 200], &[11]);
     restore_slice(b"length 11", 3, &mut [0; 11], b"");
     restore_slice(b"length 13", 3, &mut [0; 13], b"");
-    restore_slice(b"width 4", 4, &mut [0; 12], b"");
+    restore_slice(b"width 6", 6, &mut [0; 12], b"");
 }
 
 // The same of the other calls of the code.
 fn other_bounds() {
-    encode(b"encode at width 4", 4, &[0; 7]);
+    encode(b"encode at width 6", 6, &[0; 7]);
     encode(b"encode 6 symbols", 3, &[0; 6]);
     encode(b"encode 8 symbols", 3, &[0; 8]);
     encode(b"encode the symbol 8", 3, &[8; 7]);
     test(b"test F", 3, &[0, 0, 0, 0, 0, 1, 0, 0, 0, 0, 0, 0]);
-    test(b"test at width 4", 4, &[0; 12]);
+    test(b"test at width 6", 6, &[0; 12]);
     test(b"test length 11", 3, &[0; 11]);
     test(b"test length 13", 3, &[0; 13]);
     test(b"test the symbol 8", 3, &[8; 12]);
     read(b"read F", 3, &[0, 0, 0, 0, 0, 1, 0, 0, 0, 0, 0, 0]);
-    read(b"read at width 4", 4, &[0; 12]);
+    read(b"read at width 6", 6, &[0; 12]);
     read(b"read length 11", 3, &[0; 11]);
     read(b"read length 13", 3, &[0; 13]);
     read(b"read the symbol 8", 3, &[8; 12]);
+}
+
+// Width 4: the calls of the field, and document 02's codeword with c_0, c_5, c_10 and p_2.
+fn width_four() {
+    show_answer(b"sum at width 4", field::sum(4, 9, 12));
+    show_answer(b"sum 16 0 at width 4", field::sum(4, 16, 0));
+    show_answer(b"product at width 4", field::product(4, 8, 2));
+    show_answer(b"power 15 at width 4", field::power(4, 2, Exponent(15)));
+    show_answer(b"inverse of 2 at width 4", field::inverse(4, 2));
+    let four = [0, 0, 1, 0, 0, 1, 0, 0, 0, 0, 6, 0, 0, 0, 0, 7, 0, 0, 0, 0];
+    let mut word = [200u8; 20];
+    let v = code::encode(4, &four[5..], &mut word);
+    show_verdict(b"encode at width 4", v, &word);
+    test(b"test at width 4", 4, &four);
+    let mut message = [200u8; 15];
+    let u = code::read(4, &four, &mut message);
+    show_verdict(b"read at width 4", u, &message);
+    restore_four(b"width 4", four, b"");
+    restore_four(b"width 4, mark 20", four, &[20]);
+    restore_four(b"width 4, four marks", four, &[2, 5, 10, 15]);
+}
+
+// Words that differ from that codeword, at as many places as are restored or at more.
+fn worn_four() {
+    restore_four(
+        b"one wrong",
+        [0, 0, 1, 0, 0, 1, 0, 9, 0, 0, 6, 0, 0, 0, 0, 7, 0, 0, 0, 0],
+        b"",
+    );
+    restore_four(
+        b"two wrong",
+        [0, 0, 1, 0, 0, 0, 0, 0, 0, 0, 0, 0, 0, 0, 0, 7, 0, 0, 0, 0],
+        b"",
+    );
+    restore_four(
+        b"one mark, one wrong",
+        [0, 0, 1, 0, 0, 200, 0, 0, 0, 0, 0, 0, 0, 0, 0, 7, 0, 0, 0, 0],
+        &[5],
+    );
+    restore_four(
+        b"two marks",
+        [0, 0, 1, 0, 0, 0, 0, 0, 0, 0, 0, 0, 0, 0, 0, 7, 0, 0, 0, 0],
+        &[10, 5],
+    );
+    restore_four(
+        b"two marks, one wrong",
+        [0, 0, 1, 0, 0, 0, 0, 0, 0, 0, 0, 0, 0, 0, 0, 8, 0, 0, 0, 0],
+        &[10, 5],
+    );
+    restore_four(
+        b"three marks",
+        [0, 0, 1, 0, 0, 0, 0, 0, 0, 0, 0, 0, 0, 0, 0, 0, 0, 0, 0, 0],
+        &[15, 5, 10],
+    );
 }
 
 fn main() {
@@ -195,4 +254,6 @@ fn main() {
     five_marks();
     restorer_bounds();
     other_bounds();
+    width_four();
+    worn_four();
 }

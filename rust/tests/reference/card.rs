@@ -1,5 +1,5 @@
-//! Records, cards and listings, as document 01 and requests (b) and (e) describe them, and the conversions of request (f). Words are restored
-//! by `search`.
+//! Records, cards and listings, as document 01 and requests (b) and (e) describe them, and the conversions of request (f). Words are
+//! restored by `search`.
 
 use super::{modulus, places, search};
 
@@ -31,12 +31,12 @@ pub const OLD_RECORD: usize = size(OLD_MARKS);
 /// The limit of a listing.
 pub const LISTED: usize = 1_000_000;
 
-/// The record of a word with at most five marks.
+/// The record of a word with its marks.
 pub fn record(width: u8, word: &[u8], marks: &[u8]) -> Vec<u8> {
     record_of(MARKS, width, word, marks)
 }
 
-/// The record of a word with at most as many marks as it has bytes for them.
+/// The same with so many mark bytes.
 pub fn record_of(mark_bytes: usize, width: u8, word: &[u8], marks: &[u8]) -> Vec<u8> {
     let mut bytes = vec![width, marks.len() as u8];
     bytes.extend(marks);
@@ -79,7 +79,7 @@ pub fn restore_of(mark_bytes: usize, piece: &[u8], reach: Option<u8>) -> Result<
 /// Questions 1, 3 and 4 of whole records with so many mark bytes, each put for all of them before the next.
 fn ask(mark_bytes: usize, records: &[&[u8]]) -> Result<(), u8> {
     let known_width = |record: &&[u8]| modulus(record[0]).is_some();
-    let few_marks = |record: &&[u8]| record[1] as usize <= mark_bytes;
+    let few_marks = |record: &&[u8]| record[1] as usize <= mark_bytes.min(search::most_marks(record[0]));
     let padded = |record: &&[u8]| {
         let (unused, end) = (2 + record[1] as usize, header(mark_bytes) + places(record[0]));
         is_unwritten(&record[unused..header(mark_bytes)]) && record[end..].iter().all(|&byte| byte == 0)

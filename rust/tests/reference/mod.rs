@@ -7,12 +7,16 @@ pub mod search;
 pub mod sheet;
 
 /// The widths of the code.
-pub const WIDTHS: [u8; 3] = [3, 5, 7];
+pub const WIDTHS: [u8; 4] = [3, 4, 5, 7];
+
+/// Those of document 01, at which the distance is 5.
+pub const ODD_WIDTHS: [u8; 3] = [3, 5, 7];
 
 /// The reduction polynomial of a width.
 pub fn modulus(width: u8) -> Option<u32> {
     match width {
         3 => Some(0b1011),
+        4 => Some(0b10011),
         5 => Some(0b100101),
         7 => Some(0b10001001),
         _ => None,
@@ -59,6 +63,11 @@ pub fn places(width: u8) -> usize {
 /// The number of data symbols.
 pub fn items(width: u8) -> usize {
     order(width) - 1
+}
+
+/// The least number of places at which two codewords differ.
+pub fn distance(width: u8) -> usize {
+    5 - (width == 4) as usize
 }
 
 /// The field sum over i of α^(k·i) times c_i, each power from the one before.

@@ -7,11 +7,17 @@ use std::hash::{BuildHasherDefault, Hasher};
 use std::sync::OnceLock;
 
 /// The most marks that question 3 lets pass.
-pub const MOST_MARKS: usize = 5;
+pub fn most_marks(width: u8) -> usize {
+    match width {
+        4 => 3,
+        _ => 5,
+    }
+}
 
 /// r, the most silent wrong places that are undone beside so many marks.
-pub fn radius(marks: usize) -> usize {
-    [2, 1, 1, 0, 0, 0][marks]
+pub fn radius(width: u8, marks: usize) -> usize {
+    let all: &[usize] = if width == 4 { &[1, 1, 0, 0] } else { &[2, 1, 1, 0, 0, 0] };
+    all[marks]
 }
 
 /// The restored word with the number of changes, or the refusal number.
@@ -22,7 +28,7 @@ pub fn restore(width: u8, word: &[u8], marks: &[u8]) -> Result<(u8, Vec<u8>), u8
 /// The same at a reach, request (h); who names none gets r.
 pub fn restore_at(width: u8, word: &[u8], marks: &[u8], reach: Option<u8>) -> Result<(u8, Vec<u8>), u8> {
     ask(width, word, marks)?;
-    let longest = radius(marks.len());
+    let longest = radius(width, marks.len());
     let reach = reach.map_or(longest, usize::from);
     if reach > longest {
         return Err(16);
@@ -46,7 +52,7 @@ pub fn ask(width: u8, word: &[u8], marks: &[u8]) -> Result<(), u8> {
     let too_large = |p: usize| word[p] as usize >= order(width) && !marks.contains(&(p as u8));
     match () {
         _ if word.len() != n => Err(2),
-        _ if marks.len() > MOST_MARKS => Err(3),
+        _ if marks.len() > most_marks(width) => Err(3),
         _ if marks.iter().any(|&mark| mark as usize >= n) => Err(4),
         _ if (0..marks.len()).any(twice) => Err(5),
         _ if (0..n).any(too_large) => Err(6),

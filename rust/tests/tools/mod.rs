@@ -5,6 +5,9 @@ pub mod wear;
 
 use xrs::Refusal;
 
+/// Numbers that are no width.
+pub const BAD_WIDTHS: [u8; 8] = [0, 1, 2, 6, 8, 9, 128, 255];
+
 /// As many bytes stand before and after each lent slice.
 const RIM: usize = 24;
 

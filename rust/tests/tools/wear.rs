@@ -2,6 +2,7 @@
 
 use super::Chance;
 use crate::reference::card::{record_of, size, MARKS};
+use crate::reference::search::most_marks;
 use crate::reference::{encode, items, order, places, raise, WIDTHS};
 
 /// A codeword of random data, by the reference.
@@ -42,9 +43,9 @@ pub fn dependent(chance: &mut Chance, width: u8) -> Vec<u8> {
     [2, 4].into_iter().chain(data.iter().map(|i| 5 + i)).collect()
 }
 
-/// So many marks, five at most; at width 7, where the reference takes long with five, they are rare.
+/// As many marks as are allowed, or fewer; at width 7, where the reference takes long with five, these are rare.
 fn mark_count(chance: &mut Chance, width: u8) -> usize {
-    match chance.below(6) {
+    match chance.below(1 + most_marks(width)) {
         5 if width == 7 && chance.below(12) > 0 => 4,
         count => count,
     }
@@ -75,7 +76,7 @@ pub fn worn_of(chance: &mut Chance, mark_bytes: usize, width: u8) -> Vec<u8> {
     let mut bytes = record_of(mark_bytes, width, &word, &marks);
     if chance.below(3) == 0 {
         let at = [chance.below(9), chance.below(size(mark_bytes))][chance.below(2)];
-        bytes[at] = [0, 1, 3, 5, 6, 7, 255, chance.below(256) as u8][chance.below(8)];
+        bytes[at] = [0, 1, 3, 4, 5, 6, 7, 255, chance.below(256) as u8][chance.below(9)];
     }
     bytes
 }
@@ -90,7 +91,7 @@ pub fn hostile(chance: &mut Chance) -> (u8, Vec<u8>, Vec<u8>) {
         match chance.below(6) {
             0 => width = [0, 1, 2, 6, 8, 128, 255, chance.below(256) as u8][chance.below(8)],
             1 => word.resize([0, n - 1, n + 1, n + 256, 132][chance.below(5)], 0),
-            2 => marks.resize([5, 6, 7, 255, 256, 261][chance.below(6)], chance.below(n) as u8),
+            2 => marks.resize([4, 5, 6, 7, 255, 256, 261][chance.below(7)], chance.below(n) as u8),
             3 => marks.push([n as u8, 255, n as u8 + chance.below(256 - n) as u8][chance.below(3)]),
             4 => marks.extend(marks.first().copied()),
             _ => word.iter_mut().skip(chance.below(n)).take(1).for_each(|symbol| *symbol = (q + chance.below(256 - q)) as u8),

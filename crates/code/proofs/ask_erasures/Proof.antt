@@ -4,6 +4,9 @@ use Rattle.code.proofs.Asking.{count-no, place-no, distinct-no, symbol-
 use Rattle.code.proofs.ask_erasures.Statement.{statement}
 use Rattle.code.proofs.ask_erasures.Tie as tie
 
+max-erasures-requires : tie.Need-max-erasures-requires
+max-erasures-requires c κs = search needs
+
 returns : tie.Need-returns
 returns c = λ v size. search (needs, count-no)
 
@@ -38,6 +41,7 @@ pub ask-erasures-spec : {M : Type 1} → statement M
 ask-erasures-spec =
     tie.close
     (tie.spec
+    max-erasures-requires
     returns
     cast-below
     below-requires

@@ -35,14 +35,14 @@ returns c =
     let s = c .before in
     let a = start s .args in
     sym (passes-within (a .width) (a .word .now) (a .erasures .now) (a .reach) (passed s)
-    (omega (arith, s .radius-of .ensures (a .width), c .if1 .taken)))
+    (omega (arith, s .radius-of .ensures, c .if1 .taken)))
 
 returns-2 : tie.Need-returns-2
 returns-2 c =
     let s = c .before in
     let a = start s .args in
     sym (longer-refused (a .width) (a .word .now) (a .erasures .now) (a .reach) (passed s)
-    (omega (arith, s .radius-of .ensures (a .width), c .if1 .left)))
+    (omega (arith, s .radius-of .ensures, c .if1 .left)))
 
 returns-3 : tie.Need-returns-3
 returns-3 c =

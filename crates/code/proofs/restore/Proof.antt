@@ -20,7 +20,7 @@ returns c =
     let x = c .before .before .restore-within in
     let r = c .before .before .before .radius-of in
     let a = c .before .before .before .before .before .before .before .args in
-    subst (λ (n : ℕ). RestoresWithin (a .width) (a .word .now) (a .erasures .now) n (x .result) (x .last .1 .0)) (r .ensures (a .width)) (x .ensures)
+    subst (λ (n : ℕ). RestoresWithin (a .width) (a .word .now) (a .erasures .now) n (x .result) (x .last .1 .0)) (r .ensures) (x .ensures)
 
 pub restore-spec : {M : Type 1} → statement M
 restore-spec = tie.close (tie.spec radius-of-requires restore-within-requires same-length returns)

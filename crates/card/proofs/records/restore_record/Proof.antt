@@ -21,15 +21,21 @@ slice-read-radius-of c =
     let p : v .result ≡ Passed = search needs in
     omega (arith, asked (c .before .before .before .before .before .before .args .bytes .now) (sym (v .ensures) ∙ p) .size)
 
+slice-read-radius-of-2 : tie.Need-slice-read-radius-of-2
+slice-read-radius-of-2 c =
+    let v = c .before .before .before .before .ask-record in
+    let p : v .result ≡ Passed = search needs in
+    omega (arith, asked (c .before .before .before .before .before .before .before .args .bytes .now) (sym (v .ensures) ∙ p) .size)
+
 cast-radius-of : tie.Need-cast-radius-of
-cast-radius-of c = omega (arith, c .slice-known2 .given 1)
+cast-radius-of c = omega (arith, c .slice-known3 .given 1)
 
 radius-of-requires : tie.Need-radius-of-requires
 radius-of-requires c κs = search needs
 
 restore-asked-requires : tie.Need-restore-asked-requires
 restore-asked-requires c κs =
-    let v = c .before .before .before .before .before .ask-record in
+    let v = c .before .before .before .before .before .before .ask-record in
     let p : v .result ≡ Passed = search needs in
     sym (v .ensures) ∙ p
 
@@ -43,7 +49,7 @@ returns : tie.Need-returns
 returns c =
     let done = c .before .before in
     let found = done .before .before in
-    let put = found .before .before .before .before in
+    let put = found .before .before .before .before .before in
     let v = put .ask-record in
     let p : v .result ≡ Passed = search needs in
     let r = put .before .before .before .args .bytes .now in
@@ -65,6 +71,7 @@ restore-record-spec =
     ask-record-requires
     enum-told
     slice-read-radius-of
+    slice-read-radius-of-2
     cast-radius-of
     radius-of-requires
     restore-asked-requires

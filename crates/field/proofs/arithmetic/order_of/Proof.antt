@@ -15,7 +15,12 @@ returns-3 : tie.Need-returns-3
 returns-3 c = sym (ap orderOf (c .match .keys3))
 
 returns-4 : tie.Need-returns-4
-returns-4 c = sym (order-none (c .before .args .width) (c .match .rest .0 .0 .1) (c .match .rest .0 .1) (c .match .rest .1))
+returns-4 c = sym (ap orderOf (c .match .keys4))
+
+returns-5 : tie.Need-returns-5
+returns-5 c =
+    let other = c .match .rest in
+    sym (order-none (c .before .args .width) (other .0 .0 .0 .1) (other .0 .0 .1) (other .0 .1) (other .1))
 
 pub order-of-spec : {M : Type 1} → statement M
-order-of-spec = tie.close (tie.spec returns returns-2 returns-3 returns-4)
+order-of-spec = tie.close (tie.spec returns returns-2 returns-3 returns-4 returns-5)

@@ -1,37 +1,49 @@
 -- `field::arithmetic::raise` meets its contract. Assumes nothing.
 use borrow.Author.Needs.{needs}
-use mathlib.Core.Path.{refl, sym, _∙_}
-use Rattle.field.proofs.Bytes.{width-three, width-five, width-other, operand-low, raised-at}
+use native.Mathlib.Omega.{arith}
+use mathlib.Core.Path.{sym, ap, _∙_, subst}
+use Prim.Native.Nat.{ℕ, _%_}
+use Rattle.field.specs.Field.{power}
+use Rattle.field.specs.Answer.{Operand}
+use Rattle.field.specs.Bytes.{Small}
+use Rattle.field.proofs.Bytes.{width-own, width-large, small-width, operand-low, raised-at}
 use Rattle.field.proofs.arithmetic.raise.Statement.{statement}
 use Rattle.field.proofs.arithmetic.raise.Tie as tie
 
+small-order-requires : tie.Need-small-order-requires
+small-order-requires c κs = search needs
+
+rem-raise-by-squares : tie.Need-rem-raise-by-squares
+rem-raise-by-squares c = omega (arith, c .small-order .ensures .0)
+
 raise-by-squares-requires : tie.Need-raise-by-squares-requires
 raise-by-squares-requires c κs = search needs
-
-raise-by-squares-requires-2 : tie.Need-raise-by-squares-requires-2
-raise-by-squares-requires-2 c κs = search needs
 
 raise7-requires : tie.Need-raise7-requires
 raise7-requires c κs = search needs
 
 returns : tie.Need-returns
-returns c = c .raise-by-squares .ensures (operand-low 3 _ refl) ∙ sym (raised-at _ 3 (width-three _ (c .before .match .keys1)) _ _)
+returns c =
+    let range = c .before .before .before in
+    let s = range .before .args in
+    let m = s .width in
+    let i = s .e .0 in
+    let small : Small m = (range .if1 .left, omega arith) in
+    let w = small-width m small in
+    let e = c .before .small-order .ensures .1 small in
+    c .raise-by-squares .ensures (subst (λ (q : ℕ). Operand m (s .a % q)) (sym e) (operand-low m (s .a) w))
+    ∙ ap (λ (q : ℕ). power m (s .a % q) i) e ∙ sym (raised-at m m (width-own m w) (s .a) i)
 
 returns-2 : tie.Need-returns-2
-returns-2 c = c .raise-by-squares2 .ensures (operand-low 5 _ refl) ∙ sym (raised-at _ 5 (width-five _ (c .before .match .keys2)) _ _)
-
-returns-3 : tie.Need-returns-3
-returns-3 c =
-    let other = c .before .match .rest in
-    c .raise7 .ensures ∙ sym (raised-at _ 7 (width-other _ (other .0 .1) (other .1)) _ _)
+returns-2 c = c .raise7 .ensures ∙ sym (raised-at _ 7 (width-large _ (λ l. l .taken) (λ g. g .1 .left) (c .before .if1 .came)) _ _)
 
 pub raise-spec : {M : Type 1} → statement M
 raise-spec =
     tie.close
     (tie.spec
+    small-order-requires
+    rem-raise-by-squares
     raise-by-squares-requires
-    raise-by-squares-requires-2
     raise7-requires
     returns
-    returns-2
-    returns-3)
+    returns-2)

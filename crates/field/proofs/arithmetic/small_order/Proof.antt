@@ -1,16 +1,19 @@
 -- `field::arithmetic::small_order` meets its contract. Assumes nothing.
 use mathlib.Core.Path.{sym, ap}
-use lib.Dec.{lit<}
+use lib.Dec.{lit≤}
 use Rattle.field.specs.Field.{order}
 use Rattle.field.proofs.Bytes.{small-five}
 use Rattle.field.proofs.arithmetic.small_order.Statement.{statement}
 use Rattle.field.proofs.arithmetic.small_order.Tie as tie
 
 returns : tie.Need-returns
-returns c = (lit< tt, λ s. sym (ap order (c .match .keys1)))
+returns c = (lit≤ tt, λ s. sym (ap order (c .match .keys1)))
 
 returns-2 : tie.Need-returns-2
-returns-2 c = (lit< tt, λ s. sym (ap order (small-five _ s (c .match .rest .1))))
+returns-2 c = (lit≤ tt, λ s. sym (ap order (c .match .keys2)))
+
+returns-3 : tie.Need-returns-3
+returns-3 c = (lit≤ tt, λ s. sym (ap order (small-five _ s (c .match .rest .0 .1) (c .match .rest .1))))
 
 pub small-order-spec : {M : Type 1} → statement M
-small-order-spec = tie.close (tie.spec returns returns-2)
+small-order-spec = tie.close (tie.spec returns returns-2 returns-3)

@@ -2,7 +2,7 @@
 use borrow.Author.Needs.{needs}
 use mathlib.Core.Path.{refl, sym, _∙_}
 use Rattle.field.specs.Field.{polynomial}
-use Rattle.field.proofs.Bytes.{width-three, width-five, width-other, operand-low, shifted-at}
+use Rattle.field.proofs.Bytes.{width-is, width-other, operand-low, shifted-at}
 use Rattle.field.proofs.shift.shift.Statement.{statement}
 use Rattle.field.proofs.shift.shift.Tie as tie
 
@@ -15,21 +15,28 @@ shift-at-requires-2 c κs = search needs
 shift-at-requires-3 : tie.Need-shift-at-requires-3
 shift-at-requires-3 c κs = search needs
 
+shift-at-requires-4 : tie.Need-shift-at-requires-4
+shift-at-requires-4 c κs = search needs
+
 returns : tie.Need-returns
 unfolding polynomial
-returns c = c .shift-at .ensures (operand-low 3 _ refl) refl ∙ sym (shifted-at _ 3 (width-three _ (c .before .match .keys1)) _ _)
+returns c = c .shift-at .ensures (operand-low 3 _ refl) refl ∙ sym (shifted-at _ 3 (width-is _ 3 refl (c .before .match .keys1)) _ _)
 
 returns-2 : tie.Need-returns-2
 unfolding polynomial
-returns-2 c = c .shift-at2 .ensures (operand-low 5 _ refl) refl ∙ sym (shifted-at _ 5 (width-five _ (c .before .match .keys2)) _ _)
+returns-2 c = c .shift-at2 .ensures (operand-low 4 _ refl) refl ∙ sym (shifted-at _ 4 (width-is _ 4 refl (c .before .match .keys2)) _ _)
 
 returns-3 : tie.Need-returns-3
 unfolding polynomial
-returns-3 c =
+returns-3 c = c .shift-at3 .ensures (operand-low 5 _ refl) refl ∙ sym (shifted-at _ 5 (width-is _ 5 refl (c .before .match .keys3)) _ _)
+
+returns-4 : tie.Need-returns-4
+unfolding polynomial
+returns-4 c =
     let other = c .before .match .rest in
-    c .shift-at3 .ensures (operand-low 7 _ refl) refl ∙ sym (shifted-at _ 7 (width-other _ (other .0 .1) (other .1)) _ _)
+    c .shift-at4 .ensures (operand-low 7 _ refl) refl ∙ sym (shifted-at _ 7 (width-other _ (other .0 .0 .1) (other .0 .1) (other .1)) _ _)
 
 pub shift-spec : {M : Type 1} → statement M
 shift-spec =
     tie.close
-    (tie.spec shift-at-requires shift-at-requires-2 shift-at-requires-3 returns returns-2 returns-3)
+    (tie.spec shift-at-requires shift-at-requires-2 shift-at-requires-3 shift-at-requires-4 returns returns-2 returns-3 returns-4)
