@@ -222,7 +222,7 @@ static const restore_case cases[] = {
 };
 
 static const char *after_call(const char *what) {
-    static char name[96];
+    static char name[128];
     snprintf(name, sizeof name, "the bytes after: %s", what);
     return name;
 }
@@ -252,14 +252,32 @@ static const struct {
     {255, {"six marks at the reach 255", {8}, {12, 12, 12, 12, 12, 12}, 6, XRS_REFUSED_ERASURE_COUNT, 0, NULL}},
 };
 
-/* One case, without a reach where it is negative. */
+/* Both methods without a reach and with one. */
+typedef uint32_t restorer(uint8_t, uint8_t *, size_t, const uint8_t *, size_t);
+typedef uint32_t restorer_within(uint8_t, uint8_t *, size_t, const uint8_t *, size_t, uint8_t);
+
+static const struct {
+    const char *name;
+    restorer *plain;
+    restorer_within *within;
+} methods[2] = {
+    {"", xrs_restore_word, xrs_restore_word_within},
+    {"by trials, ", xrs_restore_word_by_trials, xrs_restore_word_by_trials_within},
+};
+
+/* One case by both methods, without a reach where it is negative. */
 static void restores(const restore_case *what, int reach) {
-    lent word, marks;
-    uint8_t *symbols = lend(&word, what->word, 12), *places = lend(&marks, what->marks, what->count);
-    uint32_t answer = reach < 0 ? xrs_restore_word(3, symbols, 12, places, what->count)
-                                : xrs_restore_word_within(3, symbols, 12, places, what->count, (uint8_t)reach);
-    answers(what->name, answer, what->refusal, what->changed);
-    check(after_call(what->name), holds(&word, what->after ? what->after : what->word) && holds(&marks, what->marks));
+    size_t i, count = what->count;
+    for (i = 0; i < 2; i++) {
+        lent word, marks;
+        uint8_t *symbols = lend(&word, what->word, 12), *places = lend(&marks, what->marks, count);
+        uint32_t answer = reach < 0 ? methods[i].plain(3, symbols, 12, places, count)
+                                    : methods[i].within(3, symbols, 12, places, count, (uint8_t)reach);
+        char name[96];
+        snprintf(name, sizeof name, "%s%s", methods[i].name, what->name);
+        answers(name, answer, what->refusal, what->changed);
+        check(after_call(name), holds(&word, what->after ? what->after : what->word) && holds(&marks, what->marks));
+    }
 }
 
 static void restore_cases(void) {

@@ -107,6 +107,14 @@ uint32_t xrs_restore_word(uint8_t width, uint8_t *word, size_t word_length, cons
 uint32_t xrs_restore_word_within(
     uint8_t width, uint8_t *word, size_t word_length, const uint8_t *marks, size_t marks_length, uint8_t reach);
 
+/*
+ * xrs_restore_word and xrs_restore_word_within by another method: the places of wrong symbols are tried, one set after the other, where
+ * those find them from the syndromes. The answers and the word afterwards are the same on every input; these take longer.
+ */
+uint32_t xrs_restore_word_by_trials(uint8_t width, uint8_t *word, size_t word_length, const uint8_t *marks, size_t marks_length);
+uint32_t xrs_restore_word_by_trials_within(
+    uint8_t width, uint8_t *word, size_t word_length, const uint8_t *marks, size_t marks_length, uint8_t reach);
+
 /* ---- The card. */
 
 /*

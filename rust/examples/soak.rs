@@ -1,4 +1,5 @@
-//! Restores a million worn words from a fixed seed. Prints how many, and how many came out wrong; ends with an error where one did.
+//! Restores a million worn words from a fixed seed. Prints how many, and how many came out wrong; ends with an error where one did. Each
+//! word is restored by both methods, which must give the same answer and leave the same word.
 //!
 //! The words are sums of codewords by the reference, so each is known before its cells wear. Where no more than r symbols beside the
 //! erasures are wrong, that codeword must come back, with their number; with five erasures there may be several. Otherwise the answer is
@@ -11,15 +12,15 @@ mod reference;
 mod tools;
 
 use reference::search::{self, most_marks, radius};
-use reference::{order, places, syndromes};
+use reference::{places, syndromes};
 use std::time::Instant;
-use tools::wear::codeword;
+use tools::wear::{codeword, spoiled, with_any_bytes};
 use tools::Chance;
 use xrs::Refusal;
 
 const WORDS: usize = 1_000_000;
 
-/// Of 20 words so many have this width: the wide ones take long.
+/// Of 20 words so many have this width: to try the places of the wide ones takes long.
 const SHARES: [(u8, usize); 4] = [(3, 9), (4, 4), (5, 6), (7, 1)];
 
 /// Codewords of a width, whose sums are codewords too.
@@ -73,19 +74,19 @@ fn is_right(width: u8, clean: &[u8], worn: &[u8], marks: &[u8], answer: Result<u
     }
 }
 
-/// Wears a codeword, restores it, and tells whether the answer is right.
+/// Wears a codeword, restores it by both methods, and tells whether the answers are right.
 fn soak(chance: &mut Chance, source: &Source) -> bool {
     let width = source.width;
     let clean = source.draw(chance);
-    let mut worn = clean.clone();
     let (marked, wrong) = (chance.below(1 + most_marks(width)), chance.below(4));
-    let spoiled = chance.places(marked + wrong, places(width));
-    let (marks, others) = spoiled.split_at(marked);
-    marks.iter().for_each(|&place| worn[place as usize] = chance.below(256) as u8);
-    others.iter().for_each(|&place| worn[place as usize] ^= 1 + chance.below(order(width) - 1) as u8);
-    let mut after = worn.clone();
+    let chosen = chance.places(marked + wrong, places(width));
+    let (marks, others) = chosen.split_at(marked);
+    let worn = spoiled(chance, width, &clean, others);
+    let worn = with_any_bytes(chance, &worn, marks);
+    let (mut after, mut tried) = (worn.clone(), worn.clone());
     let answer = xrs::restore_word(width, &mut after, marks);
-    is_right(width, &clean, &worn, marks, answer, &after)
+    let same = xrs::restore_word_by_trials(width, &mut tried, marks) == answer && tried == after;
+    same && is_right(width, &clean, &worn, marks, answer, &after)
 }
 
 fn main() {

@@ -135,6 +135,15 @@ mod raw {
             marks_length: usize,
             reach: u8,
         ) -> u32;
+        pub fn xrs_restore_word_by_trials(width: u8, word: *mut u8, word_length: usize, marks: *const u8, marks_length: usize) -> u32;
+        pub fn xrs_restore_word_by_trials_within(
+            width: u8,
+            word: *mut u8,
+            word_length: usize,
+            marks: *const u8,
+            marks_length: usize,
+            reach: u8,
+        ) -> u32;
         pub fn xrs_restore_record(record: *mut u8, record_length: usize) -> u32;
         pub fn xrs_restore_record_within(record: *mut u8, record_length: usize, reach: u8) -> u32;
         pub fn xrs_check_card(card: *const u8, card_length: usize) -> u64;
@@ -312,6 +321,32 @@ pub fn restore_word(width: u8, word: &mut [u8], marks: &[u8]) -> Result<u8, Refu
 /// ```
 pub fn restore_word_within(width: u8, word: &mut [u8], marks: &[u8], reach: u8) -> Result<u8, Refusal> {
     let packed = unsafe { raw::xrs_restore_word_within(width, word.as_mut_ptr(), word.len(), marks.as_ptr(), marks.len(), reach) };
+    unpack(packed).map(|count| count as u8)
+}
+
+/// `restore_word` by another method: the places of wrong symbols are tried, one set after the other, where `restore_word` finds them from
+/// the syndromes. The answer and the word afterwards are the same on every input; this takes longer.
+///
+/// ```
+/// let mut word = [7, 0, 0, 0, 0, 7, 0, 0, 0, 0, 0, 0];
+/// assert_eq!(xrs::restore_word_by_trials(3, &mut word, &[]), Ok(2));
+/// assert_eq!(word, [0; 12]);
+/// ```
+pub fn restore_word_by_trials(width: u8, word: &mut [u8], marks: &[u8]) -> Result<u8, Refusal> {
+    let packed = unsafe { raw::xrs_restore_word_by_trials(width, word.as_mut_ptr(), word.len(), marks.as_ptr(), marks.len()) };
+    unpack(packed).map(|count| count as u8)
+}
+
+/// `restore_word_within` by the method of `restore_word_by_trials`, with the same answers.
+///
+/// ```
+/// let mut word = [7, 0, 0, 0, 0, 7, 0, 0, 0, 0, 0, 0];
+/// assert_eq!(xrs::restore_word_by_trials_within(3, &mut word, &[], 1), Err(xrs::Refusal::Correctable));
+/// assert_eq!(xrs::restore_word_by_trials_within(3, &mut word, &[], 2), Ok(2));
+/// ```
+pub fn restore_word_by_trials_within(width: u8, word: &mut [u8], marks: &[u8], reach: u8) -> Result<u8, Refusal> {
+    let (symbols, n) = (word.as_mut_ptr(), word.len());
+    let packed = unsafe { raw::xrs_restore_word_by_trials_within(width, symbols, n, marks.as_ptr(), marks.len(), reach) };
     unpack(packed).map(|count| count as u8)
 }
 

@@ -4,7 +4,7 @@ mod reference;
 mod tools;
 
 use reference::{distance, items, order, places, WIDTHS};
-use tools::{encode, is_codeword, read_data, refusal, Chance, BAD_WIDTHS};
+use tools::{encode, is_codeword, read_data, refusal, Chance, Tally, BAD_WIDTHS};
 use xrs::Refusal::{Length, Symbol, Syndrome, Width};
 
 /// The words A to E of document 01, all of width 3.
@@ -262,7 +262,7 @@ fn symbols_from_q_on_are_refused_before_the_syndromes() {
 #[test]
 fn random_calls_are_answered_as_by_the_reference() {
     let mut chance = Chance::new();
-    let mut seen = [0; 11];
+    let mut tally = Tally::default();
     for _ in 0..20000 {
         let width = match chance.below(100) {
             0 => 7,
@@ -283,10 +283,8 @@ fn random_calls_are_answered_as_by_the_reference() {
         }
         assert_eq!(is_codeword(width, &word), refusal(reference::is_codeword(width, &word)));
         let (answer, symbols) = read_data(width, &word, &data);
-        seen[answer.err().map_or(0, |refusal| refusal.number() as usize)] += 1;
+        tally.add(&answer);
         assert_eq!(answer.map(|()| symbols), refusal(reference::read_data(width, &word, count)));
     }
-    for number in [0, 1, 2, 6, 9] {
-        assert!(seen[number] > 50, "answer {number} was tried: {seen:?}");
-    }
+    tally.given(&[0, 1, 2, 6, 9], 50);
 }

@@ -7,7 +7,7 @@ use reference::card::{self, record_of, restore_of, size, MARKS, OLD_MARKS, OLD_R
 use reference::search::most_marks;
 use reference::{order, places, WIDTHS};
 use tools::wear::{codeword, worn_of};
-use tools::{card_to_new, card_to_old, refusal, restore_record, Chance};
+use tools::{card_to_new, card_to_old, refusal, restore_record, Chance, Tally};
 use xrs::Refusal::{self, ErasureCount, FourErasures, Length, Padding, Width};
 
 /// A conversion, with the mark bytes of a record before and after.
@@ -77,8 +77,8 @@ fn one_mark_byte_is_added_or_taken() {
 #[test]
 fn worn_cards() {
     let mut chance = Chance::new();
-    for (way, answers) in [(NEW, vec![0, 1, 2, 3, 8]), (OLD, vec![0, 1, 2, 3, 8, 15])] {
-        let mut seen = [0; 16];
+    for (way, numbers) in [(NEW, vec![0, 1, 2, 3, 8]), (OLD, vec![0, 1, 2, 3, 8, 15])] {
+        let mut tally = Tally::default();
         for _ in 0..4000 {
             let slots = chance.below(5);
             let mut card = way.worn_card(&mut chance, slots);
@@ -88,12 +88,9 @@ fn worn_cards() {
                 1 => length = (length + chance.below(3)).saturating_sub(1),
                 _ => (),
             }
-            let (answer, _) = way.call(&card, &vec![chance.below(256) as u8; length]);
-            seen[answer.err().map_or(0, |refusal| refusal.number() as usize)] += 1;
+            tally.add(&way.call(&card, &vec![chance.below(256) as u8; length]).0);
         }
-        for number in answers {
-            assert!(seen[number] > 20, "answer {number} of {way:?} was tried: {seen:?}");
-        }
+        tally.given(&numbers, 20);
     }
 }
 
@@ -246,7 +243,7 @@ fn there_and_back() {
 #[test]
 fn converted_records_are_restored_alike() {
     let mut chance = Chance::new();
-    let mut seen = [0; 9];
+    let mut tally = Tally::default();
     for round in 0..3000 {
         let old = worn_of(&mut chance, OLD_MARKS, WIDTHS[round % WIDTHS.len()]);
         let (Ok(()), new) = NEW.convert(&old) else { continue };
@@ -255,11 +252,9 @@ fn converted_records_are_restored_alike() {
             Ok((changed, restored)) => assert_eq!((answer, after), (Ok(changed), NEW.convert(&restored).1)),
             Err(refused) => assert_eq!(answer, Err(refused)),
         }
-        seen[answer.map_or_else(|refusal| refusal.number() as usize, |_| 0)] += 1;
+        tally.add(&answer);
     }
-    for number in [0, 4, 5, 6, 7] {
-        assert!(seen[number] > 0, "answer {number} was given: {seen:?}");
-    }
+    tally.given(&[0, 4, 5, 6, 7], 0);
 }
 
 /// The example of document 01 is converted as a whole. The worn card has a short last piece, and records that are refused; each other slot,

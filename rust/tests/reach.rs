@@ -7,7 +7,7 @@ use reference::card::{self, record, MARKS, RECORD};
 use reference::search::{self, most_marks, radius};
 use reference::{distance, places, WIDTHS};
 use tools::wear::{codeword, hostile, spoiled, with_any_bytes, word_of_syndromes, worn};
-use tools::{restore_record, restore_record_within, restore_word, restore_word_within, wanted, Chance, Restored};
+use tools::{restore_record, restore_record_within, restore_word, restore_word_within, wanted, Chance, Restored, Tally};
 use xrs::Refusal::{self, Correctable, Length, Padding, Reach, Symbol, Unique};
 
 /// The answer at a reach and the word afterwards, which must be those of the reference.
@@ -130,12 +130,12 @@ fn a_shorter_reach_refuses_where_a_longer_one_guesses() {
 /// Counts the answers of 4,000 calls, each at a reach by chance, and sees that each of these was given.
 fn counted(numbers: &[usize], mut call: impl FnMut(&mut Chance, u8) -> Result<u8, Refusal>) {
     let mut chance = Chance::new();
-    let mut seen = [0; 17];
+    let mut tally = Tally::default();
     for _ in 0..4000 {
         let reach = [0, 0, 1, 1, 2, 3, 255, chance.below(256) as u8][chance.below(8)];
-        seen[call(&mut chance, reach).map_or_else(|refusal| refusal.number() as usize, |_| 0)] += 1;
+        tally.add(&call(&mut chance, reach));
     }
-    assert!(numbers.iter().all(|&number| seen[number] > 0), "all of {numbers:?} were given: {seen:?}");
+    tally.given(numbers, 0);
 }
 
 #[test]

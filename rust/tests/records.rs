@@ -7,7 +7,7 @@ use reference::card::{check, record, restore, HEADER, RECORD};
 use reference::search::most_marks;
 use reference::WIDTHS;
 use tools::wear::{codeword, worn};
-use tools::{check_card, restore_record, wanted, Chance};
+use tools::{check_card, restore_record, wanted, Chance, Tally};
 use xrs::Refusal;
 
 /// Fails unless the answer and the bytes afterwards are those of the reference.
@@ -21,15 +21,12 @@ fn compare(old: &[u8]) -> Result<u8, Refusal> {
 #[test]
 fn worn_records() {
     let mut chance = Chance::new();
-    let mut seen = [0; 15];
+    let mut tally = Tally::default();
     for _ in 0..3000 {
         let width = WIDTHS[chance.below(WIDTHS.len())];
-        let number = compare(&worn(&mut chance, width)).map_or_else(|refusal| refusal.number() as usize, |_| 0);
-        seen[number] += 1;
+        tally.add(&compare(&worn(&mut chance, width)));
     }
-    for number in [0, 1, 3, 4, 5, 6, 7, 8, 14] {
-        assert!(seen[number] > 0, "no record was refused with {number}: {seen:?}");
-    }
+    tally.given(&[0, 1, 3, 4, 5, 6, 7, 8, 14], 0);
 }
 
 #[test]

@@ -13,7 +13,7 @@ use Rattle.code.specs.Word.{places, at, syndrome, Codeword, encode, data
 use Rattle.code.specs.Erasure.{syndromesOf}
 use Rattle.code.specs.Call.{written, done, withinWritten, shown, allZero, zeroSyndromes, encodeOf, encodeWritten, testOf}
 use Rattle.code.specs.Demands.{Data, EncoderMakes, EncoderMade, ReadBack, TestsCodeword, NeverTwo, Accepts, RefusesSeven, RefusesFourteen, FewErasures}
-use Rattle.code.specs.Demands.{LongerReach, ShorterReach, RefusedUnchanged, FewChanged, SameRestored, DisplaysPlain, DisplaysZero, SameDisplayed}
+use Rattle.code.specs.Demands.{LongerReach, ShorterReach, RefusedUnchanged, FewChanged, SameRestored, MethodsAgree, DisplaysPlain, DisplaysZero, SameDisplayed}
 use Rattle.code.proofs.Encoding.{encode-codeword, encode-data, codeword-data, codeword-encode}
 use Rattle.code.proofs.Horner.{five-cong}
 use Rattle.code.proofs.Passing.{encode-passes, read-passes, test-codeword, zero-syndromes, five-zero, given, within-passes}
@@ -93,6 +93,9 @@ few-changed m w es reach k e =
 
 pub same-restored : SameRestored
 same-restored = Restoring.same-restored
+
+pub methods-agree : MethodsAgree
+methods-agree m w es reach a b u v A B = (A .answer ∙ sym (B .answer), A .word ∙ sym (B .word))
 
 -- ---- the display of the syndromes
 

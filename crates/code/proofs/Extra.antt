@@ -26,7 +26,7 @@ abbrev pub Falling : ℕ → List ℕ → Type 0
 Falling n [] = Unit {0}
 Falling n (p ∷ ps) = (p < n) × Falling p ps
 
-falling-le : (k n : ℕ) (ps : List ℕ) → k ≤ n → Falling k ps → Falling n ps
+pub falling-le : (k n : ℕ) (ps : List ℕ) → k ≤ n → Falling k ps → Falling n ps
 falling-le k n [] h d = tt
 falling-le k n (p ∷ ps) h d = (le-trans (d .0) h, d .1)
 

@@ -74,7 +74,7 @@ fill-values R w (l ∷ ls) (z ∷ zs) rs ds bs =
     ap₂ _∷_ (getD-set-same (fill w ls zs) l z 0 (omega (arith, length-fill w ls zs, below-head l ls (length w) bs)))
     (map-set (fill w ls zs) ls l z (distinct-head l ls ds) ∙ fill-values R w ls zs (rs .1) (distinct-tail l ls ds) (below-tail l ls (length w) bs))
 
-each-map : (R : ℕ → ℕ → Type 0) (f : ℕ → ℕ) (n : ℕ) (ls : List ℕ) → allBelow n ls ≡ true → ((p : ℕ) → p < n → R p (f p)) → Each R ls (map f ls)
+pub each-map : (R : ℕ → ℕ → Type 0) (f : ℕ → ℕ) (n : ℕ) (ls : List ℕ) → allBelow n ls ≡ true → ((p : ℕ) → p < n → R p (f p)) → Each R ls (map f ls)
 each-map R f n [] bs r = tt
 each-map R f n (l ∷ ls) bs r = (r l (below-head l ls n bs), each-map R f n ls (below-tail l ls n bs) r)
 

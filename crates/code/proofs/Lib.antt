@@ -34,4 +34,16 @@ pub mod LinearSystem
 -- the restorer
 pub mod Correcting
 pub mod Trying
+-- finding the wrong places from the syndromes
+pub mod Locator
+pub mod Pattern
+pub mod Locating
+pub mod Scanning
+pub mod Finding
+pub mod Amending
+pub mod PlainWays
+pub mod Ratios
+pub mod Beside
+pub mod BesideWays
+-- and what is restored
 pub mod Repairing

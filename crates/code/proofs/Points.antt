@@ -8,6 +8,7 @@ use native.Mathlib.Omega.{arith}
 use Rattle.field.specs.Polynomial.{add}
 use Rattle.field.specs.Field.{order, product, power}
 use Rattle.field.proofs.Laws.{IsField, CubeInjective}
+use Rattle.code.specs.Beside.{Injective}
 use Rattle.code.proofs.Algebra.{square}
 
 -- points with their values
@@ -34,10 +35,6 @@ abbrev pub Proper : ℕ → Points → Type 0
 Proper m none = Unit {0}
 Proper m (term x v P) =
     record { point-lt : x < order m; point-ne : x ≢ 0; value-lt : v < order m; value-ne : v ≢ 0; apart : Apart x P; rest : Proper m P }
-
--- raising to the power g is one to one
-abbrev pub Injective : ℕ → ℕ → Type 0
-Injective m g = (x y : ℕ) → x < order m → y < order m → power m x g ≡ power m y g → x ≡ y
 
 -- what is left without the point y: each value times x^g + y^g
 unfoldable without : ℕ → ℕ → ℕ → Points → Points
@@ -107,7 +104,7 @@ module _ {m : ℕ} (F : IsField m) where
       (subst (λ (n : ℕ). n ≤ d) (sym (size-without m g y P)) (le-of-suc-le-suc s))
       (proper-without g inj y (p .point-lt) P (p .apart) (p .rest))))
 
-  one-injective : Injective m 1
+  pub one-injective : Injective m 1
   one-injective x y hx hy e = sym (F .power-one x hx) ∙ e ∙ F .power-one y hy
 
   pub two-injective : Injective m 2

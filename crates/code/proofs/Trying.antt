@@ -11,22 +11,37 @@ use lib.ListN.{length, length-append}
 use Rattle.field.specs.Polynomial.{add}
 use Rattle.field.specs.Field.{order, product}
 use Rattle.field.specs.Question.{allBelow}
+use Rattle.field.proofs.Laws.{IsField}
 use Rattle.field.proofs.Widths.{field-of}
 use Rattle.code.specs.declared.restorer.Trial.{Trial}
 use Rattle.code.specs.declared.restorer.Correction.{Correction}
-use Rattle.code.specs.Word.{five, places, at, Codeword}
+use Rattle.code.specs.Word.{checks, five, places, at, Codeword}
 use Rattle.code.specs.Place.{column}
 use Rattle.code.specs.Erasure.{member, distinct, maskedSyndrome}
 use Rattle.code.specs.Correction.{Agrees, Lent, tried, Ready, corrected}
-use Rattle.code.specs.Correction.{NoneAt, SeveralAt, NoneFrom, isSolved, Searched, NoneWithin}
+use Rattle.code.specs.Correction.{NoneAt, SeveralAt, NoneFrom, isSolved, Corrects, Searched, NoneWithin}
 use Rattle.code.specs.declared.solver.Solutions.{Solutions}
 use Rattle.code.specs.declared.solver.Solutions.the-variants.{None, One, Several}
+use Rattle.code.proofs.Sums.{parity-lt}
 use Rattle.code.proofs.Horner.{five-at, five-cong}
-use Rattle.code.proofs.Questions.{or-false-right}
+use Rattle.code.proofs.Questions.{or-false-right, both-ways}
 use Rattle.code.proofs.Members.{distinct-head, distinct-tail, distinct-cons, below-head, below-tail, below-cons}
 use Rattle.code.proofs.Columns.{masked-more}
 use Rattle.code.proofs.Filling.{masked-lt}
 use Rattle.code.proofs.Extra.{Falling, Beside, within-beside, wrong}
+
+-- ---- the syndromes of a trial
+
+module _ {m : ℕ} {w : List ℕ} {t : Trial} (R : Ready m w t) where
+  F : IsField m
+  F = field-of m (R .width)
+
+  pub sums-at : (k : ℕ) → k < checks → at (t .sums) k ≡ maskedSyndrome m (tried t) w k
+  sums-at k h = ap (λ (u : List ℕ). at u k) (R .sums) ∙ five-at (maskedSyndrome m (tried t) w) k h
+
+  pub sums-lt : (k : ℕ) → k < checks → at (t .sums) k < order m
+  sums-lt k h = subst (λ (n : ℕ). n < order m) (sym (sums-at k h))
+      (F .add-lt _ _ (masked-lt F (R .lent) k (omega (arith, F .one-lt))) (parity-lt F _ k))
 
 -- ---- one more place
 
@@ -50,8 +65,7 @@ module _ (m : ℕ) (w : List ℕ) (t u : Trial) (p x : ℕ) (R : Ready m w t) (h
         width = R .width;
         lent = subst (Lent m w) (sym e) (lent-more (R .lent) p h o);
         sums = f ∙ five-cong _ _ (λ k l.
-            ap₂ (λ (y z : ℕ). add y (product m (column m p k) z))
-            (ap (λ (s : List ℕ). at s k) (R .sums) ∙ five-at (maskedSyndrome m (tried t) w) k l) ex
+            ap₂ (λ (y z : ℕ). add y (product m (column m p k) z)) (sums-at R k l) ex
             ∙ sym (masked-more F (tried t) p h o (at w) k l (masked-lt F (R .lent) k (omega (arith, F .one-lt))))
             ∙ ap (λ (ls : List ℕ). maskedSyndrome m ls w k) (sym e));
       }
@@ -79,15 +93,30 @@ searched-none e x = record {
   several = λ g. (let z : _≡_ {A = ℕ} 0 1 = cc in absurd (omega arith));
 }
 
--- something was found
-pub searched-found : {m : ℕ} {w ls : List ℕ} {n r : ℕ} {Far Other : Type 0} {c : Correction} → n ≤ r → (b : Bool) → b ≡ isSolved (c .found)
-    → b ≡ true → Searched m w ls n Far c → Searched m w ls r Other c
-searched-found {c = c} h b e f S = record {
-  none = λ g. absurd (solved-not (c .found) (sym e ∙ f) g);
+-- one codeword was found
+pub searched-one : {m : ℕ} {w ls : List ℕ} {n : ℕ} {Far : Type 0} {c : Correction} → c .found ≡ One → Corrects m w ls n c → Searched m w ls n Far c
+searched-one e C = record {
+  none = λ g. (let z : _≡_ {A = ℕ} 0 1 = cc in absurd (omega arith));
+  one = λ g. C;
+  several = λ g. (let z : _≡_ {A = ℕ} 0 1 = cc in absurd (omega arith));
+}
+
+-- a search is the last of a wider one
+pub searched-last : {m : ℕ} {w ls : List ℕ} {n r : ℕ} {Far Other : Type 0} {c : Correction} → n ≤ r → (Far → Other) → Searched m w ls n Far c
+    → Searched m w ls r Other c
+searched-last h o S = record {
+  none = λ g. o (S .none g);
   one = λ g. let C = S .one g in
       record { below = C .below; codeword = C .codeword; extra = C .extra; few = le-trans (C .few) h; agrees = C .agrees; only = C .only };
   several = λ g. let A = S .several g in record { extra = A .extra; few = le-trans (A .few) h; two = A .two };
 }
+
+-- something was found
+pub searched-found : {m : ℕ} {w ls : List ℕ} {n r : ℕ} {Far Other : Type 0} {c : Correction} → n ≤ r → (b : Bool) → b ≡ isSolved (c .found)
+    → b ≡ true → Searched m w ls n Far c → Searched m w ls r Other c
+searched-found {c = c} h b e f S =
+    let T : Searched _ _ _ _ ⊥ c = searched-last h (λ x. x) (record { none = λ g. solved-not (c .found) (sym e ∙ f) g; one = S .one; several = S .several }) in
+    record { none = λ g. absurd (T .none g); one = T .one; several = T .several }
 
 -- a search with the trial u, which has the place p beside those of t, is one from t with one extra place more
 pub searched-place : (m : ℕ) (w : List ℕ) (t u : Trial) (n : ℕ) (Far : List ℕ → Type 0) (c : Correction) (p : ℕ)
@@ -116,6 +145,15 @@ searched-place m w t u n Far c p E S = record {
 
     moved : (xs : List ℕ) → xs ++ (p ∷ tried t) ≡ (xs ++ (p ∷ [])) ++ tried t
     moved xs = sym (append-assoc xs (p ∷ []) (tried t))
+
+-- nothing is to be found with a place outside the word, nor with one that is tried already
+pub searched-outside : {m : ℕ} {w ls : List ℕ} {n : ℕ} {Far : Type 0} {c : Correction} (p : ℕ) → c .found ≡ None → places m ≤ p
+    → Searched m w ls n (p < places m → member p ls ≡ false → Far) c
+searched-outside p e h = searched-none e (λ l o. absurd (omega arith))
+
+pub searched-listed : {m : ℕ} {w ls : List ℕ} {n : ℕ} {Far : Type 0} {c : Correction} (p : ℕ) → c .found ≡ None
+    → (b : Bool) → b ≡ member p ls → b ≡ true → Searched m w ls n (p < places m → member p ls ≡ false → Far) c
+searched-listed p e b f t = searched-none e (λ l o. absurd (both-ways (sym f ∙ t) o))
 
 -- ---- no more than n extra places
 

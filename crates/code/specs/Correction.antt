@@ -118,6 +118,10 @@ pub record Searched (m : ℕ) (w ls : List ℕ) (n : ℕ) (Far : Type 0) (c : Co
   pub one : c .found ≡ One → Corrects m w ls n c
   pub several : c .found ≡ Several → Ambiguous m w ls n
 
+-- no codeword agrees with w outside the places ls and one more place p
+abbrev pub NoneBeside : ℕ → List ℕ → ℕ → List ℕ → Type 0
+NoneBeside m w p ls = p < places m → member p ls ≡ false → NoneAt m w (p ∷ ls)
+
 -- no codeword agrees with w outside the places ls and at most n extra ones, in rising order, the first of them the place `from` or a later one
 unfoldable pub NoneFrom : ℕ → List ℕ → List ℕ → ℕ → ℕ → Type 0
 NoneFrom m w ls from zero = NoneAt m w ls

@@ -10,10 +10,12 @@ use lib.ListN.{length, replicate}
 use Rattle.field.specs.Field.{order}
 use Rattle.field.specs.Question.{accepted, refused, isWidth}
 use Rattle.field.specs.declared.Verdict.the-variants.{Passed}
+use Rattle.code.specs.declared.Repair.{Repair}
 use Rattle.code.specs.Word.{checks, five, places, items, at, syndrome, Codeword, dataOf}
 use Rattle.code.specs.Erasure.{member, changes}
 use Rattle.code.specs.Near.{distance, Near}
 use Rattle.code.specs.Call.{maxErasures, encodeOf, encodeWritten, testAsked, testOf, readOf, readWritten, restoreAsked, displayOf, displayed, withinAsked, withinOf, withinWritten}
+use Rattle.code.specs.Call.{repair, RestoresWithin}
 
 -- ---- demand 2
 
@@ -145,6 +147,13 @@ SameRestored =
     (m : ℕ) (w w′ es es′ : List ℕ) (reach : ℕ) → length w ≡ length w′ → SameErasures es es′ → AgreeOutside es w w′
     → (withinOf m w es reach ≡ withinOf m w′ es′ reach)
     × ((k : ℕ) → withinOf m w es reach ≡ accepted k → withinWritten m w es reach ≡ withinWritten m w′ es′ reach)
+
+-- two calls that restore the same input at the same reach agree on answer, count and word: the calls that find the wrong places and those
+-- that try them have this one contract
+abbrev pub MethodsAgree : Type 0
+MethodsAgree =
+    (m : ℕ) (w es : List ℕ) (reach : ℕ) (a b : Repair) (u v : List ℕ) → RestoresWithin m w es reach a u → RestoresWithin m w es reach b v
+    → (repair a ≡ repair b) × (u ≡ v)
 
 -- ---- the display of the syndromes
 

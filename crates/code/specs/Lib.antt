@@ -9,3 +9,7 @@ pub mod Cases
 pub mod Place
 pub mod Matrix
 pub mod Correction
+-- and of finding the wrong places from the syndromes
+pub mod Scan
+pub mod Locate
+pub mod Beside

@@ -1,7 +1,7 @@
 -- Places and exponents, and the columns of the code's matrix, whose row k gives syndrome k. This is vocabulary of internal contracts: the
 -- contracts of the public calls rest on Word, Erasure, Near, Call and Demands alone. Assumes nothing.
 use mathlib.Core.Bool.{cond}
-use Prim.Native.Nat.{ℕ, _-_, _*_}
+use Prim.Native.Nat.{ℕ, _+_, _-_, _*_}
 use lib.Dec.{eqb, ltb}
 use Rattle.field.specs.Field.{power, α}
 use Rattle.field.specs.declared.Exponent.{Exponent}
@@ -11,6 +11,10 @@ use Rattle.code.specs.Word.{checks}
 -- the exponent i of place 5 + i: the one conversion between the two
 abbrev pub exponentOf : Place → Exponent
 exponentOf p = record { 0 = p .0 - checks }
+
+-- and back: the place of an exponent
+abbrev pub placeOf : Exponent → Place
+placeOf e = record { 0 = e .0 + checks }
 
 -- k times an exponent
 abbrev pub multipleOf : ℕ → Exponent → Exponent

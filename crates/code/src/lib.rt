@@ -15,7 +15,10 @@ ghost use Rattle.code.specs.Call.{zeroSyndromes, wordAsked, dataAsked, E
 ghost use Rattle.code.specs.Call.{maxErasures, erasuresAsked, restoreAsked, Displays, withinAsked, RestoresWithin, Restores};
 ghost use Rattle.code.specs.Near.{radius};
 ghost use Rattle.code.specs.Demands.{PassesWithin};
+ghost use Rattle.code.specs.Matrix.{unknowns};
+ghost use Rattle.code.specs.Correction.{tried, Ready, Searched, NoneWithin};
 
+mod finder;
 mod place;
 pub mod question;
 mod restorer;
@@ -26,10 +29,13 @@ mod syndrome;
 use field::Question;
 use field::Verdict;
 use field::arithmetic::order_of;
+use finder::find_near;
 use question::all_different;
 use question::all_zero;
 use question::below;
 use question::symbols_below;
+use restorer::Correction;
+use restorer::Trial;
 use restorer::is_clean;
 use restorer::search;
 use restorer::started;
@@ -295,8 +301,32 @@ fn ask_within(width: u8, word: &[u8], erasures: &[u8], reach: u8) -> Verdict
     }
 }
 
+// How a correction is sought: the wrong places are found from the syndromes, or each choice of extra places is tried.
+enum Method {
+    Syndromes,
+    Trials,
+}
+
+// A correction with at most `reach` extra places.
+fn sought(method: Method, width: u8, word: &[u8], t: Trial, reach: u8) -> Correction
+    requires { ⌜
+        (t .count ≤ unknowns) × (reach ≤ radius width (t .count)) × (checks ≤ length (now word)) × (length (now word) ≤ longest)
+        ⌝ }
+    ensures { λ r.
+        ⌜
+        (r .count ≤ unknowns)
+        × (Ready width (now (word .entry)) t
+        → Searched width (now (word .entry)) (tried t) reach (NoneWithin width (now (word .entry)) (tried t) reach) r)
+        ⌝ }
+{
+    match method {
+        Method::Syndromes => find_near(width, word, t, reach as usize),
+        Method::Trials => search(width, word, t, 0, reach as usize),
+    }
+}
+
 // Question 8, and whether there is just one codeword within the reach: then it is written.
-fn correct(width: u8, word: &mut [u8], erasures: &[u8], reach: u8) -> Repair
+fn correct(method: Method, width: u8, word: &mut [u8], erasures: &[u8], reach: u8) -> Repair
     requires { ⌜ PassesWithin width (now word) (now erasures) reach ⌝ }
     ensures { λ r. ⌜ RestoresWithin width (now (word .entry)) (now (erasures .entry)) reach r (now (word .exit)) ⌝ }
 {
@@ -304,7 +334,7 @@ fn correct(width: u8, word: &mut [u8], erasures: &[u8], reach: u8) -> Repair
     if is_clean(t) {
         return Repair::Restored(0);
     }
-    let c = search(width, word, t, 0, reach as usize);
+    let c = sought(method, width, word, t, reach);
     let found = c.found;
     match found {
         Solutions::None => Repair::Refused(Question::Correctable),
@@ -313,14 +343,21 @@ fn correct(width: u8, word: &mut [u8], erasures: &[u8], reach: u8) -> Repair
     }
 }
 
+// All questions, and the word corrected.
+fn restore_with(method: Method, width: u8, word: &mut [u8], erasures: &[u8], reach: u8) -> Repair
+    ensures { λ r. ⌜ RestoresWithin width (now (word .entry)) (now (erasures .entry)) reach r (now (word .exit)) ⌝ }
+{
+    match ask_within(width, word, erasures, reach) {
+        Verdict::Passed => correct(method, width, word, erasures, reach),
+        Verdict::Refused(q) => Repair::Refused(q),
+    }
+}
+
 // Restores a word: the codeword that differs from it, outside the erasures, at no more places than the reach is written in its place.
 pub fn restore_within(width: u8, word: &mut [u8], erasures: &[u8], reach: u8) -> Repair
     ensures { λ r. ⌜ RestoresWithin width (now (word .entry)) (now (erasures .entry)) reach r (now (word .exit)) ⌝ }
 {
-    match ask_within(width, word, erasures, reach) {
-        Verdict::Passed => correct(width, word, erasures, reach),
-        Verdict::Refused(q) => Repair::Refused(q),
-    }
+    restore_with(Method::Syndromes, width, word, erasures, reach)
 }
 
 // Restores a word with the longest reach that its erasures leave.
@@ -328,4 +365,18 @@ pub fn restore(width: u8, word: &mut [u8], erasures: &[u8]) -> Repair
     ensures { λ r. ⌜ Restores width (now (word .entry)) (now (erasures .entry)) r (now (word .exit)) ⌝ }
 {
     restore_within(width, word, erasures, radius_of(width, erasures.len()))
+}
+
+// The same as `restore_within`, by trials.
+pub fn restore_by_trials_within(width: u8, word: &mut [u8], erasures: &[u8], reach: u8) -> Repair
+    ensures { λ r. ⌜ RestoresWithin width (now (word .entry)) (now (erasures .entry)) reach r (now (word .exit)) ⌝ }
+{
+    restore_with(Method::Trials, width, word, erasures, reach)
+}
+
+// The same as `restore`, by trials.
+pub fn restore_by_trials(width: u8, word: &mut [u8], erasures: &[u8]) -> Repair
+    ensures { λ r. ⌜ Restores width (now (word .entry)) (now (erasures .entry)) r (now (word .exit)) ⌝ }
+{
+    restore_by_trials_within(width, word, erasures, radius_of(width, erasures.len()))
 }

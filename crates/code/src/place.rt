@@ -1,9 +1,9 @@
-// A place of a word, and the one conversion from places to exponents of α.
+// A place of a word, and the one conversion between places and exponents of α, each way.
 ghost use mathlib.Core.Path.{_≡_};
-ghost use Prim.Native.Nat.{_*_, _≤_, _<_};
+ghost use Prim.Native.Nat.{_+_, _*_, _≤_, _<_};
 ghost use mathlib.Core.Bool.{true};
 ghost use Rattle.field.specs.Question.{isWidth};
-ghost use Rattle.code.specs.Place.{exponentOf, multipleOf, column as columnM};
+ghost use Rattle.code.specs.Place.{exponentOf, placeOf, multipleOf, column as columnM};
 use field::Exponent;
 use field::arithmetic::raise;
 
@@ -17,6 +17,15 @@ pub fn exponent_of(p: Place) -> Exponent
 {
     let i = p.0;
     Exponent((i - 5) as u16)
+}
+
+// The place 5 + i of the exponent i, the other way. No entry point.
+pub fn place_of(e: Exponent) -> Place
+    requires { ⌜ e .0 + 5 < 256 ⌝ }
+    ensures { λ r. ⌜ r ≡ placeOf e ⌝ }
+{
+    let i = e.0;
+    Place((i + 5) as u8)
 }
 
 // The exponent k times e.

@@ -109,7 +109,7 @@ pub fn attempt(width: u8, t: Trial) -> Correction
 }
 
 // Has a codeword been found, or several?
-fn solved(c: Correction) -> bool
+pub fn solved(c: Correction) -> bool
     ensures { λ r. ⌜ r ≡ isSolved (c .found) ⌝ }
 {
     let found = c.found;
@@ -136,14 +136,14 @@ fn prepended(places: [u8; UNKNOWNS], count: usize, p: Place) -> [u8; UNKNOWNS]
 }
 
 // Row k of the column at place p, times x.
-fn column_times(width: u8, p: Place, k: u8, x: u8) -> u8
+pub fn column_times(width: u8, p: Place, k: u8, x: u8) -> u8
     ensures { λ r. ⌜ (isWidth width ≡ true → x < order width → r ≡ product width (columnM width (p .0) k) x) ⌝ }
 {
     multiply(width, column(width, p, k), x)
 }
 
 // The syndromes without the symbol x at place p.
-fn masked(width: u8, sums: [u8; 5], p: Place, x: u8) -> [u8; 5]
+pub fn masked(width: u8, sums: [u8; 5], p: Place, x: u8) -> [u8; 5]
     ensures { λ r.
         ⌜
         (
@@ -167,7 +167,7 @@ fn masked(width: u8, sums: [u8; 5], p: Place, x: u8) -> [u8; 5]
 }
 
 // The trial with one more place p, where the word holds x.
-fn extended(width: u8, t: Trial, p: Place, x: u8) -> Trial
+pub fn extended(width: u8, t: Trial, p: Place, x: u8) -> Trial
     requires { ⌜ t .count < unknowns ⌝ }
     ensures { λ r.
         ⌜
@@ -186,7 +186,7 @@ fn extended(width: u8, t: Trial, p: Place, x: u8) -> Trial
 }
 
 // Is p one of the first `count` places?
-fn listed(places: [u8; UNKNOWNS], count: usize, p: Place) -> bool
+pub fn listed(places: [u8; UNKNOWNS], count: usize, p: Place) -> bool
     requires { ⌜ count ≤ unknowns ⌝ }
     ensures { λ r. ⌜ r ≡ member (p .0) (take count places) ⌝ }
 {

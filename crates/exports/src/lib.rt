@@ -183,6 +183,29 @@ pub extern "C" fn xrs_restore_word_within(
     pack_repair(code::restore_within(width, word, erasures, reach))
 }
 
+// The same as `xrs_restore_word`, by trials.
+#[no_mangle]
+pub extern "C" fn xrs_restore_word_by_trials(width: u8, word: &mut [u8], erasures: &[u8]) -> u32
+    ensures answer { λ r. ⌜ r ≡ packed (restoreOf width (now (word .entry)) (now (erasures .entry))) ⌝ }
+    ensures written { λ r. ⌜ now (word .exit) ≡ restoreWritten width (now (word .entry)) (now (erasures .entry)) ⌝ }
+{
+    pack_repair(code::restore_by_trials(width, word, erasures))
+}
+
+// The same with a reach.
+#[no_mangle]
+pub extern "C" fn xrs_restore_word_by_trials_within(
+    width: u8,
+    word: &mut [u8],
+    erasures: &[u8],
+    reach: u8,
+) -> u32
+    ensures answer { λ r. ⌜ r ≡ packed (withinOf width (now (word .entry)) (now (erasures .entry)) reach) ⌝ }
+    ensures written { λ r. ⌜ now (word .exit) ≡ withinWritten width (now (word .entry)) (now (erasures .entry)) reach ⌝ }
+{
+    pack_repair(code::restore_by_trials_within(width, word, erasures, reach))
+}
+
 // Writes the near codeword in place of the record's word, and no erasures.
 #[no_mangle]
 pub extern "C" fn xrs_restore_record(bytes: &mut [u8]) -> u32

@@ -1,8 +1,9 @@
-//! Times the restorer beside an independent implementation of the same method; `bench/run` calls it and makes the table.
+//! Times the restorer beside its trying method and an independent implementation of that; `bench/run` calls it and makes the tables.
 //!
 //!     bench words         a line 'NAME WIDTH WRONG MARKS NANOSECONDS' for each kind of word
 //!     bench card FILE     writes a card of 1,000,000 clean records of width 7
-//!     bench convert FILE  a line 'NAME SECONDS 0' for the conversion of that card, in memory, to the old edition and back
+//!     bench worn FILE     writes such a card with two wrong symbols in each record
+//!     bench calls FILE    a line 'NAME SECONDS' for each call on the clean card
 
 #[path = "../../tests/reference/mod.rs"]
 mod reference;
@@ -10,9 +11,11 @@ mod reference;
 mod tools;
 mod trying;
 
-use reference::{items, order, places};
+use reference::search::radius;
+use reference::{items, order, places, WIDTHS};
 use std::io::{BufWriter, Write};
 use std::time::{Duration, Instant};
+use tools::wear::spoiled;
 use tools::Chance;
 
 /// Words of each kind.
@@ -40,50 +43,45 @@ fn restorable(chance: &mut Chance, width: u8, clean: &[u8], count: usize) -> Vec
 }
 
 /// Words of one kind: `wrong` wrong symbols beside `marks` erasures, whose symbols are wrong too. The words stand one behind the other.
+/// With three wrong symbols they are refused.
 struct Words {
     width: u8,
     wrong: usize,
-    codewords: Vec<u8>,
     worn: Vec<u8>,
+    /// What must be there afterwards.
+    after: Vec<u8>,
     marks: Vec<Vec<u8>>,
-    /// Whether the restorer is to refuse each word and leave it as it is.
-    refused: bool,
 }
 
 impl Words {
     fn new(width: u8, wrong: usize, marks: usize) -> Words {
         let mut chance = Chance::new();
-        let mut words = Words { width, wrong, codewords: Vec::new(), worn: Vec::new(), marks: Vec::new(), refused: false };
-        for _ in 0..WORDS {
+        let mut words = Words { width, wrong, worn: Vec::new(), after: Vec::new(), marks: Vec::new() };
+        while words.marks.len() < WORDS {
             let clean = codeword(&mut chance, width);
-            let spoiled = restorable(&mut chance, width, &clean, wrong + marks);
-            let mut worn = clean.clone();
-            for &place in &spoiled {
-                worn[place as usize] ^= 1 + chance.below(order(width) - 1) as u8;
+            let places = restorable(&mut chance, width, &clean, wrong + marks);
+            let worn = spoiled(&mut chance, width, &clean, &places);
+            if wrong > 2 && xrs::restore_word(width, &mut worn.clone(), &[]).is_ok() {
+                continue; // near another codeword
             }
-            words.codewords.extend(clean);
+            words.after.extend(if wrong > 2 { &worn } else { &clean });
             words.worn.extend(worn);
-            words.marks.push(spoiled[wrong..].to_vec());
+            words.marks.push(places[wrong..].to_vec());
         }
         words
     }
 
-    /// The words as a restorer meets them that looks no further than `reach`.
-    fn within(self, reach: u8) -> Words {
-        Words { refused: self.wrong > reach as usize, ..self }
-    }
-
-    /// Restores fresh copies of the words, made before the clock starts. Fails where a word is not restored, or not refused, as it should be.
+    /// Restores fresh copies of the words, made before the clock starts. Fails where an answer is not the one that must come.
     fn round(&self, name: &str, restore: &impl Fn(&mut [u8], &[u8]) -> Option<u8>) -> Duration {
+        let wanted = (self.wrong <= 2).then_some(self.wrong as u8);
         let mut copies = self.worn.clone();
         let mut right = 0;
-        let (answer, left) = if self.refused { (None, &self.worn) } else { (Some(self.wrong as u8), &self.codewords) };
         let start = Instant::now();
         for (word, marks) in copies.chunks_mut(places(self.width)).zip(&self.marks) {
-            right += (restore(word, marks) == answer) as usize;
+            right += (restore(word, marks) == wanted) as usize;
         }
         let spent = start.elapsed();
-        assert!(right == WORDS && copies == *left, "{name} does not treat every word as it should");
+        assert!(right == WORDS && copies == self.after, "{name} does not treat every word right");
         spent
     }
 
@@ -103,52 +101,59 @@ impl Words {
 
 fn time_words() {
     let decoder = trying::Decoder::new();
-    for width in [3, 5, 7] {
-        for wrong in 0..=2 {
+    for width in WIDTHS {
+        for wrong in 0..=radius(width, 0) {
             Words::new(width, wrong, 0).time("ours", |word, marks| xrs::restore_word(width, word, marks).ok());
         }
     }
     for marks in 1..=5 {
         Words::new(7, 0, marks).time("ours", |word, marks| xrs::restore_word(7, word, marks).ok());
     }
-    for (wrong, reach) in (0..=2).flat_map(|wrong| (0..=2).map(move |reach| (wrong, reach))) {
-        let words = Words::new(7, wrong, 0).within(reach);
-        words.time(&format!("reach{reach}"), |word, marks| xrs::restore_word_within(7, word, marks, reach).ok());
+    for wrong in 0..=2 {
+        Words::new(7, wrong, 0).time("trials", |word, marks| xrs::restore_word_by_trials(7, word, marks).ok());
     }
-    for (wrong, marks) in [(0, 0), (1, 0), (2, 0), (0, 1), (0, 2), (0, 3), (0, 4)] {
+    let refused = Words::new(7, 3, 0);
+    refused.time("ours", |word, marks| xrs::restore_word(7, word, marks).ok());
+    for reach in 0..=2 {
+        refused.time(&format!("reach_{reach}"), |word, marks| xrs::restore_word_within(7, word, marks, reach).ok());
+    }
+    for (wrong, marks) in [(0, 0), (1, 0), (2, 0), (3, 0), (0, 1), (0, 2), (0, 3), (0, 4)] {
         let words = Words::new(7, wrong, marks);
         words.time("independent", |word, marks| decoder.restore(word.try_into().expect("132 symbols"), marks));
     }
 }
 
-fn write_card(path: &str) -> std::io::Result<()> {
+/// A card with so many wrong symbols in each record.
+fn write_card(path: &str, wrong: usize) -> std::io::Result<()> {
     let mut chance = Chance::new();
     let mut card = BufWriter::new(std::fs::File::create(path)?);
     for _ in 0..RECORDS {
+        let clean = codeword(&mut chance, 7);
+        let places = chance.places(wrong, places(7));
         card.write_all(&[7, 0, 255, 255, 255, 255, 255])?;
-        card.write_all(&codeword(&mut chance, 7))?;
+        card.write_all(&spoiled(&mut chance, 7, &clean, &places))?;
     }
     card.flush()
 }
 
-/// The least seconds of five runs.
-fn seconds(run: &mut impl FnMut()) -> f64 {
-    let times = (0..5).map(|_| {
+/// Prints the seconds of the best of three calls.
+fn time_call(name: &str, mut call: impl FnMut()) {
+    let spent = (0..3).map(|_| {
         let start = Instant::now();
-        run();
-        start.elapsed().as_secs_f64()
+        call();
+        start.elapsed()
     });
-    times.fold(f64::INFINITY, f64::min)
+    println!("{name} {:.6}", spent.min().expect("three calls").as_secs_f64());
 }
 
-/// Prints what converting the card both ways takes. Fails where it does not come back as it was.
-fn convert_card(path: &str) -> std::io::Result<()> {
+/// Calls on a card that is read into memory before the clock starts.
+fn time_calls(path: &str) -> std::io::Result<()> {
     let card = std::fs::read(path)?;
     let mut old = vec![0; card.len() / xrs::RECORD_SIZE * xrs::OLD_RECORD_SIZE];
-    let mut back = vec![0; card.len()];
-    println!("to_old {:.4} 0", seconds(&mut || xrs::card_to_old(&card, &mut old).expect("a new card")));
-    println!("to_new {:.4} 0", seconds(&mut || xrs::card_to_new(&old, &mut back).expect("an old card")));
-    assert!(back == card, "the card does not come back as it was");
+    let mut new = vec![0; card.len()];
+    time_call("card_to_old", || xrs::card_to_old(&card, &mut old).expect("no record has five marks"));
+    time_call("card_to_new", || xrs::card_to_new(&old, &mut new).expect("a card of the old edition"));
+    assert!(new == card, "there and back is another card");
     Ok(())
 }
 
@@ -156,8 +161,9 @@ fn main() {
     let arguments: Vec<String> = std::env::args().skip(1).collect();
     match arguments.iter().map(String::as_str).collect::<Vec<_>>()[..] {
         ["words"] => time_words(),
-        ["card", path] => write_card(path).expect("the card cannot be written"),
-        ["convert", path] => convert_card(path).expect("the card cannot be read"),
-        _ => panic!("usage: bench words | bench card FILE | bench convert FILE"),
+        ["card", path] => write_card(path, 0).expect("the card cannot be written"),
+        ["worn", path] => write_card(path, 2).expect("the card cannot be written"),
+        ["calls", path] => time_calls(path).expect("the card cannot be read"),
+        _ => panic!("usage: bench words | bench card FILE | bench worn FILE | bench calls FILE"),
     }
 }

@@ -1,4 +1,4 @@
-//! An independent implementation of the method that the library uses: erasures are unknowns, then at most r extra places are taken as
+//! An independent implementation of the library's trying method: erasures are unknowns, then at most r extra places are taken as
 //! unknowns too, and each choice is one linear system, solved from nothing. It shares no code or table with the library, and only width 7
 //! is served.
 

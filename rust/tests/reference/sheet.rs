@@ -10,8 +10,8 @@ pub const SIZE: usize = 100;
 /// The days of 2000 to 2127: 32 years divisible by 4, and 2100 is no leap year.
 pub const DAYS: usize = 128 * 365 + 31;
 
-/// Year less 2000, month and day of a day counted from 1 January 2000, in the Gregorian calendar. Years are taken to begin in March, so that
-/// a leap day is the last of its year; the months from there on have 153 days in each five.
+/// Year less 2000, month and day of a day counted from 1 January 2000, in the Gregorian calendar. Years are taken to begin in March, so
+/// that a leap day is the last of its year; the months from there on have 153 days in each five.
 fn date(day: usize) -> [u8; 3] {
     let from_march = day + 306; // from 1 March 1999 on
     let mut year = 1999;

@@ -83,6 +83,16 @@ pub fn restore_word_within(width: u8, word: &[u8], marks: &[u8], reach: u8) -> R
     lend(marks, word, |marks, word| xrs::restore_word_within(width, word, marks, reach))
 }
 
+/// `xrs::restore_word_by_trials` on copies of the slices: its answer, and the word afterwards.
+pub fn restore_word_by_trials(width: u8, word: &[u8], marks: &[u8]) -> Restored {
+    lend(marks, word, |marks, word| xrs::restore_word_by_trials(width, word, marks))
+}
+
+/// `xrs::restore_word_by_trials_within` on copies of the slices: its answer, and the word afterwards.
+pub fn restore_word_by_trials_within(width: u8, word: &[u8], marks: &[u8], reach: u8) -> Restored {
+    lend(marks, word, |marks, word| xrs::restore_word_by_trials_within(width, word, marks, reach))
+}
+
 /// `xrs::restore_record` on a copy of the record: its answer, and the record afterwards.
 pub fn restore_record(record: &[u8]) -> Restored {
     lend(&[], record, |_, record| xrs::restore_record(record))
@@ -128,6 +138,22 @@ pub fn wanted<T>(answer: Result<(T, Vec<u8>), u8>, before: &[u8]) -> (Result<T, 
     match refusal(answer) {
         Ok((value, after)) => (Ok(value), after),
         Err(refused) => (Err(refused), before.to_vec()),
+    }
+}
+
+/// How often each answer was given: by its number where it is a refusal, else at 0.
+#[derive(Debug, Default)]
+pub struct Tally([usize; 22]);
+
+impl Tally {
+    pub fn add<T>(&mut self, answer: &Result<T, Refusal>) {
+        self.0[answer.as_ref().map_or_else(|refusal| refusal.number() as usize, |_| 0)] += 1;
+    }
+
+    /// Fails unless each of these was given more than `least` times.
+    pub fn given(&self, numbers: &[usize], least: usize) {
+        let rare = numbers.iter().find(|&&number| self.0[number] <= least);
+        assert!(rare.is_none(), "{rare:?} was not given more than {least} times: {self:?}");
     }
 }
 

@@ -10,9 +10,8 @@ use Rattle.field.specs.Question.{allBelow}
 use Rattle.code.specs.declared.solver.Solutions.the-variants.{None, One, Several}
 use Rattle.code.specs.Near.{radius}
 use Rattle.code.specs.Demands.{Passes}
-use Rattle.code.specs.Correction.{tried, Ready, Workable, NoneFrom, Searched}
+use Rattle.code.specs.Correction.{tried, Ready, Workable, NoneWithin, Searched}
 use Rattle.code.proofs.Passing.{given, within-passes}
-use Rattle.code.proofs.Trying.{none-within}
 use Rattle.code.proofs.Repairing.{workable, restores-clean, restores-found, restores-none, restores-several}
 use Rattle.code.proofs.correct.Statement.{statement}
 use Rattle.code.proofs.correct.Tie as tie
@@ -35,18 +34,18 @@ ready s =
     let g = given (a .width) (a .word .now) (a .erasures .now) (passes (start s) .0) in
     s .started .ensures .2 (g .width) (g .lent)
 
-abbrev began : tie.After-search → tie.After-started
+abbrev began : tie.After-sought → tie.After-started
 began s = s .before .before .before .before
 
 -- what the search has found
-found : (s : tie.After-search)
+found : (s : tie.After-sought)
     → let a = start (began s) .args in
-    Searched (a .width) (a .word .now) (a .erasures .now) (a .reach) (NoneFrom (a .width) (a .word .now) (a .erasures .now) 0 (a .reach))
-    (s .search .result)
+    Searched (a .width) (a .word .now) (a .erasures .now) (a .reach) (NoneWithin (a .width) (a .word .now) (a .erasures .now) (a .reach))
+    (s .sought .result)
 found s =
     let a = start (began s) .args in
-    subst (λ (ls : List ℕ). Searched (a .width) (a .word .now) ls (a .reach) (NoneFrom (a .width) (a .word .now) ls 0 (a .reach)) (s .search .result))
-    (began s .started .ensures .1) (s .search .ensures .1 (ready (began s)))
+    subst (λ (ls : List ℕ). Searched (a .width) (a .word .now) ls (a .reach) (NoneWithin (a .width) (a .word .now) ls (a .reach)) (s .sought .result))
+    (began s .started .ensures .1) (s .sought .ensures .1 (ready (began s)))
 
 started-requires : tie.Need-started-requires
 started-requires c κs = work (c .before .before .before)
@@ -65,10 +64,12 @@ returns c =
     let z = c .before .is-clean .ensures (c .if1 .taken) in
     restores-clean (a .width) (a .word .now) (a .erasures .now) (a .reach) (start s .pre) (s .started .result) (e .1) (ready s) (sym (e .0) ∙ z .0) (z .1) _ refl
 
-search-requires : tie.Need-search-requires
-search-requires c κs =
+sought-requires : tie.Need-sought-requires
+sought-requires c κs =
     let s = c .before .before .before in
-    (omega (arith, work (start s) .few, s .started .ensures .0, passes (start s) .1), omega (arith, work (start s) .short))
+    let w = work (start s) in
+    let e = s .started .ensures .0 in
+    (omega (arith, w .few, e), omega (arith, e, passes (start s) .1), w .long, w .short)
 
 enum-told : tie.Need-enum-told
 enum-told c = search needs
@@ -79,7 +80,7 @@ enum-told-2 c = search needs
 write-requires : tie.Need-write-requires
 write-requires c κs =
     let s = c .before .before .before in
-    let x = s .search in
+    let x = s .sought in
     let e : x .result .found ≡ One = search needs in (
       x .ensures .0,
       work (start (began s)) .short,
@@ -98,10 +99,9 @@ returns-2 c =
     let s = c .before .before in
     let t = start (began s) in
     let a = t .args in
-    let e : s .search .result .found ≡ None = search needs in
+    let e : s .sought .result .found ≡ None = search needs in
     restores-none (a .width) (a .word .now) (a .erasures .now) (a .reach) (t .pre)
-    (none-within (a .width) (a .word .now) (a .erasures .now) (given (a .width) (a .word .now) (a .erasures .now) (passes t .0) .lent) _ (found s .none e))
-    _ refl
+    (found s .none e) _ refl
 
 same-length-3 : tie.Need-same-length-3
 same-length-3 c = search needs
@@ -112,8 +112,8 @@ returns-3 c =
     let s = c .before .before .before .before .before .before in
     let t = start (began s) in
     let a = t .args in
-    let e : s .search .result .found ≡ One = search needs in
-    restores-found (a .width) (a .word .now) (a .erasures .now) (a .reach) (t .pre) (s .search .result) (w .result) _ (found s .one e)
+    let e : s .sought .result .found ≡ One = search needs in
+    restores-found (a .width) (a .word .now) (a .erasures .now) (a .reach) (t .pre) (s .sought .result) (w .result) _ (found s .one e)
     (w .ensures .0) (w .ensures .1)
 
 same-length-4 : tie.Need-same-length-4
@@ -124,7 +124,7 @@ returns-4 c =
     let s = c .before .before in
     let t = start (began s) in
     let a = t .args in
-    let e : s .search .result .found ≡ Several = search needs in
+    let e : s .sought .result .found ≡ Several = search needs in
     restores-several (a .width) (a .word .now) (a .erasures .now) (a .reach) (t .pre) (found s .several e) _ refl
 
 pub correct-spec : {M : Type 1} → statement M
@@ -135,7 +135,7 @@ correct-spec =
     is-clean-requires
     same-length
     returns
-    search-requires
+    sought-requires
     enum-told
     enum-told-2
     write-requires

@@ -1,0 +1,22 @@
+-- The search for the roots of a quadratic among the powers of α, by shifts alone. This is vocabulary of internal contracts. Assumes nothing.
+use mathlib.Core.Path.{_≡_}
+use mathlib.Core.Logic.{_≢_}
+use Prim.Native.Nat.{ℕ, _*_, _≤_, _<_}
+use Rattle.field.specs.Polynomial.{add}
+use Rattle.field.specs.Field.{product, power, α}
+use Rattle.code.specs.declared.finder.Scan.{Scan}
+
+-- a·x² + b·x + c at x = α^i
+abbrev pub valueAt : ℕ → ℕ → ℕ → ℕ → ℕ → ℕ
+valueAt m a b c i = add (add (product m (power m α (2 * i)) a) (product m (power m α i) b)) c
+
+-- the two terms that the search carries are those at the exponent i
+pub record Carried (m a b i d e : ℕ) : Type 0 where
+  pub square : d ≡ product m (power m α (2 * i)) a
+  pub linear : e ≡ product m (power m α i) b
+
+-- the search r stands at the first root from `from` on, or at n if there is none below n
+pub record Scanned (m a b c from n : ℕ) (r : Scan) : Type 0 where
+  pub carried : Carried m a b (r .at .0) (r .square) (r .linear)
+  pub before : (t : ℕ) → from ≤ t → t < r .at .0 → valueAt m a b c t ≢ 0
+  pub root : r .at .0 < n → valueAt m a b c (r .at .0) ≡ 0
