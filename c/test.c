@@ -24,7 +24,7 @@ static void answers(const char *name, uint32_t answer, uint32_t refusal, uint32_
 }
 
 /* As many bytes, all RIM_BYTE, stand before and after each lent slice. */
-enum { RIM = 16, RIM_BYTE = 0xA7, ROOM = 512 };
+enum { RIM = 16, RIM_BYTE = 0xA7, ROOM = 4096 };
 
 typedef struct {
     uint8_t bytes[RIM + ROOM + RIM];
@@ -494,6 +494,67 @@ static void conversions(void) {
     check("refused conversions write nothing", holds(&out, zeros));
 }
 
+/* The number of a record is asked first, then the row, then the record. */
+static void look_at(const uint8_t *card, size_t length) {
+    uint8_t zeros[XRS_ROW_SIZE + 1] = {0}, old[XRS_ROW_SIZE + 1];
+    lent row;
+    uint8_t *symbols;
+    memset(old, 255, sizeof old);
+    symbols = lend(&row, old, XRS_ROW_SIZE);
+    answers("look at record 0", xrs_look(card, length, 0, symbols, 0), XRS_REFUSED_RECORD_NUMBER, 0);
+    answers("look at a record behind the card", xrs_look(card, length, 21, symbols, 132), XRS_REFUSED_RECORD_NUMBER, 0);
+    answers("look at record 2^64 - 1", xrs_look(card, length, UINT64_MAX, symbols, 132), XRS_REFUSED_RECORD_NUMBER, 0);
+    answers("look with a short row", xrs_look(card, length, 1, symbols, 131), XRS_REFUSED_LENGTH, 0);
+    answers("look with a long row", xrs_look(card, length, 3, symbols, 133), XRS_REFUSED_LENGTH, 0);
+    answers("look at a short last piece", xrs_look(card, length, 20, symbols, 132), XRS_REFUSED_LENGTH, 0);
+    answers("look at a blank slot", xrs_look(card, length, 2, symbols, 132), XRS_REFUSED_WIDTH, 0);
+    answers("look at a record with three wrong symbols", xrs_look(card, length, 3, symbols, 132), XRS_REFUSED_CORRECTABLE, 0);
+    check("refused looks write nothing", holds(&row, old));
+    answers("look at a record", xrs_look(card, length, 1, symbols, 132), XRS_ACCEPTED, 0);
+    check("its symbols as restored", holds(&row, zeros));
+}
+
+/* A walk over 19 slots, the second blank and the third too worn, and a short last piece; looks before, between and behind the steps. */
+static void walks(void) {
+    enum { LENGTH = 19 * XRS_RECORD_SIZE + 50 };
+    static const uint8_t mark[1] = {0}, wrong[12] = {200, 0, 0, 0, 0, 5}, far[12] = {1, 1, 1};
+    static uint8_t card[LENGTH], half[LENGTH], whole[LENGTH];
+    lent slice;
+    uint8_t *bytes;
+    uint64_t next = 0;
+    size_t i;
+    for (i = 0; i < 19; i++) {
+        make_record(card + i * XRS_RECORD_SIZE, wrong, mark, 1);
+        make_record(whole + i * XRS_RECORD_SIZE, words[0], mark, 0);
+    }
+    memset(card + XRS_RECORD_SIZE, 255, XRS_RECORD_SIZE);
+    make_record(card + 2 * XRS_RECORD_SIZE, far, mark, 0);
+    memcpy(whole + XRS_RECORD_SIZE, card + XRS_RECORD_SIZE, 2 * XRS_RECORD_SIZE);
+    memcpy(half, card, LENGTH);
+    memcpy(half, whole, 16 * XRS_RECORD_SIZE);
+    bytes = lend(&slice, card, LENGTH);
+    answers("a step from record 0", xrs_walk_step(LENGTH, &next, bytes, LENGTH), XRS_REFUSED_RECORD_NUMBER, 0);
+    check("it leaves the next record", next == 0);
+    answers("a step over another card", xrs_walk_step(LENGTH + 1, &next, bytes, LENGTH), XRS_REFUSED_LENGTH, 0);
+    next = 22;
+    answers("a step from behind the end", xrs_walk_step(LENGTH, &next, bytes, LENGTH), XRS_REFUSED_RECORD_NUMBER, 0);
+    check("refused steps change nothing", next == 22 && holds(&slice, card));
+    look_at(bytes, LENGTH);
+    next = 1;
+    answers("the first step", xrs_walk_step(LENGTH, &next, bytes, LENGTH), XRS_ACCEPTED, 0);
+    check("it treats 16 records", next == 17 && holds(&slice, half));
+    look_at(bytes, LENGTH);
+    answers("the last step", xrs_walk_step(LENGTH, &next, bytes, LENGTH), XRS_ACCEPTED, 0);
+    check("it treats the other records", next == 21 && holds(&slice, whole));
+    look_at(bytes, LENGTH);
+    answers("a step after the end", xrs_walk_step(LENGTH, &next, bytes, LENGTH), XRS_ACCEPTED, 0);
+    answers("a step over a shorter card after the end", xrs_walk_step(LENGTH, &next, bytes, LENGTH - 1), XRS_REFUSED_LENGTH, 0);
+    check("steps after the end change nothing", next == 21 && holds(&slice, whole));
+    next = 1;
+    answers("a step over an empty card", xrs_walk_step(0, &next, bytes, 0), XRS_ACCEPTED, 0);
+    check("its next record stays", next == 1);
+}
+
 /* 29 February 2024, pump 5, and counts from 0 to 127 in the quarter hours. */
 static void make_symbols(uint8_t *symbols) {
     size_t i;
@@ -563,6 +624,7 @@ int main(void) {
     records();
     cards();
     conversions();
+    walks();
     sheets();
     printf("%u passed, %u failed\n", passed, failed);
     return failed != 0;

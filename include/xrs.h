@@ -6,14 +6,16 @@
  *
  * Answers: every call but xrs_check_card has a refusal in the lowest byte of what it returns. The refusal is 0 where the call was accepted;
  * otherwise it is that of the first question answered no, and the bytes above are 0. The questions are put in the order 1, 2, 3, 8, 15, 4,
- * 5, 6, 16, 7, 14, 9, 10, 11, 12, 13 of their refusals, each for all its items before the next; of a record or a card 2 comes before 1.
+ * 5, 6, 16, 7, 14, 9, 10, 11, 12, 13 of their refusals, each for all its items before the next; of a record or a card 2 comes before 1,
+ * and 17 before all, but in xrs_walk_step behind 2.
  * XRS_REFUSAL gives the refusal. In an answer of 32 bits the rest is one value, which XRS_VALUE gives; in an answer of 64 bits each byte is
  * a value of its own, which XRS_BYTE gives.
  *
  * Memory: a slice is passed as a pointer and its length in bytes. The pointer must not be NULL, also where the length is 0, and must be
  * valid for that many bytes: to read where it is const, else to read and write. Slices passed to one call must not overlap. Any length and
- * any content are allowed: a wrong one is refused. A call touches no byte outside its slices, and a refused call changes none inside. What
- * an output (data or a word that is encoded or read, a converted card, a sheet) holds beforehand does not matter.
+ * any content are allowed: a wrong one is refused. A single number that a call changes is passed as a pointer to it. A call touches no byte
+ * outside its slices and numbers, and a refused call changes none inside. What an output (data or a word that is encoded or read, a
+ * converted card, a row, a sheet) holds beforehand does not matter.
  *
  * The calls keep no state, so any number of threads may call them at once on memory of their own.
  *
@@ -47,7 +49,8 @@ enum xrs_refusal {
     XRS_REFUSED_UNUSED = 13,          /* a day sheet's symbols c_100 to c_126 are not zero */
     XRS_REFUSED_UNIQUE = 14,          /* several codewords agree with the word outside five erasures */
     XRS_REFUSED_FOUR_ERASURES = 15,   /* a record has five erasures, and one of the old edition has room for four */
-    XRS_REFUSED_REACH = 16            /* the reach is longer than the one that holds without a reach */
+    XRS_REFUSED_REACH = 16,           /* the reach is longer than the one that holds without a reach */
+    XRS_REFUSED_RECORD_NUMBER = 17    /* the card has no record with this number */
 };
 
 /* The refusal of an answer, of 32 or of 64 bits. */
@@ -151,6 +154,27 @@ uint32_t xrs_card_to_new(const uint8_t *card, size_t card_length, uint8_t *out, 
 
 /* The other way, with the same questions and, after them, 15. */
 uint32_t xrs_card_to_old(const uint8_t *card, size_t card_length, uint8_t *out, size_t out_length);
+
+/* ---- A walk restores a card by steps, so that one may look at a record meanwhile. */
+
+/*
+ * Restores up to 16 records of the card, from record *next on in their order, fewer only at the card's end; *next is then the record behind
+ * them, and at the end one more than the card has. Records are counted from 1; blank slots, records that are refused and a short last piece
+ * count, and stay as they are. After the end a step changes nothing. A walk begins with the card's length and *next = 1, and a card of N
+ * records is done after N / 16 steps, rounded up. The value is 0. Refused with 2 where the card has not the length that the walk began
+ * with, then with 17 where *next is not 1 to one more than the card has.
+ */
+uint32_t xrs_walk_step(uint64_t length, uint64_t *next, uint8_t *card, size_t card_length);
+
+/* The symbols that a look gives: those of a word of width 7; behind a shorter word stand zeros. */
+#define XRS_ROW_SIZE 132
+
+/*
+ * Writes the symbols of a record, counted from 1, into the row (XRS_ROW_SIZE bytes): those that xrs_restore_record would give it. The card
+ * stays as it is. During a walk it makes no difference whether the record was restored already. The value is 0. Refused with 17, with 2
+ * for the row, and like xrs_restore_record; a short last piece with 2, a blank slot with 1.
+ */
+uint32_t xrs_look(const uint8_t *card, size_t card_length, uint64_t number, uint8_t *row, size_t row_length);
 
 /* ---- Day sheets: codewords of width 7 whose data symbols are a day's compressor starts, its date and its pump, and then zeros. */
 

@@ -39,6 +39,8 @@ pub enum Refusal {
     FourErasures,
     /// The reach is longer than the one that holds without a reach.
     Reach,
+    /// The card has no record with this number.
+    RecordNumber,
     /// A refusal number that stands at none of the others. The archive that this crate was written for gives none.
     Unknown(u8),
 }
@@ -63,6 +65,7 @@ impl Refusal {
             Refusal::Unique => 14,
             Refusal::FourErasures => 15,
             Refusal::Reach => 16,
+            Refusal::RecordNumber => 17,
             Refusal::Unknown(number) => number,
         }
     }
@@ -77,7 +80,7 @@ impl Refusal {
     pub fn from_number(number: u8) -> Option<Refusal> {
         use Refusal::*;
         let base = [Width, Length, ErasureCount, ErasurePlace, ErasureDistinct, Symbol, Correctable, Padding, Syndrome, Nonzero];
-        let mut known = base.into_iter().chain([SheetWidth, Date, Unused, Unique, FourErasures, Reach]);
+        let mut known = base.into_iter().chain([SheetWidth, Date, Unused, Unique, FourErasures, Reach, RecordNumber]);
         let found = known.find(|refusal| refusal.number() == number);
         found.or((number != 0).then_some(Unknown(number)))
     }
@@ -109,6 +112,7 @@ impl std::fmt::Display for Refusal {
             Refusal::Unique => "several codewords agree with the word outside the erasures",
             Refusal::FourErasures => "a record has five erasures, and one of the old edition has room for four",
             Refusal::Reach => "the reach is longer than the one that holds without a reach",
+            Refusal::RecordNumber => "the card has no record with this number",
             Refusal::Unknown(number) => return write!(out, "refused with the number {number}, which is not known here"),
         })
     }
@@ -149,6 +153,8 @@ mod raw {
         pub fn xrs_check_card(card: *const u8, card_length: usize) -> u64;
         pub fn xrs_card_to_new(card: *const u8, card_length: usize, out: *mut u8, out_length: usize) -> u32;
         pub fn xrs_card_to_old(card: *const u8, card_length: usize, out: *mut u8, out_length: usize) -> u32;
+        pub fn xrs_walk_step(length: u64, next: *mut u64, card: *mut u8, card_length: usize) -> u32;
+        pub fn xrs_look(card: *const u8, card_length: usize, number: u64, row: *mut u8, row_length: usize) -> u32;
         pub fn xrs_write_sheet(width: u8, symbols: *const u8, symbols_length: usize, word: *mut u8, word_length: usize) -> u32;
         pub fn xrs_read_sheet(width: u8, word: *const u8, word_length: usize, symbols: *mut u8, symbols_length: usize) -> u32;
     }
@@ -454,6 +460,78 @@ pub fn card_to_new(card: &[u8], out: &mut [u8]) -> Result<(), Refusal> {
 /// ```
 pub fn card_to_old(card: &[u8], out: &mut [u8]) -> Result<(), Refusal> {
     unpack(unsafe { raw::xrs_card_to_old(card.as_ptr(), card.len(), out.as_mut_ptr(), out.len()) }).map(|_| ())
+}
+
+/// A walk restores a card by steps of up to 16 records, so that one may look at a record meanwhile. This is how far it has come. A card of
+/// N records, blank slots and a short last piece included, is done after N / 16 steps, rounded up, and then each record is as if it had
+/// been restored alone.
+///
+/// ```
+/// let mut card = vec![0; 20 * xrs::RECORD_SIZE];
+/// for record in card.chunks_mut(xrs::RECORD_SIZE) {
+///     record[..7].copy_from_slice(&[3, 0, 255, 255, 255, 255, 255]);
+///     record[7 + 11] = 5; // a wrong symbol
+/// }
+/// let mut walk = xrs::Walk::begin(&card);
+/// assert_eq!(walk.step(&mut card), Ok(()));
+/// assert_eq!(walk.next, 17);
+///
+/// let mut row = [255; xrs::ROW_SIZE];
+/// assert_eq!(xrs::look(&card, 20, &mut row), Ok(())); // not restored yet, but read as if it were
+/// assert_eq!(row, [0; xrs::ROW_SIZE]);
+///
+/// while !walk.is_done() {
+///     walk.step(&mut card).unwrap();
+/// }
+/// assert_eq!(walk.next, 21);
+/// assert_eq!(card[19 * xrs::RECORD_SIZE + 7..], [0; 132]);
+/// assert_eq!(walk.step(&mut card[1..]), Err(xrs::Refusal::Length)); // another card
+/// ```
+#[derive(Clone, Copy, Debug, PartialEq, Eq)]
+pub struct Walk {
+    /// The length of the card that the walk began with.
+    pub length: u64,
+    /// The number of the next record, counted from 1; at the end, one more than the card has.
+    pub next: u64,
+}
+
+impl Walk {
+    /// A walk over this card, before its first step.
+    pub fn begin(card: &[u8]) -> Walk {
+        Walk { length: card.len() as u64, next: 1 }
+    }
+
+    /// Is there no further record?
+    pub fn is_done(&self) -> bool {
+        self.next > self.length.div_ceil(RECORD_SIZE as u64)
+    }
+
+    /// Restores the next 16 records of the card in their order, fewer only at its end. Records that are refused and blank slots count, and
+    /// stay as they are. After the end a step changes nothing. Refused where the card has not the length that the walk began with, and
+    /// where the next record is not 1 to one more than the card has; the walk then stays as it is.
+    pub fn step(&mut self, card: &mut [u8]) -> Result<(), Refusal> {
+        unpack(unsafe { raw::xrs_walk_step(self.length, &mut self.next, card.as_mut_ptr(), card.len()) }).map(|_| ())
+    }
+}
+
+/// The symbols that `look` gives: those of a word of width 7; behind a shorter word stand zeros.
+pub const ROW_SIZE: usize = 132;
+
+/// Writes the symbols of the record with this number, counted from 1, into `row`: those that `restore_record` would give it. The card stays
+/// as it is. During a walk over the card it makes no difference whether the record was restored already.
+///
+/// ```
+/// let mut card = [0; xrs::RECORD_SIZE];
+/// card[..7].copy_from_slice(&[3, 1, 0, 255, 255, 255, 255]);
+/// card[7] = 200; // at the mark
+/// let mut row = [255; xrs::ROW_SIZE];
+/// assert_eq!(xrs::look(&card, 1, &mut row), Ok(()));
+/// assert_eq!(row, [0; xrs::ROW_SIZE]);
+/// assert_eq!(xrs::look(&card, 2, &mut row), Err(xrs::Refusal::RecordNumber));
+/// assert_eq!(xrs::look(&[255; xrs::RECORD_SIZE], 1, &mut row), Err(xrs::Refusal::Width)); // a blank slot
+/// ```
+pub fn look(card: &[u8], number: u64, row: &mut [u8]) -> Result<(), Refusal> {
+    unpack(unsafe { raw::xrs_look(card.as_ptr(), card.len(), number, row.as_mut_ptr(), row.len()) }).map(|_| ())
 }
 
 /// The symbols of a day sheet, c_0 to c_99: the compressor starts in each quarter hour, then year, month, day and pump.

@@ -4,12 +4,11 @@ mod reference;
 mod tools;
 
 use reference::card::{is_blank, judge, list, record, Listing, LISTED, RECORD};
-use reference::WIDTHS;
 use std::fs::{self, File};
 use std::io::Write;
 use std::process::{Command, Output, Stdio};
 use std::thread;
-use tools::wear::{codeword, worn};
+use tools::wear::{codeword, worn, worn_card};
 use tools::Chance;
 
 const PROGRAM: &str = concat!(env!("CARGO_MANIFEST_DIR"), "/../target/bin/cardlist");
@@ -35,14 +34,6 @@ fn listed(make: impl FnOnce(&mut dyn Write) + Send) -> String {
         program.wait_with_output().expect("cardlist ends")
     });
     text_of(output)
-}
-
-/// A worn record of any width, or now and then a blank slot.
-fn slot(chance: &mut Chance) -> Vec<u8> {
-    match chance.below(8) {
-        0 => vec![255; RECORD],
-        n => worn(chance, WIDTHS[n % WIDTHS.len()]),
-    }
 }
 
 /// The listing of these bytes.
@@ -133,9 +124,8 @@ fn blank_bytes_at_the_end() {
 fn random_cards() {
     let mut chance = Chance::new();
     for round in 0..12 {
-        let records = 1 + chance.below(900);
-        let mut card: Vec<u8> = (0..records).flat_map(|_| slot(&mut chance)).collect();
-        card.truncate(card.len() - chance.below(RECORD));
+        let (slots, further) = (chance.below(900), chance.below(RECORD));
+        let card = worn_card(&mut chance, slots, further);
         assert_eq!(listed_bytes(&card), list(&card), "round {round}");
     }
 }

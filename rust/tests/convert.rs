@@ -6,7 +6,7 @@ mod tools;
 use reference::card::{self, record_of, restore_of, size, MARKS, OLD_MARKS, OLD_RECORD, RECORD};
 use reference::search::most_marks;
 use reference::{order, places, WIDTHS};
-use tools::wear::{codeword, worn_of};
+use tools::wear::{codeword, slot_of, worn_of};
 use tools::{card_to_new, card_to_old, refusal, restore_record, Chance, Tally};
 use xrs::Refusal::{self, ErasureCount, FourErasures, Length, Padding, Width};
 
@@ -50,11 +50,7 @@ impl Way {
 
     /// A card of worn records and blank slots.
     fn worn_card(self, chance: &mut Chance, slots: usize) -> Vec<u8> {
-        let mut slot = || match chance.below(5) {
-            0 => vec![255; size(self.from)],
-            n => worn_of(chance, self.from, WIDTHS[n % WIDTHS.len()]),
-        };
-        (0..slots).flat_map(|_| slot()).collect()
+        (0..slots).flat_map(|_| slot_of(chance, self.from)).collect()
     }
 }
 

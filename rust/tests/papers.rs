@@ -2,7 +2,7 @@
 
 mod reference;
 
-use reference::{card, masked, search};
+use reference::{card, masked, search, walk};
 
 /// The zero word of width 3 with other symbols at some places.
 fn zeros_but(symbols: &[(usize, u8)]) -> Vec<u8> {
@@ -144,4 +144,26 @@ fn i_width_4() {
     let record = |count| card::judge(&card::record(4, &[0; 20], &[0, 1, 2, 3][..count]));
     assert_eq!((record(3), record(4)), (Ok(0), Err(3)));
     assert_eq!(reference::sheet::write(4, &[0; 100], 20), Err(11));
+}
+
+#[test]
+fn k_a_walk_and_a_look() {
+    let slot = card::record(3, &zeros_but(&[(5, 1)]), &[]);
+    let clean = card::record(3, &[0; 12], &[]);
+    // 33 records: 31 slots, a blank one and a short last piece.
+    let card = [slot.repeat(31), vec![255; 139], slot[..138].to_vec()].concat();
+    let end = [clean.repeat(31), vec![255; 139], slot[..138].to_vec()].concat();
+    let length = card.len() as u64;
+    let (second, first_half) = walk::step(length, 1, &card).expect("a step");
+    assert_eq!((second, &first_half[..16 * 139], &first_half[16 * 139..]), (17, &end[..16 * 139], &card[16 * 139..]));
+    let (third, after) = walk::step(length, second, &first_half).expect("a step");
+    assert_eq!((third, walk::step(length, third, &after)), (33, Ok((34, end.clone()))));
+    assert_eq!(walk::step(length, 34, &card), Ok((34, card.clone())));
+    let refused = |length, next| walk::step(length, next, &card).expect_err("a refusal");
+    assert_eq!((refused(length, 0), refused(length, 35), refused(length - 1, 35)), (17, 17, 2));
+    for card in [&card, &first_half, &end] {
+        assert_eq!(walk::look(card, 1, 132), Ok(vec![0; 132]));
+        assert_eq!((walk::look(card, 32, 132), walk::look(card, 33, 132), walk::look(card, 31, 131)), (Err(1), Err(2), Err(2)));
+        assert_eq!((walk::look(card, 0, 0), walk::look(card, 34, 132)), (Err(17), Err(17)));
+    }
 }

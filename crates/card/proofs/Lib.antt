@@ -1,7 +1,9 @@
 -- Laws of the card's definitions, and what the proofs of several functions use. Assumes nothing.
 pub mod Layouts
 pub mod Recording
+pub mod Again
 pub mod Blank
+pub mod Numbering
 pub mod Checking
 pub mod Writing
 pub mod Lines

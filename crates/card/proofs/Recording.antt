@@ -1,9 +1,11 @@
 -- The restored record. Assumes nothing.
-use mathlib.Core.Path.{_≡_, refl, sym, ap, ap₂, _∙_, subst, subst₂}
+use mathlib.Core.Path.{_≡_, refl, sym, ap, ap₂, _∙_, subst₂}
+use mathlib.Core.Bool.{Bool, cond}
 use mathlib.Core.List.{List, _∷_, _++_}
 use Prim.Native.Nat.{ℕ, _+_, _-_}
 use native.Mathlib.Omega.{arith}
 use lib.ListN.{length, take, drop, replicate, take-append-drop, length-drop}
+use borrow.Author.Tests.{eq-eqb, ne-eqb}
 use lib.Seq.{drop-at, drop-drop, length-take-le}
 use Rattle.field.specs.Question.{Outcome, accepted, refused, refusal, after}
 use Rattle.field.specs.declared.Question.{Question}
@@ -18,7 +20,7 @@ use Rattle.code.specs.declared.Repair.the-variants.{Restored, Refused}
 use Rattle.code.proofs.Lengths.{places-most}
 use Rattle.code.proofs.Demands.{accepts, refused-unchanged}
 use Rattle.card.specs.Record.{erasureBytes, headerSize, recordSize, widthOf, countOf, wordOf, tailOf, erasuresOf, recordAsked, clearRecord, onAccept}
-use Rattle.card.specs.Record.{recordWithinOf, recordWithinWritten, RestoresRecordWithin, reachOf, recordOf, recordWritten, RestoresRecord}
+use Rattle.card.specs.Record.{recordWithinOf, recordWithinWritten, RestoresRecordWithin, reachOf, recordOf, recordWritten, RestoresRecord, copyWritten}
 use Rattle.card.proofs.Layouts.{Asked, asked, all-replicate, length-no, word-part, erasures-part}
 
 -- the record's own questions were answered no
@@ -126,3 +128,13 @@ reach-counted r A k h =
 pub short-refused : (r : List ℕ) → (length r ≡ recordSize → ⊥) → refused (refusal Length) ≡ recordOf r
 unfolding recordOf
 short-refused r n = within-refused r (reachOf r) (RefusedBy Length) Length (length-no erasureBytes r n) refl
+
+-- ---- a record restored in a copy
+
+pub copy-short : (r : List ℕ) → (length r ≡ recordSize → ⊥) → replicate recordSize 0 ≡ copyWritten r
+unfolding copyWritten
+copy-short r n = sym (ap (λ (b : Bool). cond b (recordWritten r) (replicate recordSize 0)) (ne-eqb (length r) recordSize n))
+
+pub copy-whole : (r : List ℕ) → length r ≡ recordSize → recordWritten r ≡ copyWritten r
+unfolding copyWritten
+copy-whole r e = sym (ap (λ (b : Bool). cond b (recordWritten r) (replicate recordSize 0)) (eq-eqb (length r) recordSize e))

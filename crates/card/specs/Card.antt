@@ -3,7 +3,7 @@ use mathlib.Core.Path.{_≡_}
 use mathlib.Core.Bool.{Bool, true, false, cond, _&&_, _||_}
 use mathlib.Core.List.{List}
 use Prim.Native.Nat.{ℕ, zero, suc, _+_, _-_, _*_, _/_, _≤_, _<_}
-use lib.Dec.{eqb}
+use lib.Dec.{eqb, leb}
 use lib.ListN.{length, take, drop}
 use Rattle.field.specs.Question.{Outcome, accepted, refused}
 use Rattle.card.specs.Record.{sizeOf, erasureBytes, recordSize, allAre, recordOf}
@@ -28,6 +28,14 @@ recordAt card i = slotIn erasureBytes card i
 
 abbrev pub isBlank : List ℕ → Bool
 isBlank slot = blankIn erasureBytes slot
+
+-- is the number 1 to n?
+unfoldable pub isNumber : ℕ → ℕ → Bool
+isNumber n number = leb 1 number && leb number n
+
+-- the record of that number, counted from 1
+abbrev pub recordNumbered : List ℕ → ℕ → List ℕ
+recordNumbered card number = recordAt card (number - 1)
 
 -- is the outcome an acceptance?
 abbrev pub isAccepted : Outcome → Bool

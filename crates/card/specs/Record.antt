@@ -1,6 +1,6 @@
 -- A record: width, number of erasures, erasures, symbols, and zeros up to the record's length. Assumes nothing.
 use mathlib.Core.Path.{_≡_}
-use mathlib.Core.Bool.{Bool, true, _&&_}
+use mathlib.Core.Bool.{Bool, true, cond, _&&_}
 use mathlib.Core.List.{List, [], _∷_, _++_}
 use Prim.Native.Nat.{ℕ, _+_, _-_, min}
 use lib.Dec.{eqb, leb}
@@ -13,6 +13,7 @@ use Rattle.code.specs.Word.{places, longest}
 use Rattle.code.specs.Near.{radius}
 use Rattle.code.specs.Call.{maxErasures, withinOf, withinWritten, repair}
 use Rattle.code.specs.declared.Repair.{Repair}
+use Rattle.card.specs.declared.RestoredCopy.{RestoredCopy}
 
 -- ---- the layout, with k erasure bytes, document 01's mark bytes
 
@@ -147,3 +148,14 @@ recordWritten r = recordWithinWritten r (reachOf r)
 pub record RestoresRecord (old : List ℕ) (r : Repair) (new : List ℕ) : Type 0 where
   pub answer : repair r ≡ recordOf old
   pub content : new ≡ recordWritten old
+
+-- ---- a record restored in a copy
+
+-- the copy: the record after the call, and zeros where it has not the length of one
+unfoldable pub copyWritten : List ℕ → List ℕ
+copyWritten r = cond (eqb (length r) recordSize) (recordWritten r) (replicate recordSize 0)
+
+-- what restored_copy gives
+pub record RestoresCopy (r : List ℕ) (x : RestoredCopy) : Type 0 where
+  pub answer : repair (x .answer) ≡ recordOf r
+  pub content : x .bytes ≡ copyWritten r

@@ -3,7 +3,7 @@ ghost use mathlib.Core.Path.{_≡_};
 ghost use Prim.Native.Nat.{_≤_};
 ghost use lib.ListN.{length, take, drop};
 ghost use Rattle.card.specs.Record.{erasureBytes, recordSize};
-ghost use Rattle.card.specs.Card.{blankIn, passes, fine, firstRefused};
+ghost use Rattle.card.specs.Card.{recordCount, isNumber, blankIn, isBlank, passes, fine, firstRefused};
 use crate::CardCheck;
 use crate::records::ERASURE_BYTES;
 use crate::records::RECORD;
@@ -12,8 +12,26 @@ use crate::records::probe;
 use crate::records::size_of;
 use code::Repair;
 
+// The number of slots of a card of n bytes; a shorter last piece counts as one.
+pub fn record_count(n: usize) -> usize
+    ensures { λ r. ⌜ r ≡ recordCount n ⌝ }
+{
+    if n % RECORD == 0 {
+        n / RECORD
+    } else {
+        n / RECORD + 1
+    }
+}
+
+// Is the number 1 to n?
+pub fn is_number(number: usize, n: usize) -> bool
+    ensures { λ r. ⌜ r ≡ isNumber n number ⌝ }
+{
+    if number < 1 { false } else { number <= n }
+}
+
 // The slot of the card that begins at byte `at`; the last may be shorter.
-pub(crate) fn record_from(card: &[u8], at: usize) -> &[u8]
+pub fn record_from(card: &[u8], at: usize) -> &[u8]
     requires { ⌜ at ≤ length (now card) ⌝ }
     ensures { λ r. ⌜ now r ≡ take recordSize (drop at (now (card .entry))) ⌝ }
 {
@@ -24,8 +42,8 @@ pub(crate) fn record_from(card: &[u8], at: usize) -> &[u8]
     &card[at..end]
 }
 
-// Is the slot blank? The first byte that is not 255 says no, and a record's first byte is its width.
-pub(crate) fn is_blank(slot: &[u8], k: usize) -> bool
+// Is the slot blank, where records have k erasure bytes? The first byte that is not 255 says no, and a record's first byte is its width.
+pub(crate) fn blank_in(slot: &[u8], k: usize) -> bool
     requires { ⌜ k ≤ erasureBytes ⌝ }
     ensures { λ r. ⌜ r ≡ blankIn k (now (slot .entry)) ⌝ }
 {
@@ -33,6 +51,13 @@ pub(crate) fn is_blank(slot: &[u8], k: usize) -> bool
         return false;
     }
     all_are(slot, 255)
+}
+
+// Is the slot blank?
+pub fn is_blank(slot: &[u8]) -> bool
+    ensures { λ r. ⌜ r ≡ isBlank (now (slot .entry)) ⌝ }
+{
+    blank_in(slot, ERASURE_BYTES)
 }
 
 // Would the record be accepted?
@@ -49,7 +74,7 @@ fn would_pass(bytes: &[u8]) -> bool
 fn is_fine(slot: &[u8]) -> bool
     ensures { λ r. ⌜ r ≡ fine (now (slot .entry)) ⌝ }
 {
-    if is_blank(slot, ERASURE_BYTES) {
+    if is_blank(slot) {
         return true;
     }
     would_pass(slot)

@@ -9,7 +9,7 @@ ghost use Rattle.card.specs.Record.{headerOf, sizeOf, erasureBytes};
 ghost use Rattle.card.specs.Conversion.{oldErasureBytes, converted, convertedSlots, cardAsked, fourAsked, Converts};
 ghost use Rattle.card.specs.Conversion.{toNewAsked, toOldAsked};
 ghost use Rattle.card.specs.Leading.{slotPasses, cardPasses};
-use crate::cards::is_blank;
+use crate::cards::blank_in;
 use crate::records::ERASURE_BYTES;
 use crate::records::passed;
 use crate::records::size_of;
@@ -26,7 +26,7 @@ fn slot_passed(slot: &[u8], k: usize) -> u8
     requires { ⌜ (k ≤ erasureBytes) × (length (now slot) ≡ sizeOf k) ⌝ }
     ensures { λ r. ⌜ r ≡ slotPasses k (now (slot .entry)) ⌝ }
 {
-    if is_blank(slot, k) {
+    if blank_in(slot, k) {
         return 4;
     }
     passed(slot, k, OLD_ERASURE_BYTES)

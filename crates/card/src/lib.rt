@@ -4,6 +4,14 @@ pub mod conversion;
 pub mod records;
 pub mod text;
 
+use code::Repair;
+
+// What restoring a record would answer, and the record afterwards. An enum holds no array, so the answer stands beside the bytes.
+pub struct RestoredCopy {
+    pub answer: Repair,
+    pub bytes: [u8; 139],
+}
+
 // What the card check answers: every record would be accepted, or the number of the first record that would not be, counted from 1. Blank
 // slots are passed over, and counted.
 pub enum CardCheck {

@@ -7,7 +7,9 @@ ghost use lib.ListN.{length, take, drop, replicate};
 ghost use Rattle.field.specs.declared.Verdict.the-variants.{Passed};
 ghost use Rattle.code.specs.Call.{maxErasures, repair};
 ghost use Rattle.card.specs.Record.{sizeOf, erasureBytes, headerSize, recordSize, allAre, recordAsked, recordOf, RestoresRecordWithin, RestoresRecord};
+ghost use Rattle.card.specs.Record.{RestoresCopy};
 ghost use Rattle.card.specs.Leading.{recordPasses, verdictAt};
+use crate::RestoredCopy;
 use code::Repair;
 use code::max_erasures;
 use code::radius_of;
@@ -21,7 +23,7 @@ pub(crate) const ERASURE_BYTES: usize = 5;
 
 const HEADER: usize = 2 + ERASURE_BYTES;
 
-pub(crate) const RECORD: usize = HEADER + 132;
+pub const RECORD: usize = HEADER + 132;
 
 // The number of bytes of a record.
 pub(crate) fn size_of(k: usize) -> usize
@@ -183,13 +185,25 @@ fn copied(bytes: &[u8]) -> [u8; RECORD]
     row
 }
 
+// A record is restored in a copy; it stays as it is.
+pub fn restored_copy(bytes: &[u8]) -> RestoredCopy
+    ensures { λ r. ⌜ RestoresCopy (now (bytes .entry)) r ⌝ }
+{
+    if bytes.len() != RECORD {
+        return RestoredCopy {
+            answer: Repair::Refused(Question::Length),
+            bytes: [0; RECORD],
+        };
+    }
+    let mut row = copied(bytes);
+    let answer = restore_record(&mut row);
+    RestoredCopy { answer, bytes: row }
+}
+
 // What restoring the record would answer; the record stays as it is.
 pub(crate) fn probe(bytes: &[u8]) -> Repair
     ensures { λ r. ⌜ repair r ≡ recordOf (now (bytes .entry)) ⌝ }
 {
-    if bytes.len() != RECORD {
-        return Repair::Refused(Question::Length);
-    }
-    let mut row = copied(bytes);
-    restore_record(&mut row)
+    let copy = restored_copy(bytes);
+    copy.answer
 }

@@ -12,8 +12,8 @@ ghost use Rattle.card.specs.Placed.{Writes};
 use crate::Progress;
 use crate::Totals;
 use crate::cards::is_blank;
+use crate::cards::record_count;
 use crate::cards::record_from;
-use crate::records::ERASURE_BYTES;
 use crate::records::RECORD;
 use crate::records::probe;
 use code::Repair;
@@ -212,7 +212,7 @@ fn list_slot(slot: &[u8], done: Listed, out: &mut [u8]) -> Listed
         (further (done .progress) (slotCounted (done .progress .totals) (now (slot .entry)))) (now (out .entry)) r (now (out .exit))
         ⌝ }
 {
-    if is_blank(slot, ERASURE_BYTES) {
+    if is_blank(slot) {
         list_blank(done, out)
     } else {
         list_record(slot, done, out)
@@ -228,7 +228,7 @@ pub fn list_records(batch: &[u8], s: Progress, out: &mut [u8]) -> Listed
         Lists 0 (partLines s (now (batch .entry))) (partProgress s (now (batch .entry))) (now (out .entry)) r (now (out .exit))
         ⌝ }
 {
-    let n = (batch.len() + (RECORD - 1)) / RECORD;
+    let n = record_count(batch.len());
     let mut done = Listed {
         used: 0,
         progress: s,

@@ -9,6 +9,8 @@ ghost use Rattle.code.specs.Call.{done, membership, repair, encodeOf, encodeWri
 ghost use Rattle.card.specs.Record.{recordOf, recordWritten, recordWithinOf, recordWithinWritten};
 ghost use Rattle.card.specs.Card.{firstRefused};
 ghost use Rattle.card.specs.Conversion.{toNewOf, toNewWritten, toOldOf, toOldWritten};
+ghost use Rattle.walk.specs.Walk.{walkAt, stepOf, stepState, stepWritten};
+ghost use Rattle.walk.specs.Look.{lookOf, lookWritten};
 ghost use Rattle.sheet.specs.Call.{writeSheetOf, writeSheetWritten, readSheetOf, readSheetWritten};
 ghost use Rattle.exports.specs.Packed.{packed, packedBytes, checked};
 use card::CardCheck;
@@ -24,6 +26,8 @@ use field::Exponent;
 use field::Verdict;
 use sheet::read_sheet;
 use sheet::write_sheet;
+use walk::Walk;
+use walk::look_into;
 
 fn wide(x: u8) -> u32
     ensures { λ r. ⌜ r ≡ x ⌝ }
@@ -269,4 +273,31 @@ pub extern "C" fn xrs_read_sheet(width: u8, word: &[u8], symbols: &mut [u8]) -> 
     ensures written { λ r. ⌜ now (symbols .exit) ≡ readSheetWritten width (now (word .entry)) (now (symbols .entry)) ⌝ }
 {
     pack_verdict(read_sheet(width, word, symbols))
+}
+
+// One step of a walk that began with a card of `length` bytes; the next record is lent.
+#[no_mangle]
+pub extern "C" fn xrs_walk_step(length: u64, next: &mut u64, card: &mut [u8]) -> u32
+    ensures answer { λ r. ⌜ r ≡ packed (stepOf (walkAt length (now (next .entry))) (now (card .entry))) ⌝ }
+    ensures state { λ r. ⌜ now (next .exit) ≡ stepState (walkAt length (now (next .entry))) (now (card .entry)) .next ⌝ }
+    ensures written { λ r. ⌜ now (card .exit) ≡ stepWritten (walkAt length (now (next .entry))) (now (card .entry)) ⌝ }
+{
+    let walk = Walk {
+        length: length as usize,
+        next: *next as usize,
+    };
+    let stepped = walk.step(card);
+    let state = stepped.state;
+    *next = state.next as u64;
+    let verdict = stepped.verdict;
+    pack_verdict(verdict)
+}
+
+// A look at the record of that number, counted from 1: its symbols and zeros behind them, 132 in all, are written into the row.
+#[no_mangle]
+pub extern "C" fn xrs_look(card: &[u8], number: u64, row: &mut [u8]) -> u32
+    ensures answer { λ r. ⌜ r ≡ packed (lookOf (now (card .entry)) number (now (row .entry))) ⌝ }
+    ensures written { λ r. ⌜ now (row .exit) ≡ lookWritten (now (card .entry)) number (now (row .entry)) ⌝ }
+{
+    pack_verdict(look_into(card, number as usize, row))
 }

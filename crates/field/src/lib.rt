@@ -46,6 +46,8 @@ pub enum Question {
     FourErasures,
     // Is the reach that the caller names at most r?
     Reach,
+    // Is the number that of a record of the card, or of the next one of a walk?
+    RecordNumber,
 }
 
 // Every question so far was answered yes, or one was answered no.
@@ -84,6 +86,7 @@ pub fn refusal_number(q: Question) -> u8
         Question::Unique => 14,
         Question::FourErasures => 15,
         Question::Reach => 16,
+        Question::RecordNumber => 17,
     }
 }
 

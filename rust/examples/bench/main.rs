@@ -154,6 +154,13 @@ fn time_calls(path: &str) -> std::io::Result<()> {
     time_call("card_to_old", || xrs::card_to_old(&card, &mut old).expect("no record has five marks"));
     time_call("card_to_new", || xrs::card_to_new(&old, &mut new).expect("a card of the old edition"));
     assert!(new == card, "there and back is another card");
+    time_call("walk", || {
+        let mut walk = xrs::Walk::begin(&new);
+        while !walk.is_done() {
+            walk.step(&mut new).expect("a step of the walk");
+        }
+    });
+    assert!(new == card, "clean records were changed");
     Ok(())
 }
 

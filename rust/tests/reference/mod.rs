@@ -5,6 +5,7 @@ pub mod card;
 pub mod masked;
 pub mod search;
 pub mod sheet;
+pub mod walk;
 
 /// The widths of the code.
 pub const WIDTHS: [u8; 4] = [3, 4, 5, 7];

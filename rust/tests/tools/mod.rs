@@ -118,6 +118,21 @@ pub fn card_to_old(card: &[u8], out: &[u8]) -> (Result<(), Refusal>, Vec<u8>) {
     lend(card, out, xrs::card_to_old)
 }
 
+/// `xrs::Walk::step` on copies of the walk and the card: the walk or the refusal, and the card afterwards. A refused step leaves the walk.
+pub fn walk_step(walk: xrs::Walk, card: &[u8]) -> (Result<xrs::Walk, Refusal>, Vec<u8>) {
+    lend(&[], card, |_, card| {
+        let mut after = walk;
+        let answer = after.step(card);
+        assert!(answer.is_ok() || after == walk, "a refused step left {after:?} of {walk:?}");
+        answer.map(|()| after)
+    })
+}
+
+/// `xrs::look` on copies of the slices: its answer, and the row afterwards.
+pub fn look(card: &[u8], number: u64, row: &[u8]) -> (Result<(), Refusal>, Vec<u8>) {
+    lend(card, row, |card, row| xrs::look(card, number, row))
+}
+
 /// `xrs::write_sheet` on copies of the slices: its answer, and the word afterwards.
 pub fn write_sheet(width: u8, symbols: &[u8], word: &[u8]) -> (Result<(), Refusal>, Vec<u8>) {
     lend(symbols, word, |symbols, word| xrs::write_sheet(width, symbols, word))

@@ -1,7 +1,7 @@
 //! Codewords by the reference, and records whose cells wore.
 
 use super::Chance;
-use crate::reference::card::{record_of, size, MARKS};
+use crate::reference::card::{record_of, size, MARKS, RECORD};
 use crate::reference::search::most_marks;
 use crate::reference::{encode, items, order, places, raise, WIDTHS};
 
@@ -79,6 +79,21 @@ pub fn worn_of(chance: &mut Chance, mark_bytes: usize, width: u8) -> Vec<u8> {
         bytes[at] = [0, 1, 3, 4, 5, 6, 7, 255, chance.below(256) as u8][chance.below(9)];
     }
     bytes
+}
+
+/// A slot with so many mark bytes: a worn record of any width, or now and then a blank one.
+pub fn slot_of(chance: &mut Chance, mark_bytes: usize) -> Vec<u8> {
+    match chance.below(8) {
+        0 => vec![255; size(mark_bytes)],
+        n => worn_of(chance, mark_bytes, WIDTHS[n % WIDTHS.len()]),
+    }
+}
+
+/// A card of so many slots, worn records and blank ones, and so many bytes of a further one.
+pub fn worn_card(chance: &mut Chance, slots: usize, further: usize) -> Vec<u8> {
+    let mut card: Vec<u8> = (0..=slots).flat_map(|_| slot_of(chance, MARKS)).collect();
+    card.truncate(slots * RECORD + further);
+    card
 }
 
 /// A width, a word and marks, as the restorer is lent them: a codeword with up to three wrong symbols and any bytes at up to five marks, in

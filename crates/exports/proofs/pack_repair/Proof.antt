@@ -2,8 +2,8 @@
 use borrow.Author.Needs.{needs}
 use mathlib.Core.Path.{refl}
 use Rattle.code.specs.Call.{repair}
-use Rattle.code.specs.declared.Repair.the-variants.{Restored}
-use Rattle.exports.proofs.Packing.{value-packed}
+use Rattle.code.specs.declared.Repair.the-variants.{Restored, Refused}
+use Rattle.exports.proofs.Packing.{value-packed, refusal-packed}
 use Rattle.exports.proofs.pack_repair.Statement.{statement}
 use Rattle.exports.proofs.pack_repair.Tie as tie
 
@@ -29,7 +29,8 @@ returns : tie.Need-returns
 returns c = value-packed repair Restored (c .before .before .before .before .args .a) _ _ (c .wide .ensures) refl (search needs)
 
 returns-2 : tie.Need-returns-2
-returns-2 c = search needs
+returns-2 c =
+    refusal-packed repair Refused _ _ _ _ (c .wide2 .ensures) (c .before .refusal-number .ensures) refl (c .before .before .before .a2 .given .1)
 
 pub pack-repair-spec : {M : Type 1} → statement M
 pack-repair-spec =

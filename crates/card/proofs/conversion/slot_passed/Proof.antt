@@ -4,12 +4,12 @@ use Rattle.card.proofs.Leading.{slot-blank, slot-record}
 use Rattle.card.proofs.conversion.slot_passed.Statement.{statement}
 use Rattle.card.proofs.conversion.slot_passed.Tie as tie
 
-is-blank-requires : tie.Need-is-blank-requires
-is-blank-requires c κs = search needs
+blank-in-requires : tie.Need-blank-in-requires
+blank-in-requires c κs = search needs
 
 returns : tie.Need-returns
 returns c =
-    let b = c .before .is-blank in
+    let b = c .before .blank-in in
     let a = c .before .before .before .args in
     slot-blank (a .k) (a .slot .now) (b .result) (b .ensures) (c .if1 .taken)
 
@@ -18,9 +18,9 @@ passed-requires c κs = search needs
 
 returns-2 : tie.Need-returns-2
 returns-2 c =
-    let b = c .before .before .is-blank in
+    let b = c .before .before .blank-in in
     let a = c .before .before .before .before .args in
     slot-record (a .k) (a .slot .now) (b .result) (b .ensures) (c .before .if1 .left) (c .passed .result) (c .passed .ensures)
 
 pub slot-passed-spec : {M : Type 1} → statement M
-slot-passed-spec = tie.close (tie.spec is-blank-requires returns passed-requires returns-2)
+slot-passed-spec = tie.close (tie.spec blank-in-requires returns passed-requires returns-2)

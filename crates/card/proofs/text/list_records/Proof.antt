@@ -22,11 +22,8 @@ Inv-loop batch out₀ n done₀ i₀ out done i =
 abbrev μ-loop : tie.MeasureT-loop
 μ-loop batch out₀ n done₀ i₀ out done i = n - i
 
-sub-n : tie.Need-sub-n Inv-loop μ-loop
-sub-n c = search needs
-
-add-n : tie.Need-add-n Inv-loop μ-loop
-add-n c = search needs
+record-count-requires : tie.Need-record-count-requires Inv-loop μ-loop
+record-count-requires c κs = search needs
 
 loop-holds : tie.Need-loop-holds Inv-loop μ-loop
 loop-holds c = (omega arith, search needs, lists-none _ _ _)
@@ -40,7 +37,7 @@ record-from-requires c κs = search needs
 list-slot-requires : tie.Need-list-slot-requires Inv-loop μ-loop
 list-slot-requires c κs =
     let turn = c .before .before .before in
-    let s = turn .before .before .before in
+    let s = turn .before .before .before .before in
     let batch = s .args .batch .now in
     let i = turn .loop .i in
     let done = turn .loop .inv .2 in (
@@ -58,7 +55,7 @@ loop-less c = search needs
 loop-again : tie.Need-loop-again Inv-loop μ-loop
 loop-again c =
     let turn = c .before .before .before .before .before .before in
-    let s = turn .before .before .before in (
+    let s = turn .before .before .before .before in (
       omega arith,
       omega arith,
       lists-more (s .args .s) (s .args .batch .now) (turn .loop .i) _ (c .before .before .before .before .record-from .ensures)
@@ -70,7 +67,7 @@ same-length c = search needs
 
 returns : tie.Need-returns Inv-loop μ-loop
 returns c =
-    let all : c .before .loop .i ≡ recordCount (length (c .before .before .before .before .args .batch .now)) = omega arith in
+    let all : c .before .loop .i ≡ recordCount (length (c .before .before .before .before .before .args .batch .now)) = omega arith in
     rw all at (c .before .loop .inv .2)
 
 pub list-records-spec : {M : Type 1} → statement M
@@ -79,8 +76,7 @@ list-records-spec =
     (tie.spec
     Inv-loop
     μ-loop
-    sub-n
-    add-n
+    record-count-requires
     loop-holds
     mul-record-from
     record-from-requires

@@ -1,9 +1,9 @@
--- `card::cards::is_blank` meets its contract. Assumes nothing.
+-- `card::cards::blank_in` meets its contract. Assumes nothing.
 use borrow.Author.Needs.{needs}
 use mathlib.Core.Path.{sym, _∙_}
 use Rattle.card.proofs.Blank.{blank-no, blank-whole}
-use Rattle.card.proofs.cards.is_blank.Statement.{statement}
-use Rattle.card.proofs.cards.is_blank.Tie as tie
+use Rattle.card.proofs.cards.blank_in.Statement.{statement}
+use Rattle.card.proofs.cards.blank_in.Tie as tie
 
 size-of-requires : tie.Need-size-of-requires
 size-of-requires c κs = search needs
@@ -22,5 +22,5 @@ returns-2 c =
     let a = sized .before .before .before .args in
     blank-whole (a .k) (a .slot .now) (c .all-are .result) (sized .if1 .left ∙ sized .before .size-of .ensures) (c .all-are .ensures)
 
-pub is-blank-spec : {M : Type 1} → statement M
-is-blank-spec = tie.close (tie.spec size-of-requires returns all-are-requires returns-2)
+pub blank-in-spec : {M : Type 1} → statement M
+blank-in-spec = tie.close (tie.spec size-of-requires returns all-are-requires returns-2)

@@ -1,0 +1,212 @@
+-- A look at a record, and looks between the steps of a walk. Assumes nothing.
+use borrow.Author.Tests.{eq-eqb, ne-eqb, eqb-true}
+use mathlib.Core.Path.{_≡_, refl, sym, ap, ap₂, _∙_}
+use mathlib.Core.Bool.{Bool, true, false}
+use mathlib.Core.List.{List}
+use Prim.Native.Nat.{ℕ, _+_, _-_, _*_, _≤_, _<_}
+use native.Mathlib.Decide.{decLt}
+use native.Mathlib.Omega.{arith}
+use lib.Dec.{eqb}
+use lib.ListN.{length, take, drop, length-drop}
+use lib.Seq.{take-all}
+use Rattle.field.specs.Question.{Outcome, accepted, refused, refusal, after}
+use Rattle.field.specs.declared.Question.{Question}
+use Rattle.field.specs.declared.Question.the-variants.{Length, RecordNumber}
+use Rattle.field.specs.declared.Verdict.{Verdict}
+use Rattle.field.specs.declared.Verdict.the-variants.{Passed, Refused}
+use Rattle.field.proofs.Ask.{ask-yes, ask-next}
+use Rattle.code.specs.Call.{repair}
+use Rattle.code.specs.declared.Repair.{Repair}
+use Rattle.code.specs.declared.Repair.the-variants.{Restored, Refused as RefusedRepair}
+use Rattle.card.specs.declared.RestoredCopy.{RestoredCopy}
+use Rattle.card.specs.Record.{headerSize, recordSize, wordOf, recordOf, onAccept, recordWritten, RestoresCopy}
+use Rattle.card.specs.Card.{recordCount, recordAt, isNumber, recordNumbered}
+use Rattle.card.proofs.Recording.{copy-whole}
+use Rattle.card.proofs.Again.{refused-stays, accepted-whole, restored-again, restored-symbols, written-size, written-again}
+use Rattle.walk.specs.Restored.{restoredFirst}
+use Rattle.walk.specs.Walk.{afterSteps}
+use Rattle.walk.specs.Look.{rowSize, inRow, symbolsOf, uncounted, Shows, lookAsked, lookOf, lookWritten, Looks}
+use Rattle.walk.specs.Demands.{Tells, LookBetween}
+use Rattle.card.proofs.Numbering.{number-yes, number-low, number-high}
+use Rattle.walk.proofs.Restoring.{first-size, record-restored, record-untouched}
+use Rattle.walk.proofs.Walking.{reached, at-moment}
+
+-- ---- at one record
+
+module _ (r row : List ℕ) where
+  -- the record was restored in a copy, with the answer x beside it
+  module _ (copy : RestoredCopy) (R : RestoresCopy r copy) (x : Repair) (ex : copy .answer ≡ x) where
+    told : repair x ≡ recordOf r
+    told = ap repair (sym ex) ∙ R .answer
+
+    pub shows-no : (q : Question) → x ≡ RefusedRepair q → Shows r row (Refused q) row
+    shows-no q p =
+        let o : refused (refusal q) ≡ recordOf r = ap repair (sym p) ∙ told in
+        record { answer = ap uncounted o; symbols = ap (λ (y : Outcome). onAccept y row (symbolsOf r)) o }
+
+    -- the row is the last part of the restored copy
+    pub shows-yes : (k : ℕ) → x ≡ Restored k
+        → (row′ : List ℕ) → row′ ≡ take (recordSize - headerSize) (drop headerSize (copy .bytes)) → Shows r row Passed row′
+    shows-yes k p row′ e =
+        let o : accepted k ≡ recordOf r = ap repair (sym p) ∙ told in
+        let whole : length r ≡ recordSize = accepted-whole r k (sym o) in
+        let written : copy .bytes ≡ recordWritten r = R .content ∙ sym (copy-whole r whole) in
+        let size : length (copy .bytes) ≡ recordSize = ap length written ∙ written-size r ∙ whole in
+        record {
+          answer = ap uncounted o;
+          symbols = e
+              ∙ take-all (recordSize - headerSize) (drop headerSize (copy .bytes)) (simp length-drop (omega (arith, size)))
+              ∙ ap (drop headerSize) written
+              ∙ restored-symbols r k (sym o)
+              ∙ ap (λ (y : Outcome). onAccept y row (symbolsOf r)) o;
+        }
+
+-- a second look, at the restored record
+pub uncounted-again : (r : List ℕ) → uncounted (recordOf (recordWritten r)) ≡ uncounted (recordOf r)
+uncounted-again r = go (recordOf r) refl
+  where
+    go : (o : Outcome) → recordOf r ≡ o → uncounted (recordOf (recordWritten r)) ≡ uncounted (recordOf r)
+    go (accepted k) e = ap uncounted (restored-again r k e .0) ∙ sym (ap uncounted e)
+    go (refused n) e = ap (λ (x : List ℕ). uncounted (recordOf x)) (refused-stays r n e)
+
+-- ---- at the record of a number
+
+-- b is whether the number is one of r, and m the length of the row
+module _ (n number m r : ℕ) (er : r ≡ recordCount n) (b : Bool) (eb : b ≡ isNumber r number) where
+  same : b ≡ isNumber (recordCount n) number
+  same = eb ∙ ap (λ (k : ℕ). isNumber k number) er
+
+  pub asked-number : b ≡ false → Refused RecordNumber ≡ lookAsked n number m
+  unfolding lookAsked
+  asked-number t = simp (sym same ∙ t)
+
+  pub asked-row : b ≡ true → (m ≡ rowSize → ⊥) → Refused Length ≡ lookAsked n number m
+  unfolding lookAsked
+  asked-row t e = simp (sym same ∙ t, ne-eqb m rowSize e)
+
+  pub asked-passed : b ≡ true → m ≡ rowSize → Passed ≡ lookAsked n number m
+  unfolding lookAsked
+  asked-passed t e = simp (sym same ∙ t, eq-eqb m rowSize e)
+
+-- what the questions tell where they were answered yes
+module _ (n number m : ℕ) (v : Verdict) (e : v ≡ lookAsked n number m) (p : v ≡ Passed) where
+  in-range : isNumber (recordCount n) number ≡ true
+  unfolding lookAsked
+  in-range = ask-yes (isNumber (recordCount n) number) RecordNumber _ (sym e ∙ p)
+
+  pub looked-low : 1 ≤ number
+  looked-low = number-low (recordCount n) number in-range
+
+  pub looked-at : (number - 1) * recordSize < n
+  looked-at = omega (arith, looked-low, number-high (recordCount n) number in-range)
+
+  pub looked-row : m ≡ rowSize
+  unfolding lookAsked
+  looked-row =
+      eqb-true m rowSize
+      (ask-yes (eqb m rowSize) Length Passed (ask-next (isNumber (recordCount n) number) RecordNumber _ (sym e ∙ p)))
+
+-- a count that is left out changes nothing in what is written
+uncounted-accept : (o : Outcome) (old new : List ℕ) → onAccept (uncounted o) old new ≡ onAccept o old new
+uncounted-accept (accepted k) old new = refl
+uncounted-accept (refused n) old new = refl
+
+module _ (card : List ℕ) (number : ℕ) (row : List ℕ) (v : Verdict) (e : v ≡ lookAsked (length card) number (length row)) where
+  answer-by : after v (uncounted (recordOf (recordNumbered card number))) ≡ lookOf card number row
+  unfolding lookOf
+  answer-by = ap (λ (u : Verdict). after u (uncounted (recordOf (recordNumbered card number)))) e
+
+  written-by : onAccept (after v (uncounted (recordOf (recordNumbered card number)))) row (symbolsOf (recordNumbered card number))
+      ≡ lookWritten card number row
+  unfolding lookWritten
+  written-by = ap (λ (o : Outcome). onAccept o row (symbolsOf (recordNumbered card number))) answer-by
+
+pub looks-refused : (card : List ℕ) (number : ℕ) (row : List ℕ) (v : Verdict) (q : Question)
+    → v ≡ lookAsked (length card) number (length row) → v ≡ Refused q → Looks card number row (Refused q) row
+looks-refused card number row v q e p =
+    let a = sym p ∙ e in
+    record { answer = answer-by card number row (Refused q) a; symbols = written-by card number row (Refused q) a }
+
+pub looks-shown : (card : List ℕ) (number : ℕ) (row : List ℕ) (v : Verdict)
+    → v ≡ lookAsked (length card) number (length row) → v ≡ Passed → (bytes : List ℕ) → bytes ≡ recordNumbered card number
+    → (x : Verdict) (new : List ℕ) → Shows bytes row x new → Looks card number row x new
+looks-shown card number row v e p bytes eb x new S =
+    let a = sym p ∙ e in
+    record {
+      answer = S .answer ∙ ap (λ (r : List ℕ). uncounted (recordOf r)) eb ∙ answer-by card number row Passed a;
+      symbols = S .symbols
+          ∙ ap (λ (r : List ℕ). onAccept (recordOf r) row (symbolsOf r)) eb
+          ∙ sym (uncounted-accept (recordOf (recordNumbered card number)) row (symbolsOf (recordNumbered card number)))
+          ∙ written-by card number row Passed a;
+    }
+
+-- ---- looks between steps
+
+-- a look at record i shows the same, whether it is among the k records restored or not
+pub record SameShown (old new : List ℕ) : Type 0 where
+  pub answer : uncounted (recordOf new) ≡ uncounted (recordOf old)
+  pub symbols : symbolsOf new ≡ symbolsOf old
+
+restored-shown : (r : List ℕ) → SameShown r (recordWritten r)
+restored-shown r = record { answer = uncounted-again r; symbols = ap (λ (w : List ℕ). inRow (wordOf w)) (written-again r) }
+
+first-shown : (k i : ℕ) (card : List ℕ) → i * recordSize < length card → SameShown (recordAt card i) (recordAt (restoredFirst k card) i)
+first-shown k i card h = go (decLt i k)
+  where
+    go : Dec (i < k) → SameShown (recordAt card i) (recordAt (restoredFirst k card) i)
+    go (yes l) = rw (record-restored k i card h l) (restored-shown (recordAt card i))
+    go (no n) = rw (record-untouched k i card h (omega arith)) (record { answer = refl; symbols = refl })
+
+-- a look at any number, range or not, gives the same on both cards
+pub record SameLook (old new : List ℕ) (number : ℕ) (row : List ℕ) : Type 0 where
+  pub answer : lookOf new number row ≡ lookOf old number row
+  pub symbols : lookWritten new number row ≡ lookWritten old number row
+
+pub first-look : (card : List ℕ) (k number : ℕ) (row : List ℕ) → SameLook card (restoredFirst k card) number row
+first-look card k number row = go (lookAsked (length card) number (length row)) refl
+  where
+    treated : List ℕ
+    treated = restoredFirst k card
+
+    same : lookAsked (length card) number (length row) ≡ lookAsked (length treated) number (length row)
+    same = ap (λ (n : ℕ). lookAsked n number (length row)) (sym (first-size k card))
+
+    go : (v : Verdict) → v ≡ lookAsked (length card) number (length row) → SameLook card treated number row
+    go (Refused q) e =
+        record {
+          answer = sym (answer-by treated number row (Refused q) (e ∙ same)) ∙ answer-by card number row (Refused q) e;
+          symbols = sym (written-by treated number row (Refused q) (e ∙ same)) ∙ written-by card number row (Refused q) e;
+        }
+    go Passed e =
+        let s = first-shown k (number - 1) card (looked-at (length card) number (length row) Passed e refl) in
+        record {
+          answer = sym (answer-by treated number row Passed (e ∙ same)) ∙ s .answer ∙ answer-by card number row Passed e;
+          symbols = sym (written-by treated number row Passed (e ∙ same))
+              ∙ ap₂ (λ (o : Outcome) (x : List ℕ). onAccept o row x) (s .answer) (s .symbols)
+              ∙ written-by card number row Passed e;
+        }
+
+pub look-same : (card : List ℕ) (k number : ℕ) (row : List ℕ) → SameLook card (afterSteps k card .card) number row
+look-same card k number row = rw (at-moment k card) (first-look card (reached k card) number row)
+
+-- a look at record i of a card that shows the same
+look-tells : (card now : List ℕ) (i : ℕ) (row : List ℕ) → i < recordCount (length card) → length row ≡ rowSize
+    → SameLook card now (i + 1) row → Tells card now i row
+look-tells card now i row h s same =
+    let r = recordAt card i in
+    let back : i + 1 - 1 ≡ i = omega arith in
+    let yes = number-yes (recordCount (length card)) (i + 1) (omega arith) (omega arith) in
+    let passed = asked-passed (length card) (i + 1) (length row) (recordCount (length card)) refl true (sym yes) refl s in
+    let answer : lookOf now (i + 1) row ≡ uncounted (recordOf r) =
+    same .answer ∙ sym (answer-by card (i + 1) row Passed passed) ∙ ap (λ (j : ℕ). uncounted (recordOf (recordAt card j))) back in
+    let symbols : lookWritten now (i + 1) row ≡ onAccept (uncounted (recordOf r)) row (symbolsOf r) =
+    same .symbols
+    ∙ sym (written-by card (i + 1) row Passed passed)
+    ∙ ap (λ (j : ℕ). onAccept (uncounted (recordOf (recordAt card j))) row (symbolsOf (recordAt card j))) back in
+    record {
+      symbols = λ k e. (answer ∙ ap uncounted e, symbols ∙ ap (λ (o : Outcome). onAccept (uncounted o) row (symbolsOf r)) e);
+      refusal = λ n e. (answer ∙ ap uncounted e, symbols ∙ ap (λ (o : Outcome). onAccept (uncounted o) row (symbolsOf r)) e);
+    }
+
+pub look-between : LookBetween
+look-between card k i row h s = look-tells card (afterSteps k card .card) i row h s (look-same card k (i + 1) row)
