@@ -555,6 +555,68 @@ static void walks(void) {
     check("its next record stays", next == 1);
 }
 
+/* Five counts with two others before and behind them. */
+typedef struct {
+    uint16_t all[2 + XRS_COUNTS + 2];
+} lent_counts;
+
+static uint16_t *lend_counts(lent_counts *slice, const uint16_t *counts) {
+    memset(slice->all, RIM_BYTE, sizeof slice->all);
+    memcpy(slice->all + 2, counts, XRS_COUNTS * sizeof *counts);
+    return slice->all + 2;
+}
+
+static int holds_counts(const lent_counts *slice, const uint16_t *counts) {
+    lent_counts want;
+    lend_counts(&want, counts);
+    return memcmp(slice->all, want.all, sizeof want.all) == 0;
+}
+
+/* A charge; a bay with its own rewrites, with common ones and with none; and the refusals in their order. */
+static void bays(void) {
+    static const uint16_t charge[XRS_COUNTS] = {100, 100, 100, 100, 600}, paid[XRS_COUNTS] = {100, 100, 99, 100, 600};
+    static const uint16_t few[XRS_COUNTS] = {9, 9, 0, 9, 1}, none[XRS_COUNTS] = {9, 9, 0, 9, 0};
+    static const uint8_t wrong[12] = {0, 0, 0, 0, 0, 5}, far[12] = {1, 1, 1}, mark[1] = {3};
+    uint8_t old[XRS_RECORD_SIZE], marked[XRS_RECORD_SIZE], clean[XRS_RECORD_SIZE], bad[XRS_RECORD_SIZE], *record;
+    lent_counts counts;
+    lent slice;
+    uint16_t *left = lend_counts(&counts, none);
+    make_record(old, wrong, mark, 0);
+    make_record(marked, words[0], mark, 1);
+    make_record(clean, words[0], mark, 0);
+    make_record(bad, far, mark, 0);
+    answers("charge four counts", xrs_charge(left, 4), XRS_REFUSED_LENGTH, 0);
+    answers("charge six counts", xrs_charge(left, 6), XRS_REFUSED_LENGTH, 0);
+    check("a refused charge changes nothing", holds_counts(&counts, none));
+    answers("charge five counts", xrs_charge(left, XRS_COUNTS), XRS_ACCEPTED, 0);
+    check("a new charge", holds_counts(&counts, charge));
+
+    record = lend(&slice, old, 139);
+    answers("restore at bay 2", xrs_bay_restore(2, left, 5, record, 139), XRS_ACCEPTED, 1);
+    check("bay 2 pays one of its own", holds_counts(&counts, paid) && holds(&slice, clean));
+    answers("restore it again", xrs_bay_restore(2, left, 5, record, 139), XRS_ACCEPTED, 0);
+    check("what does not change costs none", holds_counts(&counts, paid) && holds(&slice, clean));
+    left = lend_counts(&counts, few);
+    record = lend(&slice, marked, 139);
+    answers("restore a marked codeword at bay 2", xrs_bay_restore_within(2, left, 5, record, 139, 1), XRS_ACCEPTED, 0);
+    check("bay 2 pays a common one", holds_counts(&counts, none) && holds(&slice, clean));
+
+    record = lend(&slice, old, 139);
+    answers("restore with no rewrite left", xrs_bay_restore(2, left, 5, record, 139), XRS_REFUSED_REWRITE, 0);
+    answers("the same at the reach 1", xrs_bay_restore_within(2, left, 5, record, 139, 1), XRS_REFUSED_REWRITE, 0);
+    answers("the same at the reach 0", xrs_bay_restore_within(2, left, 5, record, 139, 0), XRS_REFUSED_CORRECTABLE, 0);
+    answers("the same at the reach 3", xrs_bay_restore_within(2, left, 5, record, 139, 3), XRS_REFUSED_REACH, 0);
+    answers("restore with four counts", xrs_bay_restore(2, left, 4, record, 139), XRS_REFUSED_LENGTH, 0);
+    answers("restore with six counts", xrs_bay_restore_within(2, left, 6, record, 139, 3), XRS_REFUSED_LENGTH, 0);
+    answers("restore a short record at a bay", xrs_bay_restore(2, left, 5, record, 138), XRS_REFUSED_LENGTH, 0);
+    answers("restore at bay 4", xrs_bay_restore(4, left, 4, record, 138), XRS_REFUSED_BAY, 0);
+    answers("restore at bay 255", xrs_bay_restore_within(255, left, 6, record, 138, 3), XRS_REFUSED_BAY, 0);
+    check("refused bays change nothing", holds_counts(&counts, none) && holds(&slice, old));
+    answers("restore three wrong symbols at a bay", xrs_bay_restore(2, left, 5, bad, 139), XRS_REFUSED_CORRECTABLE, 0);
+    memset(bad, 255, sizeof bad);
+    answers("restore a blank slot at a bay", xrs_bay_restore(2, left, 5, bad, 139), XRS_REFUSED_WIDTH, 0);
+}
+
 /* 29 February 2024, pump 5, and counts from 0 to 127 in the quarter hours. */
 static void make_symbols(uint8_t *symbols) {
     size_t i;
@@ -625,6 +687,7 @@ int main(void) {
     cards();
     conversions();
     walks();
+    bays();
     sheets();
     printf("%u passed, %u failed\n", passed, failed);
     return failed != 0;

@@ -5,17 +5,18 @@
  * 36 or 132): five check symbols, then the q - 1 data symbols (7, 15, 31 or 127).
  *
  * Answers: every call but xrs_check_card has a refusal in the lowest byte of what it returns. The refusal is 0 where the call was accepted;
- * otherwise it is that of the first question answered no, and the bytes above are 0. The questions are put in the order 1, 2, 3, 8, 15, 4,
- * 5, 6, 16, 7, 14, 9, 10, 11, 12, 13 of their refusals, each for all its items before the next; of a record or a card 2 comes before 1,
- * and 17 before all, but in xrs_walk_step behind 2.
- * XRS_REFUSAL gives the refusal. In an answer of 32 bits the rest is one value, which XRS_VALUE gives; in an answer of 64 bits each byte is
- * a value of its own, which XRS_BYTE gives.
+ * otherwise it is that of the first question answered no, and the bytes above are 0. XRS_REFUSAL gives the refusal. In an answer of 32 bits
+ * the rest is one value, which XRS_VALUE gives; in an answer of 64 bits each byte is a value of its own, which XRS_BYTE gives.
  *
- * Memory: a slice is passed as a pointer and its length in bytes. The pointer must not be NULL, also where the length is 0, and must be
- * valid for that many bytes: to read where it is const, else to read and write. Slices passed to one call must not overlap. Any length and
- * any content are allowed: a wrong one is refused. A single number that a call changes is passed as a pointer to it. A call touches no byte
- * outside its slices and numbers, and a refused call changes none inside. What an output (data or a word that is encoded or read, a
- * converted card, a row, a sheet) holds beforehand does not matter.
+ * Questions: they are put in the order 18, 17, 1, 2, 3, 8, 15, 4, 5, 6, 16, 7, 14, 9, 10, 11, 12, 13, 19 of their refusals, each for all
+ * its items before the next. Of a record or a card 2 comes before 1, and in xrs_walk_step before 17.
+ *
+ * Memory: a slice is passed as a pointer and its length, which counts elements: bytes, or numbers of 16 bits where the pointer is one to
+ * these. The pointer must not be NULL, also where the length is 0, and must be valid for that many elements and aligned for them: to read
+ * where it is const, else to read and write. Slices passed to one call must not overlap. Any length and any content are allowed: a wrong
+ * one is refused. A single number that a call changes is passed as a pointer to it. A call touches nothing outside its slices and numbers,
+ * and a refused call changes nothing inside. What an output (data or a word that is encoded or read, a converted card, a row, the counts of
+ * a new charge, a sheet) holds beforehand does not matter.
  *
  * The calls keep no state, so any number of threads may call them at once on memory of their own.
  *
@@ -50,7 +51,9 @@ enum xrs_refusal {
     XRS_REFUSED_UNIQUE = 14,          /* several codewords agree with the word outside five erasures */
     XRS_REFUSED_FOUR_ERASURES = 15,   /* a record has five erasures, and one of the old edition has room for four */
     XRS_REFUSED_REACH = 16,           /* the reach is longer than the one that holds without a reach */
-    XRS_REFUSED_RECORD_NUMBER = 17    /* the card has no record with this number */
+    XRS_REFUSED_RECORD_NUMBER = 17,   /* the card has no record with this number */
+    XRS_REFUSED_BAY = 18,             /* the dock has no bay with this number */
+    XRS_REFUSED_REWRITE = 19          /* no rewrite is left for this bay, own or common */
 };
 
 /* The refusal of an answer, of 32 or of 64 bits. */
@@ -175,6 +178,23 @@ uint32_t xrs_walk_step(uint64_t length, uint64_t *next, uint8_t *card, size_t ca
  * for the row, and like xrs_restore_record; a short last piece with 2, a blank slot with 1.
  */
 uint32_t xrs_look(const uint8_t *card, size_t card_length, uint64_t number, uint8_t *row, size_t row_length);
+
+/* ---- A dock of four bays, 0 to 3, has so many rewrites per charge. A bay pays with its own before the common ones. */
+
+/* The counts of the rewrites that are left: those of bays 0 to 3, then the common ones. */
+#define XRS_COUNTS 5
+
+/* A new charge: 100 rewrites for each bay and 600 common ones (XRS_COUNTS numbers). The value is 0. Refused with 2. */
+uint32_t xrs_charge(uint16_t *left, size_t left_length);
+
+/*
+ * xrs_restore_record and xrs_restore_record_within at a bay, which pays one rewrite where a byte of the record changes. A record that stays
+ * as it is, a refused one and a blank slot cost none. Refused with 18, with 2 for either slice, and like those; last with 19 where the
+ * record would change and no rewrite is left, own or common.
+ */
+uint32_t xrs_bay_restore(uint8_t bay, uint16_t *left, size_t left_length, uint8_t *record, size_t record_length);
+uint32_t xrs_bay_restore_within(
+    uint8_t bay, uint16_t *left, size_t left_length, uint8_t *record, size_t record_length, uint8_t reach);
 
 /* ---- Day sheets: codewords of width 7 whose data symbols are a day's compressor starts, its date and its pump, and then zeros. */
 

@@ -41,6 +41,10 @@ pub enum Refusal {
     Reach,
     /// The card has no record with this number.
     RecordNumber,
+    /// The dock has no bay with this number.
+    Bay,
+    /// No rewrite is left for this bay, own or common.
+    Rewrite,
     /// A refusal number that stands at none of the others. The archive that this crate was written for gives none.
     Unknown(u8),
 }
@@ -66,6 +70,8 @@ impl Refusal {
             Refusal::FourErasures => 15,
             Refusal::Reach => 16,
             Refusal::RecordNumber => 17,
+            Refusal::Bay => 18,
+            Refusal::Rewrite => 19,
             Refusal::Unknown(number) => number,
         }
     }
@@ -80,7 +86,7 @@ impl Refusal {
     pub fn from_number(number: u8) -> Option<Refusal> {
         use Refusal::*;
         let base = [Width, Length, ErasureCount, ErasurePlace, ErasureDistinct, Symbol, Correctable, Padding, Syndrome, Nonzero];
-        let mut known = base.into_iter().chain([SheetWidth, Date, Unused, Unique, FourErasures, Reach, RecordNumber]);
+        let mut known = base.into_iter().chain([SheetWidth, Date, Unused, Unique, FourErasures, Reach, RecordNumber, Bay, Rewrite]);
         let found = known.find(|refusal| refusal.number() == number);
         found.or((number != 0).then_some(Unknown(number)))
     }
@@ -113,6 +119,8 @@ impl std::fmt::Display for Refusal {
             Refusal::FourErasures => "a record has five erasures, and one of the old edition has room for four",
             Refusal::Reach => "the reach is longer than the one that holds without a reach",
             Refusal::RecordNumber => "the card has no record with this number",
+            Refusal::Bay => "the dock has no bay with this number",
+            Refusal::Rewrite => "no rewrite is left for this bay, own or common",
             Refusal::Unknown(number) => return write!(out, "refused with the number {number}, which is not known here"),
         })
     }
@@ -155,6 +163,10 @@ mod raw {
         pub fn xrs_card_to_old(card: *const u8, card_length: usize, out: *mut u8, out_length: usize) -> u32;
         pub fn xrs_walk_step(length: u64, next: *mut u64, card: *mut u8, card_length: usize) -> u32;
         pub fn xrs_look(card: *const u8, card_length: usize, number: u64, row: *mut u8, row_length: usize) -> u32;
+        pub fn xrs_charge(left: *mut u16, left_length: usize) -> u32;
+        pub fn xrs_bay_restore(bay: u8, left: *mut u16, left_length: usize, record: *mut u8, record_length: usize) -> u32;
+        pub fn xrs_bay_restore_within(bay: u8, left: *mut u16, left_length: usize, record: *mut u8, record_length: usize, reach: u8)
+            -> u32;
         pub fn xrs_write_sheet(width: u8, symbols: *const u8, symbols_length: usize, word: *mut u8, word_length: usize) -> u32;
         pub fn xrs_read_sheet(width: u8, word: *const u8, word_length: usize, symbols: *mut u8, symbols_length: usize) -> u32;
     }
@@ -532,6 +544,63 @@ pub const ROW_SIZE: usize = 132;
 /// ```
 pub fn look(card: &[u8], number: u64, row: &mut [u8]) -> Result<(), Refusal> {
     unpack(unsafe { raw::xrs_look(card.as_ptr(), card.len(), number, row.as_mut_ptr(), row.len()) }).map(|_| ())
+}
+
+/// The rewrites that a dock of four bays has left since its last charge. A bay that restores a record whose bytes change pays with one of
+/// its own, or with a common one where it has none left. A record that stays as it is, a refused one and a blank slot cost none.
+///
+/// ```
+/// let mut left = xrs::Counts::default(); // none: the dock was never charged
+/// left.charge().unwrap();
+/// assert_eq!(left, xrs::Counts { own: [100; 4], common: 600 });
+///
+/// let mut record = [0; xrs::RECORD_SIZE];
+/// record[..7].copy_from_slice(&[3, 0, 255, 255, 255, 255, 255]);
+/// record[7] = 5; // a wrong symbol
+/// assert_eq!(left.restore(2, &mut record), Ok(1));
+/// assert_eq!(left.restore(2, &mut record), Ok(0)); // nothing to rewrite
+/// assert_eq!(left.own, [100, 100, 99, 100]);
+///
+/// record[7] = 5;
+/// assert_eq!(xrs::Counts::default().restore(2, &mut record), Err(xrs::Refusal::Rewrite));
+/// assert_eq!(left.restore(4, &mut record), Err(xrs::Refusal::Bay));
+/// ```
+#[derive(Clone, Copy, Debug, Default, PartialEq, Eq)]
+pub struct Counts {
+    /// Those of bays 0 to 3.
+    pub own: [u16; 4],
+    /// Those that go to whoever comes first.
+    pub common: u16,
+}
+
+impl Counts {
+    /// Hands the five counts to a call, as a pointer and their number, and takes what it leaves.
+    fn lend(&mut self, call: impl FnOnce(*mut u16, usize) -> u32) -> Result<u32, Refusal> {
+        let [a, b, c, d] = self.own;
+        let mut left = [a, b, c, d, self.common];
+        let packed = call(left.as_mut_ptr(), left.len());
+        let [own @ .., common] = left;
+        *self = Counts { own, common };
+        unpack(packed)
+    }
+
+    /// Sets all counts afresh: 100 for each bay, and 600 common ones.
+    pub fn charge(&mut self) -> Result<(), Refusal> {
+        self.lend(|left, length| unsafe { raw::xrs_charge(left, length) }).map(|_| ())
+    }
+
+    /// `restore_record` at a bay, 0 to 3, which pays for the rewrite. Where none is left, own or common, the call is refused, and record
+    /// and counts stay as they are. That is asked last, and only where the record would change.
+    pub fn restore(&mut self, bay: u8, record: &mut [u8]) -> Result<u8, Refusal> {
+        let (bytes, size) = (record.as_mut_ptr(), record.len());
+        self.lend(|left, length| unsafe { raw::xrs_bay_restore(bay, left, length, bytes, size) }).map(|count| count as u8)
+    }
+
+    /// `restore_record_within` at a bay, in the same way.
+    pub fn restore_within(&mut self, bay: u8, record: &mut [u8], reach: u8) -> Result<u8, Refusal> {
+        let (bytes, size) = (record.as_mut_ptr(), record.len());
+        self.lend(|left, length| unsafe { raw::xrs_bay_restore_within(bay, left, length, bytes, size, reach) }).map(|count| count as u8)
+    }
 }
 
 /// The symbols of a day sheet, c_0 to c_99: the compressor starts in each quarter hour, then year, month, day and pump.

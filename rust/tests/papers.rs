@@ -2,7 +2,7 @@
 
 mod reference;
 
-use reference::{card, masked, search, walk};
+use reference::{card, dock, masked, search, walk};
 
 /// The zero word of width 3 with other symbols at some places.
 fn zeros_but(symbols: &[(usize, u8)]) -> Vec<u8> {
@@ -166,4 +166,24 @@ fn k_a_walk_and_a_look() {
         assert_eq!((walk::look(card, 32, 132), walk::look(card, 33, 132), walk::look(card, 31, 131)), (Err(1), Err(2), Err(2)));
         assert_eq!((walk::look(card, 0, 0), walk::look(card, 34, 132)), (Err(17), Err(17)));
     }
+}
+
+#[test]
+fn l_one_dock_four_bays() {
+    assert_eq!(dock::charge(5), Ok(vec![100, 100, 100, 100, 600]));
+    assert_eq!(dock::charge(4), Err(2));
+    let (wrong, clean) = (card::record(3, &zeros_but(&[(5, 1)]), &[]), card::record(3, &[0; 12], &[]));
+    let mut left = dock::charge(5).expect("five counts");
+    for number in 1..=700 {
+        let (changed, then, restored) = dock::restore(1, &left, &wrong, None).expect("a rewrite is left");
+        assert_eq!((changed, &restored, then.iter().sum::<u16>()), (1, &clean, 1000 - number));
+        left = then;
+    }
+    assert_eq!(left, [100, 0, 100, 100, 0]);
+    assert_eq!(dock::restore(1, &left, &wrong, None), Err(19));
+    assert_eq!(dock::restore(1, &left, &wrong, Some(0)), Err(7));
+    assert_eq!(dock::restore(1, &left, &clean, None), Ok((0, left.clone(), clean.clone())));
+    assert_eq!(dock::restore(1, &left, &card::record(3, &[0; 12], &[3]), None), Err(19));
+    assert_eq!(dock::restore(0, &left, &card::record(3, &[0; 12], &[3]), None), Ok((0, vec![99, 0, 100, 100, 0], clean)));
+    assert_eq!((dock::restore(4, &[], &[], None), dock::restore(3, &left[1..], &wrong, None)), (Err(18), Err(2)));
 }

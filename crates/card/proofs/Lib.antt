@@ -2,6 +2,7 @@
 pub mod Layouts
 pub mod Recording
 pub mod Again
+pub mod Refusals
 pub mod Blank
 pub mod Numbering
 pub mod Checking

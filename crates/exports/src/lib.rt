@@ -3,6 +3,7 @@
 // A slice is passed as its pointer, then its length.
 ghost use mathlib.Core.Path.{_≡_};
 ghost use Prim.Native.Nat.{_<_};
+ghost use lib.ListN.{length};
 ghost use Rattle.field.specs.Answer.{outcome, sumOf, productOf, powerOf, inverseOf};
 ghost use Rattle.code.specs.Call.{displayOf, displayed, withinOf, withinWritten};
 ghost use Rattle.code.specs.Call.{done, membership, repair, encodeOf, encodeWritten, testOf, readOf, readWritten, restoreOf, restoreWritten};
@@ -11,8 +12,10 @@ ghost use Rattle.card.specs.Card.{firstRefused};
 ghost use Rattle.card.specs.Conversion.{toNewOf, toNewWritten, toOldOf, toOldWritten};
 ghost use Rattle.walk.specs.Walk.{walkAt, stepOf, stepState, stepWritten};
 ghost use Rattle.walk.specs.Look.{lookOf, lookWritten};
+ghost use Rattle.dock.specs.declared.Reach.the-variants.{Longest, Named};
 ghost use Rattle.sheet.specs.Call.{writeSheetOf, writeSheetWritten, readSheetOf, readSheetWritten};
 ghost use Rattle.exports.specs.Packed.{packed, packedBytes, checked};
+ghost use Rattle.exports.specs.Counts.{countsSize, rewritesOf, countsOf, chargeOf, chargeWritten, bayAsked, bayOf, bayCounts, bayWritten};
 use card::CardCheck;
 use card::cards::check;
 use card::conversion::card_to_new;
@@ -21,8 +24,13 @@ use card::records::restore_record;
 use card::records::restore_record_within;
 use code::Membership;
 use code::Repair;
+use dock::Reach;
+use dock::Rewrites;
+use dock::bay_restore_at;
+use dock::charge;
 use field::Answer;
 use field::Exponent;
+use field::Question;
 use field::Verdict;
 use sheet::read_sheet;
 use sheet::write_sheet;
@@ -300,4 +308,98 @@ pub extern "C" fn xrs_look(card: &[u8], number: u64, row: &mut [u8]) -> u32
     ensures written { λ r. ⌜ now (row .exit) ≡ lookWritten (now (card .entry)) number (now (row .entry)) ⌝ }
 {
     pack_verdict(look_into(card, number as usize, row))
+}
+
+// The counts of the dock: those of bays 0 to 3, and then the common ones.
+const COUNTS: usize = 5;
+
+fn read_counts(left: &[u16]) -> Rewrites
+    requires { ⌜ length (now left) ≡ countsSize ⌝ }
+    ensures { λ r. ⌜ r ≡ rewritesOf (now (left .entry)) ⌝ }
+{
+    Rewrites {
+        own: [left[0], left[1], left[2], left[3]],
+        common: left[4],
+    }
+}
+
+fn write_counts(left: &mut [u16], counts: Rewrites)
+    requires { ⌜ length (now left) ≡ countsSize ⌝ }
+    ensures { λ r. ⌜ now (left .exit) ≡ countsOf counts ⌝ }
+{
+    let own = counts.own;
+    left[0] = own[0];
+    left[1] = own[1];
+    left[2] = own[2];
+    left[3] = own[3];
+    left[4] = counts.common;
+}
+
+// A new charge sets the five counts afresh.
+#[no_mangle]
+pub extern "C" fn xrs_charge(left: &mut [u16]) -> u32
+    ensures answer { λ r. ⌜ r ≡ packed (chargeOf (now (left .entry))) ⌝ }
+    ensures written { λ r. ⌜ now (left .exit) ≡ chargeWritten (now (left .entry)) ⌝ }
+{
+    if left.len() != COUNTS {
+        return pack_verdict(Verdict::Refused(Question::Length));
+    }
+    write_counts(left, charge());
+    0
+}
+
+// Is the bay below 4, and are there five counts?
+fn ask_bay(bay: u8, n: usize) -> Verdict
+    ensures { λ r. ⌜ r ≡ bayAsked bay n ⌝ }
+{
+    if 3 < bay {
+        return Verdict::Refused(Question::Bay);
+    }
+    if n != COUNTS {
+        return Verdict::Refused(Question::Length);
+    }
+    Verdict::Passed
+}
+
+// A bay's call on lent counts, at the reach that is named or at the longest.
+fn restore_in_bay(bay: u8, left: &mut [u16], bytes: &mut [u8], reach: Reach) -> u32
+    ensures answer { λ r. ⌜ r ≡ packed (bayOf bay reach (now (left .entry)) (now (bytes .entry))) ⌝ }
+    ensures counts { λ r. ⌜ now (left .exit) ≡ bayCounts bay reach (now (left .entry)) (now (bytes .entry)) ⌝ }
+    ensures written { λ r. ⌜ now (bytes .exit) ≡ bayWritten bay reach (now (left .entry)) (now (bytes .entry)) ⌝ }
+{
+    match ask_bay(bay, left.len()) {
+        Verdict::Passed => {
+            let served = bay_restore_at(bay, read_counts(left), bytes, reach);
+            let rest = served.left;
+            write_counts(left, rest);
+            let answer = served.answer;
+            pack_repair(answer)
+        }
+        Verdict::Refused(q) => pack_verdict(Verdict::Refused(q)),
+    }
+}
+
+// A bay's call: a record of which a byte would change is restored only where a rewrite is left to the bay, and counted.
+#[no_mangle]
+pub extern "C" fn xrs_bay_restore(bay: u8, left: &mut [u16], bytes: &mut [u8]) -> u32
+    ensures answer { λ r. ⌜ r ≡ packed (bayOf bay Longest (now (left .entry)) (now (bytes .entry))) ⌝ }
+    ensures counts { λ r. ⌜ now (left .exit) ≡ bayCounts bay Longest (now (left .entry)) (now (bytes .entry)) ⌝ }
+    ensures written { λ r. ⌜ now (bytes .exit) ≡ bayWritten bay Longest (now (left .entry)) (now (bytes .entry)) ⌝ }
+{
+    restore_in_bay(bay, left, bytes, Reach::Longest)
+}
+
+// The same with a reach.
+#[no_mangle]
+pub extern "C" fn xrs_bay_restore_within(
+    bay: u8,
+    left: &mut [u16],
+    bytes: &mut [u8],
+    reach: u8,
+) -> u32
+    ensures answer { λ r. ⌜ r ≡ packed (bayOf bay (Named reach) (now (left .entry)) (now (bytes .entry))) ⌝ }
+    ensures counts { λ r. ⌜ now (left .exit) ≡ bayCounts bay (Named reach) (now (left .entry)) (now (bytes .entry)) ⌝ }
+    ensures written { λ r. ⌜ now (bytes .exit) ≡ bayWritten bay (Named reach) (now (left .entry)) (now (bytes .entry)) ⌝ }
+{
+    restore_in_bay(bay, left, bytes, Reach::Named(reach))
 }

@@ -48,6 +48,10 @@ pub enum Question {
     Reach,
     // Is the number that of a record of the card, or of the next one of a walk?
     RecordNumber,
+    // Is the bay below 4?
+    Bay,
+    // Is a rewrite left to the bay, its own or a common one?
+    Rewrite,
 }
 
 // Every question so far was answered yes, or one was answered no.
@@ -87,6 +91,8 @@ pub fn refusal_number(q: Question) -> u8
         Question::FourErasures => 15,
         Question::Reach => 16,
         Question::RecordNumber => 17,
+        Question::Bay => 18,
+        Question::Rewrite => 19,
     }
 }
 

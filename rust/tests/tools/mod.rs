@@ -133,6 +133,20 @@ pub fn look(card: &[u8], number: u64, row: &[u8]) -> (Result<(), Refusal>, Vec<u
     lend(card, row, |card, row| xrs::look(card, number, row))
 }
 
+/// A bay's call on copies of the counts and the record, with a reach or without: the number of changes with the counts or the refusal, and
+/// the record afterwards. A refused call leaves the counts.
+pub fn bay_restore(bay: u8, left: xrs::Counts, record: &[u8], reach: Option<u8>) -> (Result<(u8, xrs::Counts), Refusal>, Vec<u8>) {
+    lend(&[], record, |_, record| {
+        let mut after = left;
+        let answer = match reach {
+            Some(reach) => after.restore_within(bay, record, reach),
+            None => after.restore(bay, record),
+        };
+        assert!(answer.is_ok() || after == left, "a refused call left {after:?} of {left:?}");
+        answer.map(|changed| (changed, after))
+    })
+}
+
 /// `xrs::write_sheet` on copies of the slices: its answer, and the word afterwards.
 pub fn write_sheet(width: u8, symbols: &[u8], word: &[u8]) -> (Result<(), Refusal>, Vec<u8>) {
     lend(symbols, word, |symbols, word| xrs::write_sheet(width, symbols, word))
