@@ -669,6 +669,62 @@ static void sheets(void) {
     check("refused sheets write nothing", holds(&word, old) && holds(&read, old));
 }
 
+/* A clean record of width 7 that holds the day sheet of these symbols. */
+static void make_sheet(uint8_t *record, const uint8_t *symbols) {
+    static const uint8_t header[7] = {7, 0, 255, 255, 255, 255, 255};
+    memcpy(record, header, sizeof header);
+    xrs_write_sheet(7, symbols, XRS_SHEET_SIZE, record + 7, 132);
+}
+
+/* The answer is a refusal alone, or the chosen side and the three totals. */
+static void compares(const char *name, uint64_t answer, uint32_t refusal, uint32_t side, const uint32_t *totals) {
+    int k, right = XRS_REFUSAL(answer) == refusal && XRS_BYTE(answer, 1) == side && answer >> 40 == 0;
+    for (k = 0; k < 3; k++) {
+        right = right && XRS_BYTE(answer, 2 + k) == totals[k];
+    }
+    check(name, right);
+}
+
+static void compared_sheets(void) {
+    static const uint32_t none[3] = {0}, totals[3] = {93, 1, 2};
+    uint8_t symbols[XRS_SHEET_SIZE], first[2 * XRS_RECORD_SIZE], second[XRS_RECORD_SIZE], want[97] = {0}, old[97];
+    uint8_t *controller, *cupboard, *row;
+    lent a, b, signs;
+    memset(old, 9, sizeof old);
+    memset(first, 255, sizeof first);
+    make_symbols(symbols);
+    make_sheet(first + XRS_RECORD_SIZE, symbols);
+    symbols[0]++;
+    symbols[1]--;
+    symbols[94] = 127;
+    make_sheet(second, symbols);
+    want[0] = want[94] = 2;
+    want[1] = 1;
+    controller = lend(&a, first, 278);
+    cupboard = lend(&b, second, 139);
+    row = lend(&signs, old, 96);
+    compares("compare two sheets", xrs_compare_sheets(controller, 278, 2, cupboard, 139, 1, row, 96), XRS_ACCEPTED, 1, totals);
+    check("the signs, and both cards as they were", holds(&signs, want) && holds(&a, first) && holds(&b, second));
+    first[XRS_RECORD_SIZE + 7] ^= 1;
+    controller = lend(&a, first, 278);
+    compares("compare with a wrong symbol", xrs_compare_sheets(controller, 278, 2, cupboard, 139, 1, row, 96), XRS_ACCEPTED, 2, totals);
+    check("a card that is not repaired", holds(&a, first) && holds(&b, second));
+
+    row = lend(&signs, old, 97);
+    compares("compare record 3", xrs_compare_sheets(first, 278, 3, second, 139, 1, row, 95), XRS_REFUSED_RECORD_NUMBER, 0, none);
+    compares("compare with record 0", xrs_compare_sheets(first, 278, 1, second, 139, 0, row, 95), XRS_REFUSED_RECORD_NUMBER, 0, none);
+    compares("compare with 95 signs", xrs_compare_sheets(first, 278, 1, second, 139, 1, row, 95), XRS_REFUSED_LENGTH, 0, none);
+    compares("compare with 97 signs", xrs_compare_sheets(first, 278, 2, second, 139, 1, row, 97), XRS_REFUSED_LENGTH, 0, none);
+    compares("compare a blank slot", xrs_compare_sheets(first, 278, 1, second, 138, 1, row, 96), XRS_REFUSED_WIDTH, 0, none);
+    compares("compare with a short piece", xrs_compare_sheets(first, 278, 2, second, 138, 1, row, 96), XRS_REFUSED_LENGTH, 0, none);
+    symbols[XRS_SHEET_PUMP]++;
+    make_sheet(second, symbols);
+    compares("compare two pumps", xrs_compare_sheets(first, 278, 2, second, 139, 1, row, 96), XRS_REFUSED_SAME_DAY, 0, none);
+    make_record(second, words[0], old, 0);
+    compares("compare with width 3", xrs_compare_sheets(first, 278, 2, second, 139, 1, row, 96), XRS_REFUSED_SHEET_WIDTH, 0, none);
+    check("refused comparisons write nothing", holds(&signs, old));
+}
+
 int main(void) {
     static const uint8_t widths[4] = {3, 4, 5, 7};
     size_t i;
@@ -689,6 +745,7 @@ int main(void) {
     walks();
     bays();
     sheets();
+    compared_sheets();
     printf("%u passed, %u failed\n", passed, failed);
     return failed != 0;
 }

@@ -8,15 +8,15 @@
  * otherwise it is that of the first question answered no, and the bytes above are 0. XRS_REFUSAL gives the refusal. In an answer of 32 bits
  * the rest is one value, which XRS_VALUE gives; in an answer of 64 bits each byte is a value of its own, which XRS_BYTE gives.
  *
- * Questions: they are put in the order 18, 17, 1, 2, 3, 8, 15, 4, 5, 6, 16, 7, 14, 9, 10, 11, 12, 13, 19 of their refusals, each for all
- * its items before the next. Of a record or a card 2 comes before 1, and in xrs_walk_step before 17.
+ * Questions: they are put in the order 18, 17, 1, 2, 3, 8, 15, 4, 5, 6, 16, 7, 14, 9, 10, 11, 12, 13, 20, 19 of their refusals, each for
+ * all its items before the next. Of a record or a card 2 comes before 1, and in xrs_walk_step before 17.
  *
  * Memory: a slice is passed as a pointer and its length, which counts elements: bytes, or numbers of 16 bits where the pointer is one to
  * these. The pointer must not be NULL, also where the length is 0, and must be valid for that many elements and aligned for them: to read
- * where it is const, else to read and write. Slices passed to one call must not overlap. Any length and any content are allowed: a wrong
- * one is refused. A single number that a call changes is passed as a pointer to it. A call touches nothing outside its slices and numbers,
- * and a refused call changes nothing inside. What an output (data or a word that is encoded or read, a converted card, a row, the counts of
- * a new charge, a sheet) holds beforehand does not matter.
+ * where it is const, else to read and write. Slices passed to one call must not overlap, unless both are const. Any length and any content
+ * are allowed: a wrong one is refused. A single number that a call changes is passed as a pointer to it. A call touches nothing outside its
+ * slices and numbers, and a refused call changes nothing inside. What an output (data or a word that is encoded or read, a converted card,
+ * a row, the counts of a new charge, a sheet, signs) holds beforehand does not matter.
  *
  * The calls keep no state, so any number of threads may call them at once on memory of their own.
  *
@@ -53,7 +53,8 @@ enum xrs_refusal {
     XRS_REFUSED_REACH = 16,           /* the reach is longer than the one that holds without a reach */
     XRS_REFUSED_RECORD_NUMBER = 17,   /* the card has no record with this number */
     XRS_REFUSED_BAY = 18,             /* the dock has no bay with this number */
-    XRS_REFUSED_REWRITE = 19          /* no rewrite is left for this bay, own or common */
+    XRS_REFUSED_REWRITE = 19,         /* no rewrite is left for this bay, own or common */
+    XRS_REFUSED_SAME_DAY = 20         /* two sheets are not of one pump and day */
 };
 
 /* The refusal of an answer, of 32 or of 64 bits. */
@@ -221,6 +222,18 @@ uint32_t xrs_write_sheet(uint8_t width, const uint8_t *symbols, size_t symbols_l
  * and 13.
  */
 uint32_t xrs_read_sheet(uint8_t width, const uint8_t *word, size_t word_length, uint8_t *symbols, size_t symbols_length);
+
+/*
+ * Compares two sheets of one day, one by the pump's controller and one by the meter cupboard, each a record of its card, counted from 1.
+ * The records are restored in a copy and read as xrs_read_sheet reads; both cards stay as they are. Into signs (XRS_SHEET_QUARTERS bytes)
+ * go 0 where the counts of a quarter hour are equal, 1 where the controller's is higher, 2 where the cupboard's is. XRS_BYTE(answer, 1) is
+ * 1 where the controller's record is chosen and 2 where the cupboard's is: the one with fewer unmarked places changed, the controller's
+ * where they are as many; it is to be found, not repaired, on its card. Bytes 2, 3 and 4 are the number of signs 0, 1 and 2, which make 96.
+ * Refused with 17 for either number, with 2 for signs, then like xrs_restore_record and xrs_read_sheet, all of the controller's questions
+ * before the cupboard's, and last with 20.
+ */
+uint64_t xrs_compare_sheets(const uint8_t *controller, size_t controller_length, uint64_t controller_number, const uint8_t *cupboard,
+    size_t cupboard_length, uint64_t cupboard_number, uint8_t *signs, size_t signs_length);
 
 #ifdef __cplusplus
 }

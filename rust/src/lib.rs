@@ -45,6 +45,8 @@ pub enum Refusal {
     Bay,
     /// No rewrite is left for this bay, own or common.
     Rewrite,
+    /// Two sheets are not of one pump and day.
+    SameDay,
     /// A refusal number that stands at none of the others. The archive that this crate was written for gives none.
     Unknown(u8),
 }
@@ -72,6 +74,7 @@ impl Refusal {
             Refusal::RecordNumber => 17,
             Refusal::Bay => 18,
             Refusal::Rewrite => 19,
+            Refusal::SameDay => 20,
             Refusal::Unknown(number) => number,
         }
     }
@@ -86,7 +89,8 @@ impl Refusal {
     pub fn from_number(number: u8) -> Option<Refusal> {
         use Refusal::*;
         let base = [Width, Length, ErasureCount, ErasurePlace, ErasureDistinct, Symbol, Correctable, Padding, Syndrome, Nonzero];
-        let mut known = base.into_iter().chain([SheetWidth, Date, Unused, Unique, FourErasures, Reach, RecordNumber, Bay, Rewrite]);
+        let later = [SheetWidth, Date, Unused, Unique, FourErasures, Reach, RecordNumber, Bay, Rewrite, SameDay];
+        let mut known = base.into_iter().chain(later);
         let found = known.find(|refusal| refusal.number() == number);
         found.or((number != 0).then_some(Unknown(number)))
     }
@@ -121,6 +125,7 @@ impl std::fmt::Display for Refusal {
             Refusal::RecordNumber => "the card has no record with this number",
             Refusal::Bay => "the dock has no bay with this number",
             Refusal::Rewrite => "no rewrite is left for this bay, own or common",
+            Refusal::SameDay => "the two sheets are not of one pump and day",
             Refusal::Unknown(number) => return write!(out, "refused with the number {number}, which is not known here"),
         })
     }
@@ -169,6 +174,16 @@ mod raw {
             -> u32;
         pub fn xrs_write_sheet(width: u8, symbols: *const u8, symbols_length: usize, word: *mut u8, word_length: usize) -> u32;
         pub fn xrs_read_sheet(width: u8, word: *const u8, word_length: usize, symbols: *mut u8, symbols_length: usize) -> u32;
+        pub fn xrs_compare_sheets(
+            controller: *const u8,
+            controller_length: usize,
+            controller_number: u64,
+            cupboard: *const u8,
+            cupboard_length: usize,
+            cupboard_number: u64,
+            signs: *mut u8,
+            signs_length: usize,
+        ) -> u64;
     }
 }
 
@@ -656,6 +671,81 @@ pub fn write_sheet(width: u8, symbols: &[u8], word: &mut [u8]) -> Result<(), Ref
 /// ```
 pub fn read_sheet(width: u8, word: &[u8], symbols: &mut [u8]) -> Result<(), Refusal> {
     unpack(unsafe { raw::xrs_read_sheet(width, word.as_ptr(), word.len(), symbols.as_mut_ptr(), symbols.len()) }).map(|_| ())
+}
+
+/// Whose sheet: the one by the pump's controller, or the one by the meter cupboard.
+#[derive(Clone, Copy, Debug, PartialEq, Eq)]
+pub enum Side {
+    Controller,
+    Cupboard,
+}
+
+/// Two sheets of one pump and day side by side.
+#[derive(Clone, Copy, Debug, PartialEq, Eq)]
+pub struct Comparison<'a> {
+    /// For each quarter hour 0 where the counts are equal, 1 where the controller's is higher, 2 where the cupboard's is.
+    pub signs: [u8; SHEET_QUARTERS],
+    /// The quarter hours with equal counts. The three totals make 96.
+    pub equal: u8,
+    /// Those in which the controller's count is higher.
+    pub controller_higher: u8,
+    /// Those in which the cupboard's count is higher.
+    pub cupboard_higher: u8,
+    /// The sheet with fewer unmarked places changed; the controller's where they are as many.
+    pub chosen: Side,
+    /// The chosen record's part of its card, as it was lent and not repaired.
+    pub part: &'a [u8],
+}
+
+/// Compares two sheets of one day, each a record of its card, counted from 1. The records are restored in a copy and read as `read_sheet`
+/// reads; both cards stay as they are. A number that is none of its card is refused first; then the controller's refusal comes before the
+/// cupboard's.
+///
+/// ```
+/// let mut symbols = [0; xrs::SHEET_SIZE];
+/// symbols[xrs::SHEET_YEAR..].copy_from_slice(&[24, 2, 29, 5]);
+/// let mut controller = [0; xrs::RECORD_SIZE];
+/// controller[..7].copy_from_slice(&[7, 0, 255, 255, 255, 255, 255]);
+/// let mut cupboard = controller;
+/// symbols[30] = 4;
+/// xrs::write_sheet(7, &symbols, &mut controller[7..]).unwrap();
+/// symbols[30] = 3;
+/// xrs::write_sheet(7, &symbols, &mut cupboard[7..]).unwrap();
+/// controller[7] ^= 1; // a wrong symbol
+///
+/// let compared = xrs::compare_sheets(&controller, 1, &cupboard, 1).unwrap();
+/// assert_eq!(compared.signs[30], 1);
+/// assert_eq!((compared.equal, compared.controller_higher, compared.cupboard_higher), (95, 1, 0));
+/// assert_eq!(compared.chosen, xrs::Side::Cupboard);
+/// assert_eq!(compared.part, cupboard);
+/// assert_eq!(xrs::compare_sheets(&controller, 1, &cupboard, 2), Err(xrs::Refusal::RecordNumber));
+/// ```
+pub fn compare_sheets<'a>(
+    controller: &'a [u8],
+    controller_number: u64,
+    cupboard: &'a [u8],
+    cupboard_number: u64,
+) -> Result<Comparison<'a>, Refusal> {
+    let mut signs = [0; SHEET_QUARTERS];
+    let packed = unsafe {
+        raw::xrs_compare_sheets(
+            controller.as_ptr(),
+            controller.len(),
+            controller_number,
+            cupboard.as_ptr(),
+            cupboard.len(),
+            cupboard_number,
+            signs.as_mut_ptr(),
+            signs.len(),
+        )
+    };
+    let [side, equal, controller_higher, cupboard_higher, ..] = unpack_bytes(packed)?;
+    let (chosen, card, number) = match side {
+        1 => (Side::Controller, controller, controller_number),
+        _ => (Side::Cupboard, cupboard, cupboard_number),
+    };
+    let part = card.chunks(RECORD_SIZE).nth(number.saturating_sub(1) as usize).unwrap_or_default();
+    Ok(Comparison { signs, equal, controller_higher, cupboard_higher, chosen, part })
 }
 
 #[cfg(test)]

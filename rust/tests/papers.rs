@@ -2,7 +2,7 @@
 
 mod reference;
 
-use reference::{card, dock, masked, search, walk};
+use reference::{card, compare, dock, masked, search, sheet, walk};
 
 /// The zero word of width 3 with other symbols at some places.
 fn zeros_but(symbols: &[(usize, u8)]) -> Vec<u8> {
@@ -143,7 +143,7 @@ fn i_width_4() {
     assert_eq!(search::restore(6, &[0; 68], &[]), Err(1));
     let record = |count| card::judge(&card::record(4, &[0; 20], &[0, 1, 2, 3][..count]));
     assert_eq!((record(3), record(4)), (Ok(0), Err(3)));
-    assert_eq!(reference::sheet::write(4, &[0; 100], 20), Err(11));
+    assert_eq!(sheet::write(4, &[0; 100], 20), Err(11));
 }
 
 #[test]
@@ -186,4 +186,31 @@ fn l_one_dock_four_bays() {
     assert_eq!(dock::restore(1, &left, &card::record(3, &[0; 12], &[3]), None), Err(19));
     assert_eq!(dock::restore(0, &left, &card::record(3, &[0; 12], &[3]), None), Ok((0, vec![99, 0, 100, 100, 0], clean)));
     assert_eq!((dock::restore(4, &[], &[], None), dock::restore(3, &left[1..], &wrong, None)), (Err(18), Err(2)));
+}
+
+/// A clean record of width 7 with these counts and what follows them.
+fn sheet_of(counts: &[(usize, u8)], dated: [u8; 4]) -> Vec<u8> {
+    let mut symbols = vec![0; 100];
+    counts.iter().for_each(|&(quarter, count)| symbols[quarter] = count);
+    symbols[96..].copy_from_slice(&dated);
+    card::record(7, &sheet::write(7, &symbols, 132).expect("a date that exists"), &[])
+}
+
+#[test]
+fn m_controller_and_meter_cupboard() {
+    let day = [24, 2, 29, 5];
+    let controller = sheet_of(&[(0, 127), (1, 3), (95, 1)], day);
+    let mut cupboard = sheet_of(&[(0, 127), (1, 2), (95, 2)], day);
+    let compared = |number, cupboard: &[u8]| compare::compare((&controller, number), (cupboard, 1), 96);
+    let same = compared(1, &cupboard).expect("one pump and day");
+    assert_eq!((same.signs[0], same.signs[1], same.signs[95], same.totals, same.cupboard_chosen), (0, 1, 2, [94, 1, 1], false));
+    assert_eq!((compared(0, &cupboard), compared(2, &cupboard), compared(1, &[])), (Err(17), Err(17), Err(17)));
+    assert_eq!(compared(1, &sheet_of(&[], [24, 2, 28, 5])), Err(20));
+    assert_eq!(compared(1, &sheet_of(&[], [24, 2, 29, 6])), Err(20));
+    assert_eq!((compared(1, &cupboard[1..]), compared(1, &[255; 139])), (Err(2), Err(1)));
+    cupboard[7] ^= 1;
+    assert_eq!(compared(1, &cupboard).map(|same| same.cupboard_chosen), Ok(false));
+    let worse = compare::compare((&cupboard, 1), (&controller, 1), 96).expect("one pump and day");
+    assert_eq!((worse.totals, worse.cupboard_chosen), ([94, 1, 1], true));
+    assert_eq!(compare::compare((&cupboard, 1), (&controller, 1), 95), Err(2));
 }

@@ -5,6 +5,7 @@ mod tools;
 
 use reference::sheet::{exists, DAYS, SIZE};
 use reference::{items, order, places};
+use tools::sheets::random_symbols;
 use tools::{encode, read_sheet, refusal, write_sheet, Chance, Tally, BAD_WIDTHS};
 use xrs::Refusal::{Date, Length, SheetWidth, Symbol, Syndrome, Unused, Width};
 
@@ -14,14 +15,6 @@ const N: usize = 132;
 fn dated(year: u8, month: u8, day: u8) -> Vec<u8> {
     let mut symbols = vec![0; SIZE];
     symbols[96..].copy_from_slice(&[year, month, day, 5]);
-    symbols
-}
-
-/// Random symbols with a date that exists.
-fn random_symbols(chance: &mut Chance) -> Vec<u8> {
-    let mut symbols = chance.symbols(SIZE, 128);
-    symbols[97] = 1 + chance.below(12) as u8;
-    symbols[98] = 1 + chance.below(28) as u8;
     symbols
 }
 

@@ -7,7 +7,7 @@ use reference::card::{record, HEADER, RECORD};
 use reference::walk::{self, alone, records, ROW, STEP};
 use reference::WIDTHS;
 use tools::wear::{codeword, worn_card};
-use tools::{look, restore_record, walk_step, wanted, Chance, Tally};
+use tools::{look, other_numbers, restore_record, walk_step, wanted, Chance, Tally};
 use xrs::Refusal::{self, Length, RecordNumber, Width};
 use xrs::Walk;
 
@@ -90,11 +90,6 @@ fn rows() {
             assert_eq!(look(&record(width, &word, &[1]), 1, &[old; ROW]), (Ok(()), row.clone()), "width {width}");
         }
     }
-}
-
-/// Numbers of records that a card of so many has not.
-fn other_numbers(count: u64) -> [u64; 8] {
-    [0, count + 1, count + 2, count + 256, count + (1 << 32), u64::MAX / RECORD as u64 + 1, u64::MAX - 1, u64::MAX]
 }
 
 /// The number is asked first, then the length of the row, then the record.

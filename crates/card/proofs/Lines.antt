@@ -79,12 +79,12 @@ module _ (s : Progress) (batch : List ℕ) where
 -- ---- two parts, the first of j whole slots
 
 module _ (a b : List ℕ) where
-  record-front : (i j : ℕ) → i < j → j * recordSize ≤ length a → recordAt (a ++ b) i ≡ recordAt a i
+  pub record-front : (i j : ℕ) → i < j → j * recordSize ≤ length a → recordAt (a ++ b) i ≡ recordAt a i
   record-front i j l h =
       ap (take recordSize) (drop-append-le (i * recordSize) a b (omega arith))
       ∙ take-append-le recordSize (drop (i * recordSize) a) b (simp length-drop (omega arith))
 
-  record-behind : (i j : ℕ) → length a ≡ j * recordSize → recordAt (a ++ b) (j + i) ≡ recordAt b i
+  pub record-behind : (i j : ℕ) → length a ≡ j * recordSize → recordAt (a ++ b) (j + i) ≡ recordAt b i
   record-behind i j h =
       let place : (j + i) * recordSize ≡ length a + i * recordSize = omega arith in
       ap (λ (n : ℕ). take recordSize (drop n (a ++ b))) place ∙ ap (take recordSize) (drop-append-add a b (i * recordSize))

@@ -21,7 +21,8 @@ use field::Verdict;
 // The layout of a record. Functions that conversions use too take the number k of erasure bytes of the edition.
 pub(crate) const ERASURE_BYTES: usize = 5;
 
-const HEADER: usize = 2 + ERASURE_BYTES;
+// The symbols start here.
+pub const HEADER: usize = 2 + ERASURE_BYTES;
 
 pub const RECORD: usize = HEADER + 132;
 

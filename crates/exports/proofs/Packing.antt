@@ -5,7 +5,7 @@ use Rattle.field.specs.Question.{Outcome, accepted, refused, refusal}
 use Rattle.field.specs.declared.Question.{Question}
 use Rattle.card.specs.declared.CardCheck.{CardCheck}
 use Rattle.card.specs.declared.CardCheck.the-variants.{AllAccepted, Refused}
-use Rattle.exports.specs.Packed.{packed, checked}
+use Rattle.exports.specs.Packed.{packed, packedTotals, checked}
 
 -- w is x, and the answer a holds the value x
 pub value-packed : {A : Type 0} (out : A → Outcome) (holding : ℕ → A) (a : A) (x w : ℕ) → w ≡ x → out (holding x) ≡ accepted x → a ≡ holding x → 256 * w ≡ packed (out a)
@@ -24,3 +24,8 @@ check-all r x h e = ap checked (sym e ∙ h)
 
 pub check-some : (r x : CardCheck) (k : ℕ) → r ≡ x → r ≡ Refused k → k ≡ checked x
 check-some r x k h e = ap checked (sym e ∙ h)
+
+-- ---- a comparison
+
+pub totals-same : {n n′ e e′ a a′ b b′ : ℕ} → n ≡ n′ → e ≡ e′ → a ≡ a′ → b ≡ b′ → packedTotals n e a b ≡ packedTotals n′ e′ a′ b′
+totals-same p q r s = cc

@@ -15,6 +15,10 @@ packed (refused n) = n
 abbrev pub packedBytes : ℕ → List ℕ → ℕ
 packedBytes n bs = n + 256 * (getD bs 0 0 + 256 * (getD bs 1 0 + 256 * (getD bs 2 0 + 256 * (getD bs 3 0 + 256 * getD bs 4 0))))
 
+-- an answer and three totals above it: refusal + 2^8 choice + 2^16 equal + 2^24 controller's higher + 2^32 cupboard's higher
+abbrev pub packedTotals : ℕ → ℕ → ℕ → ℕ → ℕ
+packedTotals n e a b = n + 65536 * (e + 256 * (a + 256 * b))
+
 -- the number that the card check returns: a record's, or 0, which is none's
 abbrev pub checked : CardCheck → ℕ
 checked AllAccepted = 0

@@ -14,7 +14,8 @@ ghost use Rattle.walk.specs.Walk.{walkAt, stepOf, stepState, stepWritten};
 ghost use Rattle.walk.specs.Look.{lookOf, lookWritten};
 ghost use Rattle.dock.specs.declared.Reach.the-variants.{Longest, Named};
 ghost use Rattle.sheet.specs.Call.{writeSheetOf, writeSheetWritten, readSheetOf, readSheetWritten};
-ghost use Rattle.exports.specs.Packed.{packed, packedBytes, checked};
+ghost use Rattle.report.specs.Compare.{choice, intoOf, intoTotal, intoWritten};
+ghost use Rattle.exports.specs.Packed.{packed, packedBytes, packedTotals, checked};
 ghost use Rattle.exports.specs.Counts.{countsSize, rewritesOf, countsOf, chargeOf, chargeWritten, bayAsked, bayOf, bayCounts, bayWritten};
 use card::CardCheck;
 use card::cards::check;
@@ -32,6 +33,8 @@ use field::Answer;
 use field::Exponent;
 use field::Question;
 use field::Verdict;
+use report::compare::Choice;
+use report::compare::compare_into;
 use sheet::read_sheet;
 use sheet::write_sheet;
 use walk::Walk;
@@ -100,6 +103,27 @@ fn pack_bytes(refusal: u32, bytes: [u8; 5]) -> u64
     let d = wide64(bytes[3]);
     let e = wide64(bytes[4]);
     refusal as u64 + 256 * (a + 256 * (b + 256 * (c + 256 * (d + 256 * e))))
+}
+
+// The choice of a comparison: 1 for the controller's sheet, 2 for the cupboard's.
+fn pack_choice(c: Choice) -> u32
+    ensures { λ r. ⌜ r ≡ packed (choice c) ⌝ }
+{
+    match c {
+        Choice::Controller => 256,
+        Choice::Cupboard => 512,
+        Choice::Refused(q) => wide(field::refusal_number(q)),
+    }
+}
+
+// A packed answer and the three totals above it.
+fn pack_totals(answer: u32, equal: u8, controller: u8, cupboard: u8) -> u64
+    ensures { λ r. ⌜ r ≡ packedTotals answer equal controller cupboard ⌝ }
+{
+    let a = wide64(equal);
+    let b = wide64(controller);
+    let c = wide64(cupboard);
+    answer as u64 + 65536 * (a + 256 * (b + 256 * c))
 }
 
 #[no_mangle]
@@ -402,4 +426,29 @@ pub extern "C" fn xrs_bay_restore_within(
     ensures written { λ r. ⌜ now (bytes .exit) ≡ bayWritten bay (Named reach) (now (left .entry)) (now (bytes .entry)) ⌝ }
 {
     restore_in_bay(bay, left, bytes, Reach::Named(reach))
+}
+
+// Compares two day sheets, and writes the sign of each quarter hour into `signs`; above the choice stand the three totals.
+#[no_mangle]
+pub extern "C" fn xrs_compare_sheets<'a>(
+    controller: &'a [u8],
+    i: u64,
+    cupboard: &'a [u8],
+    j: u64,
+    signs: &mut [u8],
+) -> u64
+    ensures answer { λ r.
+        ⌜
+        r
+        ≡ packedTotals (packed (intoOf (now (controller .entry)) i (now (cupboard .entry)) j (now (signs .entry))))
+        (intoTotal (now (controller .entry)) i (now (cupboard .entry)) j (now (signs .entry)) 0)
+        (intoTotal (now (controller .entry)) i (now (cupboard .entry)) j (now (signs .entry)) 1)
+        (intoTotal (now (controller .entry)) i (now (cupboard .entry)) j (now (signs .entry)) 2)
+        ⌝ }
+    ensures written { λ r.
+        ⌜ now (signs .exit) ≡ intoWritten (now (controller .entry)) i (now (cupboard .entry)) j (now (signs .entry)) ⌝ }
+{
+    let c = compare_into(controller, i as usize, cupboard, j as usize, signs);
+    let choice = c.choice;
+    pack_totals(pack_choice(choice), c.equal, c.controller, c.cupboard)
 }

@@ -52,6 +52,8 @@ pub enum Question {
     Bay,
     // Is a rewrite left to the bay, its own or a common one?
     Rewrite,
+    // Are the two day sheets of one pump and date?
+    SameDay,
 }
 
 // Every question so far was answered yes, or one was answered no.
@@ -93,6 +95,7 @@ pub fn refusal_number(q: Question) -> u8
         Question::RecordNumber => 17,
         Question::Bay => 18,
         Question::Rewrite => 19,
+        Question::SameDay => 20,
     }
 }
 

@@ -14,14 +14,14 @@ use Rattle.field.specs.declared.Question.the-variants.{Width, Length, Symbol, S
 use Rattle.field.specs.declared.Verdict.the-variants.{Passed}
 use Rattle.field.proofs.Ask.{ask-yes, ask-next, and-true-left, and-true-right}
 use Rattle.code.specs.Word.{checks, places, items, at, Codeword, encode, dataOf}
-use Rattle.code.specs.Call.{allZero, zeroSyndromes, readAsked}
+use Rattle.code.specs.Call.{allZero, zeroSyndromes}
 use Rattle.code.specs.Demands.{Data}
 use Rattle.code.proofs.Questions.{allBelow-means, allBelow-holds, allZero-below}
-use Rattle.code.proofs.Passing.{syndromes-zero, read-passes as data-passes}
+use Rattle.code.proofs.Passing.{syndromes-zero, zero-syndromes}
 use Rattle.field.proofs.Widths.{field-of}
 use Rattle.code.proofs.Encoding.{encode-codeword, codeword-encode}
 use Rattle.sheet.specs.Sheet.{sheetWidth, sheetSize, unusedSize, isDated, sheetData, sheetWord, symbolsOf, unusedOf}
-use Rattle.sheet.specs.Call.{writeSheetAsked, readSheetAsked}
+use Rattle.sheet.specs.Call.{writeSheetAsked, contentAsked, readSheetAsked}
 use Rattle.sheet.specs.Demands.{SheetSymbols, DaySheet, Writable, Readable}
 
 -- ---- zeros
@@ -123,25 +123,19 @@ write-means m ss word p1 =
 -- ---- reading
 
 module _ (w : List ℕ) where
-  -- a codeword passes question 9, since the reader of data takes it
-  syndromes-pass : Codeword sheetWidth w → zeroSyndromes sheetWidth w ≡ true
-  unfolding readAsked
-  syndromes-pass C =
-      let out : List ℕ = replicate (items sheetWidth) 0 in
-      let p1 = data-passes sheetWidth refl w out C refl in
-      let p2 = ask-next (eqb (length w) (places sheetWidth)) Length _ p1 in
-      ask-yes (zeroSyndromes sheetWidth w) Syndrome Passed (ask-next (allBelow (order sheetWidth) w) Symbol _ p2)
+  -- a codeword passes the questions before those about its content
+  pub codeword-content : (m k : ℕ) → isWidth m ≡ true → Codeword m w → k ≡ sheetSize → readSheetAsked m w k ≡ contentAsked m w
+  unfolding readSheetAsked
+  codeword-content m k h C e = simp (
+    h,
+    eq-eqb (length w) (places m) (C .size),
+    eq-eqb k sheetSize e,
+    allBelow-holds (order m) w (λ i l. C .symbols i (omega (arith, C .size))),
+    zero-syndromes m w (C .zero-syndromes),
+  )
 
   pub read-passes : (k : ℕ) → DaySheet w → k ≡ sheetSize → readSheetAsked sheetWidth w k ≡ Passed
-  unfolding readSheetAsked
-  read-passes k D e = simp (
-    eq-eqb (length w) (places sheetWidth) (D .codeword .size),
-    eq-eqb k sheetSize e,
-    allBelow-holds (order sheetWidth) w (λ i l. D .codeword .symbols i (omega (arith, D .codeword .size))),
-    syndromes-pass (D .codeword),
-    D .date,
-    unused-zero w D,
-  )
+  read-passes k D e = codeword-content sheetWidth k refl (D .codeword) e ∙ simp (D .date, unused-zero w D)
 
 pub read-means : (m : ℕ) (w ss : List ℕ) → readSheetAsked m w (length ss) ≡ Passed → Readable m w ss
 unfolding readSheetAsked

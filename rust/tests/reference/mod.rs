@@ -2,6 +2,7 @@
 #![allow(dead_code)] // each test file uses its part
 
 pub mod card;
+pub mod compare;
 pub mod dock;
 pub mod masked;
 pub mod search;

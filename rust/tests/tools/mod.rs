@@ -1,12 +1,19 @@
 //! What the tests share: slices lent out of larger buffers, and numbers by chance.
 #![allow(dead_code)] // each test file uses its part
 
+pub mod sheets;
 pub mod wear;
 
+use std::ops::Range;
 use xrs::Refusal;
 
 /// Numbers that are no width.
 pub const BAD_WIDTHS: [u8; 8] = [0, 1, 2, 6, 8, 9, 128, 255];
+
+/// Numbers of records that a card of so many has not.
+pub fn other_numbers(count: u64) -> [u64; 8] {
+    [0, count + 1, count + 2, count + 256, count + (1 << 32), u64::MAX / xrs::RECORD_SIZE as u64 + 1, u64::MAX - 1, u64::MAX]
+}
 
 /// As many bytes stand before and after each lent slice.
 const RIM: usize = 24;
@@ -155,6 +162,23 @@ pub fn write_sheet(width: u8, symbols: &[u8], word: &[u8]) -> (Result<(), Refusa
 /// `xrs::read_sheet` on copies of the slices: its answer, and the symbols afterwards.
 pub fn read_sheet(width: u8, word: &[u8], symbols: &[u8]) -> (Result<(), Refusal>, Vec<u8>) {
     lend(word, symbols, |word, symbols| xrs::read_sheet(width, word, symbols))
+}
+
+/// A comparison of two sheets: its signs, its totals, the chosen side, and which bytes of that side's card are the part handed back.
+pub type Compared = (Vec<u8>, [u8; 3], xrs::Side, Range<usize>);
+
+/// `xrs::compare_sheets` on copies of the cards.
+pub fn compare_sheets(controller: &[u8], number: u64, cupboard: &[u8], other_number: u64) -> Result<Compared, Refusal> {
+    let (answer, after) = lend(controller, cupboard, |controller, cupboard| {
+        let cupboard = &*cupboard;
+        let found = xrs::compare_sheets(controller, number, cupboard, other_number)?;
+        let card = if found.chosen == xrs::Side::Controller { controller } else { cupboard };
+        let start = found.part.as_ptr() as usize - card.as_ptr() as usize;
+        let totals = [found.equal, found.controller_higher, found.cupboard_higher];
+        Ok((found.signs.to_vec(), totals, found.chosen, start..start + found.part.len()))
+    });
+    assert_eq!(after, cupboard, "the cupboard's card was changed");
+    answer
 }
 
 /// The answer of the reference, its number as a refusal.

@@ -1,0 +1,4 @@
+-- Laws of day sheets on cards. Assumes nothing.
+pub mod Days
+pub mod Comparing
+pub mod Demands

@@ -1,0 +1,59 @@
+-- `report::compare::count` meets its contract. Before turn i the sign stood n times. Assumes nothing.
+use borrow.Author.Needs.{needs}
+use mathlib.Core.Path.{_≡_}
+use mathlib.Core.Logic.{⊎-elim}
+use Prim.Native.Nat.{_+_, _-_, _≤_}
+use native.Mathlib.Omega.{arith}
+use lib.ListN.{length, drop}
+use Rattle.code.specs.Demands.{occurs}
+use Rattle.report.proofs.Comparing.{occurs-start, occurs-yes, occurs-no, occurs-end}
+use Rattle.report.proofs.compare.count.Statement.{statement}
+use Rattle.report.proofs.compare.count.Tie as tie
+
+abbrev Inv-loop : tie.InvT-loop
+Inv-loop signs s n₀ i₀ n i = (n ≤ i) × (i ≤ length signs) × (n + occurs s (drop i signs) ≡ occurs s signs)
+
+abbrev μ-loop : tie.MeasureT-loop
+μ-loop signs s n₀ i₀ n i = length signs - i
+
+loop-holds : tie.Need-loop-holds Inv-loop μ-loop
+loop-holds c = let a = c .args in (omega arith, omega arith, occurs-start (a .s) (a .signs .now))
+
+shared-slice-read-if1 : tie.Need-shared-slice-read-if1 Inv-loop μ-loop
+shared-slice-read-if1 c = search needs
+
+add-n : tie.Need-add-n Inv-loop μ-loop
+add-n c = search needs
+
+add-i : tie.Need-add-i Inv-loop μ-loop
+add-i c = search needs
+
+loop-less : tie.Need-loop-less Inv-loop μ-loop
+loop-less c = search needs
+
+loop-again : tie.Need-loop-again Inv-loop μ-loop
+loop-again c =
+    ⊎-elim
+    (λ w. (omega arith, omega arith, search (needs, occurs-yes)))
+    (λ w. (omega arith, omega arith, search (needs, occurs-no)))
+    (c .if1 .came)
+
+returns : tie.Need-returns Inv-loop μ-loop
+returns c =
+    let l = c .before .loop in
+    let a = c .before .before .args in
+    occurs-end (a .s) (a .signs .now) (l .i) (l .n) (l .inv .2) (c .loop-test .left)
+
+pub count-spec : {M : Type 1} → statement M
+count-spec =
+    tie.close
+    (tie.spec
+    Inv-loop
+    μ-loop
+    loop-holds
+    shared-slice-read-if1
+    add-n
+    add-i
+    loop-less
+    loop-again
+    returns)

@@ -1,0 +1,64 @@
+-- `report::compare::sign_row` meets its contract. Assumes nothing.
+use borrow.Author.Needs.{needs}
+use Prim.Native.Nat.{ℕ, _-_}
+use lib.ListN.{getD}
+use Rattle.code.proofs.Loops.{Filled, filled-start, filled-on, filled-end}
+use Rattle.sheet.specs.Sheet.{quarters}
+use Rattle.report.specs.Compare.{signOf, sheetSigns}
+use Rattle.report.proofs.Comparing.{sheet-signs-long, sheet-signs-at}
+use Rattle.report.proofs.compare.sign_row.Statement.{statement}
+use Rattle.report.proofs.compare.sign_row.Tie as tie
+
+abbrev Inv-loop : tie.InvT-loop
+Inv-loop controller cupboard signs₀ i₀ signs i = Filled ℕ 0 quarters Unit (λ k. signOf (getD controller k 0) (getD cupboard k 0)) signs i
+
+abbrev μ-loop : tie.MeasureT-loop
+μ-loop controller cupboard signs₀ i₀ signs i = quarters - i
+
+loop-holds : tie.Need-loop-holds Inv-loop μ-loop
+loop-holds c = filled-start (search needs)
+
+shared-slice-read-sign : tie.Need-shared-slice-read-sign Inv-loop μ-loop
+shared-slice-read-sign c = search needs
+
+shared-slice-read-sign-2 : tie.Need-shared-slice-read-sign-2 Inv-loop μ-loop
+shared-slice-read-sign-2 c = search needs
+
+sign-requires : tie.Need-sign-requires Inv-loop μ-loop
+sign-requires c κs = search needs
+
+array-write-signs : tie.Need-array-write-signs Inv-loop μ-loop
+array-write-signs c = search needs
+
+add-i : tie.Need-add-i Inv-loop μ-loop
+add-i c = search needs
+
+loop-less : tie.Need-loop-less Inv-loop μ-loop
+loop-less c = search needs
+
+loop-again : tie.Need-loop-again Inv-loop μ-loop
+loop-again c = filled-on (c .before .before .before .before .loop .inv) (c .before .before .before .loop-test .taken) (λ u. c .sign .ensures)
+
+returns : tie.Need-returns Inv-loop μ-loop
+returns c =
+    let s = c .before .before .before .before in
+    let a = s .args in
+    filled-end (c .before .loop .inv) (c .loop-test .left) tt (sheetSigns (a .controller .now) (a .cupboard .now))
+    (sheet-signs-long (a .controller .now) (a .cupboard .now) (s .pre .0) (s .pre .1))
+    (sheet-signs-at (a .controller .now) (a .cupboard .now) (s .pre .0) (s .pre .1))
+
+pub sign-row-spec : {M : Type 1} → statement M
+sign-row-spec =
+    tie.close
+    (tie.spec
+    Inv-loop
+    μ-loop
+    loop-holds
+    shared-slice-read-sign
+    shared-slice-read-sign-2
+    sign-requires
+    array-write-signs
+    add-i
+    loop-less
+    loop-again
+    returns)

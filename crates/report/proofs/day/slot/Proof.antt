@@ -1,0 +1,69 @@
+-- `report::day::slot` meets its contract. Assumes nothing.
+use borrow.Author.Needs.{needs}
+use mathlib.Core.Path.{sym, _∙_}
+use Prim.Native.Nat.{_≤_}
+use native.Mathlib.Omega.{arith}
+use lib.ListN.{length}
+use Rattle.card.specs.Card.{recordCount}
+use Rattle.card.proofs.Numbering.{number-low, number-high}
+use Rattle.report.proofs.Days.{slot-some, slot-none}
+use Rattle.report.proofs.day.slot.Statement.{statement}
+use Rattle.report.proofs.day.slot.Tie as tie
+
+has-record-requires : tie.Need-has-record-requires
+has-record-requires c κs = search needs
+
+-- the card has a record of this number
+first : (s : tie.Then1) → 1 ≤ s .before .before .before .args .number
+first s =
+    let a = s .before .before .before .args in
+    number-low (recordCount (length (a .card .now))) (a .number) (sym (s .before .has-record .ensures) ∙ s .if1 .taken)
+
+most : (s : tie.Then1) → s .before .before .before .args .number ≤ recordCount (length (s .before .before .before .args .card .now))
+most s =
+    let a = s .before .before .before .args in
+    number-high (recordCount (length (a .card .now))) (a .number) (sym (s .before .has-record .ensures) ∙ s .if1 .taken)
+
+sub-record-from : tie.Need-sub-record-from
+sub-record-from c = omega (arith, first c)
+
+mul-record-from : tie.Need-mul-record-from
+mul-record-from c = omega (arith, first c, most c)
+
+record-from-requires : tie.Need-record-from-requires
+record-from-requires c κs = omega (arith, first c, most c)
+
+sub-result : tie.Need-sub-result
+sub-result c = search needs
+
+part-result-start : tie.Need-part-result-start
+part-result-start c = search needs
+
+part-result-end : tie.Need-part-result-end
+part-result-end c = search needs
+
+returns : tie.Need-returns
+returns c =
+    let s = c .before .before in
+    let a = s .before .before .args in
+    c .record-from .ensures ∙ slot-some (a .card .now) (a .number) (s .has-record .result) (s .has-record .ensures) (c .before .if1 .taken)
+
+returns-2 : tie.Need-returns-2
+returns-2 c =
+    let s = c .before .before in
+    let a = s .before .before .args in
+    slot-none (a .card .now) (a .number) (s .has-record .result) (s .has-record .ensures) (c .before .if1 .left)
+
+pub slot-spec : {M : Type 1} → statement M
+slot-spec =
+    tie.close
+    (tie.spec
+    has-record-requires
+    sub-record-from
+    mul-record-from
+    record-from-requires
+    sub-result
+    part-result-start
+    part-result-end
+    returns
+    returns-2)

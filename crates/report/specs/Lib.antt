@@ -1,0 +1,4 @@
+-- The definitions of day sheets on cards. Assumes nothing.
+pub mod Day
+pub mod Compare
+pub mod Demands
