@@ -725,6 +725,57 @@ static void compared_sheets(void) {
     check("refused comparisons write nothing", holds(&signs, old));
 }
 
+/* A window over two sheets of a pump, one of another, a blank slot, a record of width 3 and a short last piece. */
+static void windows(void) {
+    enum { LENGTH = 5 * XRS_RECORD_SIZE + 7 };
+    uint8_t symbols[XRS_SHEET_SIZE], card[LENGTH], *bytes;
+    uint64_t all[2 + XRS_REPORT_SIZE + 2], want[2 + XRS_REPORT_SIZE + 2], *report = all + 2, *numbers = want + 2;
+    lent slice;
+    memset(card, 255, sizeof card);
+    memset(all, 9, sizeof all);
+    memset(want, 9, sizeof want);
+    make_symbols(symbols);
+    memset(symbols, 2, XRS_SHEET_QUARTERS);
+    symbols[30] = symbols[35] = 127;
+    make_sheet(card, symbols);
+    symbols[XRS_SHEET_DAY] = 28;
+    symbols[30] = 0;
+    make_sheet(card + XRS_RECORD_SIZE, symbols);
+    symbols[XRS_SHEET_PUMP] = 127;
+    make_sheet(card + 3 * XRS_RECORD_SIZE, symbols);
+    make_record(card + 4 * XRS_RECORD_SIZE, words[0], symbols, 0);
+    bytes = lend(&slice, card, LENGTH);
+    answers("an empty window", xrs_window(bytes, LENGTH, 30, 30, report, 1154), XRS_REFUSED_WINDOW, 0);
+    answers("a window behind the day", xrs_window(bytes, LENGTH, 95, 97, report, 1155), XRS_REFUSED_WINDOW, 0);
+    answers("a short report", xrs_window(bytes, LENGTH, 30, 31, report, 1154), XRS_REFUSED_LENGTH, 0);
+    answers("a long report", xrs_window(bytes, LENGTH, 30, 31, report, 1156), XRS_REFUSED_LENGTH, 0);
+    check("refused windows write nothing", memcmp(all, want, sizeof all) == 0);
+
+    memset(numbers, 0, XRS_REPORT_SIZE * sizeof *numbers);
+    numbers[XRS_PUMP_SHEETS(5)] = 2;
+    numbers[XRS_PUMP_SUM(5)] = 127 + 4 * 2 + 4 * 2;
+    numbers[XRS_PUMP_FULL(5)] = 1;
+    numbers[XRS_PUMP_HIGHEST(5)] = 127;
+    numbers[XRS_PUMP_YEAR(5)] = 24;
+    numbers[XRS_PUMP_MONTH(5)] = 2;
+    numbers[XRS_PUMP_DAY(5)] = 29;
+    numbers[XRS_PUMP_QUOTIENT(5)] = 71;
+    numbers[XRS_PUMP_REMAINDER(5)] = 1;
+    numbers[XRS_PUMP_SHEETS(127)] = 1;
+    numbers[XRS_PUMP_SUM(127)] = numbers[XRS_PUMP_QUOTIENT(127)] = 4 * 2;
+    numbers[XRS_PUMP_HIGHEST(127)] = 2;
+    numbers[XRS_PUMP_YEAR(127)] = 24;
+    numbers[XRS_PUMP_MONTH(127)] = 2;
+    numbers[XRS_PUMP_DAY(127)] = 28;
+    numbers[XRS_REPORT_REFUSED] = 2;
+    numbers[XRS_REPORT_BLANK] = 1;
+    answers("a window", xrs_window(bytes, LENGTH, 30, 35, report, XRS_REPORT_SIZE), XRS_ACCEPTED, 0);
+    check("its report, and the card as it was", memcmp(all, want, sizeof all) == 0 && holds(&slice, card));
+    answers("the whole day", xrs_window(bytes, LENGTH, 0, 96, report, XRS_REPORT_SIZE), XRS_ACCEPTED, 0);
+    check("its first date of the highest count", report[XRS_PUMP_FULL(5)] == 3 && report[XRS_PUMP_DAY(5)] == 28);
+    check("no further record", report[XRS_REPORT_FURTHER] == 0);
+}
+
 int main(void) {
     static const uint8_t widths[4] = {3, 4, 5, 7};
     size_t i;
@@ -746,6 +797,7 @@ int main(void) {
     bays();
     sheets();
     compared_sheets();
+    windows();
     printf("%u passed, %u failed\n", passed, failed);
     return failed != 0;
 }

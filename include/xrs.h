@@ -8,15 +8,15 @@
  * otherwise it is that of the first question answered no, and the bytes above are 0. XRS_REFUSAL gives the refusal. In an answer of 32 bits
  * the rest is one value, which XRS_VALUE gives; in an answer of 64 bits each byte is a value of its own, which XRS_BYTE gives.
  *
- * Questions: they are put in the order 18, 17, 1, 2, 3, 8, 15, 4, 5, 6, 16, 7, 14, 9, 10, 11, 12, 13, 20, 19 of their refusals, each for
- * all its items before the next. Of a record or a card 2 comes before 1, and in xrs_walk_step before 17.
+ * Questions: they are put in the order 21, 18, 17, 1, 2, 3, 8, 15, 4, 5, 6, 16, 7, 14, 9, 10, 11, 12, 13, 20, 19 of their refusals, each
+ * for all its items before the next. Of a record or a card 2 comes before 1, and in xrs_walk_step before 17.
  *
- * Memory: a slice is passed as a pointer and its length, which counts elements: bytes, or numbers of 16 bits where the pointer is one to
- * these. The pointer must not be NULL, also where the length is 0, and must be valid for that many elements and aligned for them: to read
- * where it is const, else to read and write. Slices passed to one call must not overlap, unless both are const. Any length and any content
- * are allowed: a wrong one is refused. A single number that a call changes is passed as a pointer to it. A call touches nothing outside its
- * slices and numbers, and a refused call changes nothing inside. What an output (data or a word that is encoded or read, a converted card,
- * a row, the counts of a new charge, a sheet, signs) holds beforehand does not matter.
+ * Memory: a slice is passed as a pointer and its length, which counts elements: bytes, or numbers of 16 or 64 bits where the pointer is one
+ * to these. The pointer must not be NULL, also where the length is 0, and must be valid for that many elements and aligned for them: to
+ * read where it is const, else to read and write. Slices passed to one call must not overlap, unless both are const. Any length and any
+ * content are allowed: a wrong one is refused. A single number that a call changes is passed as a pointer to it. A call touches nothing
+ * outside its slices and numbers, and a refused call changes nothing inside. What an output (data or a word that is encoded or read, a
+ * converted card, a row, the counts of a new charge, a sheet, signs, a report) holds beforehand does not matter.
  *
  * The calls keep no state, so any number of threads may call them at once on memory of their own.
  *
@@ -54,7 +54,8 @@ enum xrs_refusal {
     XRS_REFUSED_RECORD_NUMBER = 17,   /* the card has no record with this number */
     XRS_REFUSED_BAY = 18,             /* the dock has no bay with this number */
     XRS_REFUSED_REWRITE = 19,         /* no rewrite is left for this bay, own or common */
-    XRS_REFUSED_SAME_DAY = 20         /* two sheets are not of one pump and day */
+    XRS_REFUSED_SAME_DAY = 20,        /* two sheets are not of one pump and day */
+    XRS_REFUSED_WINDOW = 21           /* the first quarter hour of a window is not below its end, or the end is above 96 */
 };
 
 /* The refusal of an answer, of 32 or of 64 bits. */
@@ -234,6 +235,32 @@ uint32_t xrs_read_sheet(uint8_t width, const uint8_t *word, size_t word_length, 
  */
 uint64_t xrs_compare_sheets(const uint8_t *controller, size_t controller_length, uint64_t controller_number, const uint8_t *cupboard,
     size_t cupboard_length, uint64_t cupboard_number, uint8_t *signs, size_t signs_length);
+
+/* The numbers of a report: nine for each pump, 0 to 127, then three. */
+#define XRS_REPORT_SIZE 1155
+
+/* Where those of a pump stand. Without sheets all are 0. */
+#define XRS_PUMP_SHEETS(pump) (9 * (pump))        /* the day sheets that were read */
+#define XRS_PUMP_SUM(pump) (9 * (pump) + 1)       /* the sum of the starts in the window; a count of 127 enters as 127 */
+#define XRS_PUMP_FULL(pump) (9 * (pump) + 2)      /* the number of counts of 127 in the window */
+#define XRS_PUMP_HIGHEST(pump) (9 * (pump) + 3)   /* the highest count of one quarter hour in the window */
+#define XRS_PUMP_YEAR(pump) (9 * (pump) + 4)      /* its earliest date: the year less 2000, .. */
+#define XRS_PUMP_MONTH(pump) (9 * (pump) + 5)     /* .. the month .. */
+#define XRS_PUMP_DAY(pump) (9 * (pump) + 6)       /* .. and the day */
+#define XRS_PUMP_QUOTIENT(pump) (9 * (pump) + 7)  /* the sum's mean per sheet, rounded down, .. */
+#define XRS_PUMP_REMAINDER(pump) (9 * (pump) + 8) /* .. and what is then left of the sum */
+
+/* Where the three others stand. */
+#define XRS_REPORT_REFUSED 1152 /* the records that were refused or are no day sheets */
+#define XRS_REPORT_BLANK 1153   /* the blank slots */
+#define XRS_REPORT_FURTHER 1154 /* 1 where there is a record behind the 1,000,000 that are looked at, else 0 */
+
+/*
+ * The starts of each pump over a card, in the quarter hours from first on and before end, into the report (XRS_REPORT_SIZE numbers).
+ * Records are read as restored in a copy; the card stays as it is. At most 1,000,000 records are looked at, blank ones included. The value
+ * is 0. Refused with 21, then with 2.
+ */
+uint32_t xrs_window(const uint8_t *card, size_t card_length, uint8_t first, uint8_t end, uint64_t *report, size_t report_length);
 
 #ifdef __cplusplus
 }

@@ -47,6 +47,8 @@ pub enum Refusal {
     Rewrite,
     /// Two sheets are not of one pump and day.
     SameDay,
+    /// The first quarter hour of a window is not below its end, or the end is above 96.
+    Window,
     /// A refusal number that stands at none of the others. The archive that this crate was written for gives none.
     Unknown(u8),
 }
@@ -75,6 +77,7 @@ impl Refusal {
             Refusal::Bay => 18,
             Refusal::Rewrite => 19,
             Refusal::SameDay => 20,
+            Refusal::Window => 21,
             Refusal::Unknown(number) => number,
         }
     }
@@ -89,7 +92,7 @@ impl Refusal {
     pub fn from_number(number: u8) -> Option<Refusal> {
         use Refusal::*;
         let base = [Width, Length, ErasureCount, ErasurePlace, ErasureDistinct, Symbol, Correctable, Padding, Syndrome, Nonzero];
-        let later = [SheetWidth, Date, Unused, Unique, FourErasures, Reach, RecordNumber, Bay, Rewrite, SameDay];
+        let later = [SheetWidth, Date, Unused, Unique, FourErasures, Reach, RecordNumber, Bay, Rewrite, SameDay, Window];
         let mut known = base.into_iter().chain(later);
         let found = known.find(|refusal| refusal.number() == number);
         found.or((number != 0).then_some(Unknown(number)))
@@ -126,6 +129,7 @@ impl std::fmt::Display for Refusal {
             Refusal::Bay => "the dock has no bay with this number",
             Refusal::Rewrite => "no rewrite is left for this bay, own or common",
             Refusal::SameDay => "the two sheets are not of one pump and day",
+            Refusal::Window => "the first quarter hour of the window is not below its end, or the end is above 96",
             Refusal::Unknown(number) => return write!(out, "refused with the number {number}, which is not known here"),
         })
     }
@@ -184,6 +188,7 @@ mod raw {
             signs: *mut u8,
             signs_length: usize,
         ) -> u64;
+        pub fn xrs_window(card: *const u8, card_length: usize, first: u8, end: u8, report: *mut u64, report_length: usize) -> u32;
     }
 }
 
@@ -748,6 +753,73 @@ pub fn compare_sheets<'a>(
     Ok(Comparison { signs, equal, controller_higher, cupboard_higher, chosen, part })
 }
 
+/// The starts of one pump in a window of the day. Without sheets all is 0.
+#[derive(Clone, Copy, Debug, Default, PartialEq, Eq)]
+pub struct Pump {
+    /// The day sheets that were read.
+    pub sheets: u64,
+    /// The sum of the starts in the window. A count of 127, which means 127 or more, enters as 127.
+    pub sum: u64,
+    /// The number of counts of 127 in the window.
+    pub full: u64,
+    /// The highest count of one quarter hour in the window.
+    pub highest: u8,
+    /// Its earliest date: the year less 2000, the month and the day.
+    pub date: [u8; 3],
+    /// The sum's mean per sheet, rounded down.
+    pub quotient: u64,
+    /// What is then left of the sum.
+    pub remainder: u64,
+}
+
+/// What `window` tells of a card. The sheets of all pumps, the refused and the blank records are the records looked at.
+#[derive(Clone, Debug, PartialEq, Eq)]
+pub struct Report {
+    /// Pumps 0 to 127.
+    pub pumps: [Pump; 128],
+    /// The records that were refused or are no day sheets.
+    pub refused: u64,
+    /// The blank slots.
+    pub blank: u64,
+    /// Is there a record behind the 1,000,000 that are looked at?
+    pub further: bool,
+}
+
+/// The numbers of a pump in the report of `xrs_window`.
+const PUMP_NUMBERS: usize = 9;
+
+/// The starts of each pump over a card, in the quarter hours from `first` on and before `end`. Records are read as restored in a copy; the
+/// card stays as it is. At most 1,000,000 records are looked at, blank ones included. The first quarter hour must be below the end, and the
+/// end at most 96.
+///
+/// ```
+/// let mut symbols = [0; xrs::SHEET_SIZE];
+/// symbols[30] = 4; // four starts from 7:30 on
+/// symbols[31] = 127; // 127 or more in the next quarter hour
+/// symbols[xrs::SHEET_YEAR..].copy_from_slice(&[24, 2, 29, 5]);
+/// let mut card = [255; 2 * xrs::RECORD_SIZE]; // the second slot is blank
+/// card[..2].copy_from_slice(&[7, 0]);
+/// xrs::write_sheet(7, &symbols, &mut card[7..xrs::RECORD_SIZE]).unwrap();
+///
+/// let report = xrs::window(&card, 28, 36).unwrap(); // from 7:00 to 9:00
+/// let pump = report.pumps[5];
+/// assert_eq!((pump.sheets, pump.sum, pump.full), (1, 131, 1));
+/// assert_eq!((pump.highest, pump.date), (127, [24, 2, 29]));
+/// assert_eq!((report.refused, report.blank, report.further), (0, 1, false));
+/// assert_eq!(xrs::window(&card, 30, 31).unwrap().pumps[5].sum, 4);
+/// assert_eq!(xrs::window(&card, 30, 30), Err(xrs::Refusal::Window));
+/// ```
+pub fn window(card: &[u8], first: u8, end: u8) -> Result<Report, Refusal> {
+    let mut numbers = [0; 128 * PUMP_NUMBERS + 3];
+    unpack(unsafe { raw::xrs_window(card.as_ptr(), card.len(), first, end, numbers.as_mut_ptr(), numbers.len()) })?;
+    let [rows @ .., refused, blank, further] = numbers;
+    let pumps = std::array::from_fn(|pump| {
+        let [sheets, sum, full, highest, year, month, day, quotient, remainder] = std::array::from_fn(|k| rows[PUMP_NUMBERS * pump + k]);
+        Pump { sheets, sum, full, highest: highest as u8, date: [year, month, day].map(|part| part as u8), quotient, remainder }
+    });
+    Ok(Report { pumps, refused, blank, further: further == 1 })
+}
+
 #[cfg(test)]
 mod tests {
     use super::*;
@@ -758,8 +830,7 @@ mod tests {
             let refusal = Refusal::from_number(number).expect("a refusal");
             assert_eq!(refusal.number(), number);
             // Document 01 has the numbers up to 10, document 02 those up to 21.
-            let unknown = refusal == Refusal::Unknown(number);
-            assert!(if number <= 10 { !unknown } else { unknown || number <= 21 }, "{refusal:?}");
+            assert_eq!(refusal == Refusal::Unknown(number), number > 21, "{refusal:?}");
             for value in [0, 1, 0xFF_FFFF] {
                 assert_eq!(unpack(256 * value + number as u32), Err(refusal));
                 assert_eq!(unpack_bytes(256 * value as u64 + number as u64), Err(refusal));

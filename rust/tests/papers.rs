@@ -2,7 +2,7 @@
 
 mod reference;
 
-use reference::{card, compare, dock, masked, search, sheet, walk};
+use reference::{card, compare, dock, masked, search, sheet, walk, window};
 
 /// The zero word of width 3 with other symbols at some places.
 fn zeros_but(symbols: &[(usize, u8)]) -> Vec<u8> {
@@ -213,4 +213,25 @@ fn m_controller_and_meter_cupboard() {
     let worse = compare::compare((&cupboard, 1), (&controller, 1), 96).expect("one pump and day");
     assert_eq!((worse.totals, worse.cupboard_chosen), ([94, 1, 1], true));
     assert_eq!(compare::compare((&cupboard, 1), (&controller, 1), 95), Err(2));
+}
+
+#[test]
+fn n_starts_in_a_window() {
+    let card = [
+        sheet_of(&[(3, 127), (4, 2)], [24, 2, 29, 5]),
+        vec![255; 139],
+        sheet_of(&[(4, 1), (5, 9)], [24, 2, 28, 5]),
+        sheet_of(&[(5, 9)], [99, 1, 1, 6]),
+        sheet_of(&[(5, 9)], [98, 12, 31, 6]),
+        card::record(5, &[0; 36], &[]),
+        vec![255; 138],
+    ]
+    .concat();
+    let report = window::report(&card, 3, 5, 1155).expect("a window");
+    assert_eq!(report[45..54], [2, 130, 1, 127, 24, 2, 29, 65, 0]);
+    assert_eq!(report[54..63], [2, 0, 0, 0, 98, 12, 31, 0, 0]);
+    assert_eq!(report[1152..], [2, 1, 0]);
+    assert!(report[..45].iter().chain(&report[63..1152]).all(|&number| number == 0));
+    let refused = |first, end, length| window::report(&card, first, end, length).expect_err("a refusal");
+    assert_eq!((refused(3, 3, 0), refused(4, 3, 1155), refused(0, 97, 1155), refused(95, 96, 1154)), (21, 21, 21, 2));
 }

@@ -15,6 +15,7 @@ ghost use Rattle.walk.specs.Look.{lookOf, lookWritten};
 ghost use Rattle.dock.specs.declared.Reach.the-variants.{Longest, Named};
 ghost use Rattle.sheet.specs.Call.{writeSheetOf, writeSheetWritten, readSheetOf, readSheetWritten};
 ghost use Rattle.report.specs.Compare.{choice, intoOf, intoTotal, intoWritten};
+ghost use Rattle.report.specs.Window.{windowFrom, startsOf, startsWritten};
 ghost use Rattle.exports.specs.Packed.{packed, packedBytes, packedTotals, checked};
 ghost use Rattle.exports.specs.Counts.{countsSize, rewritesOf, countsOf, chargeOf, chargeWritten, bayAsked, bayOf, bayCounts, bayWritten};
 use card::CardCheck;
@@ -35,6 +36,8 @@ use field::Question;
 use field::Verdict;
 use report::compare::Choice;
 use report::compare::compare_into;
+use report::window::Window;
+use report::window::starts;
 use sheet::read_sheet;
 use sheet::write_sheet;
 use walk::Walk;
@@ -451,4 +454,14 @@ pub extern "C" fn xrs_compare_sheets<'a>(
     let c = compare_into(controller, i as usize, cupboard, j as usize, signs);
     let choice = c.choice;
     pack_totals(pack_choice(choice), c.equal, c.controller, c.cupboard)
+}
+
+// Writes the report of the compressor starts in a window of the day, over the card, into `report`.
+#[no_mangle]
+pub extern "C" fn xrs_window(card: &[u8], first: u8, end: u8, report: &mut [u64]) -> u32
+    ensures answer { λ r. ⌜ r ≡ packed (startsOf (windowFrom first end) (now (report .entry))) ⌝ }
+    ensures written { λ r.
+        ⌜ now (report .exit) ≡ startsWritten (windowFrom first end) (now (card .entry)) (now (report .entry)) ⌝ }
+{
+    pack_verdict(starts(card, Window { first, end }, report))
 }

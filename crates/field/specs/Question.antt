@@ -5,7 +5,7 @@ use Prim.Native.Nat.{ℕ}
 use lib.Dec.{ltb, eqb}
 use Rattle.field.specs.declared.Question.{Question}
 use Rattle.field.specs.declared.Question.the-variants.{Width, Length, ErasureCount, Padding, ErasurePlace, ErasureDistinct, Symbol, Correctable, Syndrome, Nonzero}
-use Rattle.field.specs.declared.Question.the-variants.{SheetWidth, Date, Unused, Unique, FourErasures, Reach, RecordNumber, Bay, Rewrite, SameDay}
+use Rattle.field.specs.declared.Question.the-variants.{SheetWidth, Date, Unused, Unique, FourErasures, Reach, RecordNumber, Bay, Rewrite, SameDay, Window}
 use Rattle.field.specs.declared.Verdict.{Verdict}
 use Rattle.field.specs.declared.Verdict.the-variants.{Passed, Refused}
 
@@ -31,6 +31,7 @@ refusal RecordNumber = 17
 refusal Bay = 18
 refusal Rewrite = 19
 refusal SameDay = 20
+refusal Window = 21
 
 -- what a call answers, by the documents' numbers: a value, or a refusal number
 pub data Outcome : Type 0 where

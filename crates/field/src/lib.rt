@@ -54,6 +54,8 @@ pub enum Question {
     Rewrite,
     // Are the two day sheets of one pump and date?
     SameDay,
+    // Is the window's first quarter hour below its end, and that at most 96?
+    Window,
 }
 
 // Every question so far was answered yes, or one was answered no.
@@ -96,6 +98,7 @@ pub fn refusal_number(q: Question) -> u8
         Question::Bay => 18,
         Question::Rewrite => 19,
         Question::SameDay => 20,
+        Question::Window => 21,
     }
 }
 

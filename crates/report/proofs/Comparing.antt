@@ -67,7 +67,7 @@ pub occurs-start : (s : ℕ) (xs : List ℕ) → 0 + occurs s (drop 0 xs) ≡ oc
 occurs-start s xs = omega arith
 
 module _ (s : ℕ) (xs : List ℕ) (i : ℕ) where
-  occurs-step : i < length xs → occurs s (drop i xs) ≡ cond (eqb s (getD xs i 0)) 1 0 + occurs s (drop (i + 1) xs)
+  pub occurs-step : i < length xs → occurs s (drop i xs) ≡ cond (eqb s (getD xs i 0)) 1 0 + occurs s (drop (i + 1) xs)
   unfolding occurs
   occurs-step h = ap (occurs s) one
     where

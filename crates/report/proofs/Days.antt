@@ -26,7 +26,7 @@ use Rattle.sheet.specs.Call.{contentAsked, readSheetAsked}
 use Rattle.sheet.specs.Demands.{SheetSymbols}
 use Rattle.sheet.proofs.Asking.{after-accepted}
 use Rattle.sheet.proofs.Sheets.{codeword-content, read-means, read-symbols}
-use Rattle.report.specs.Day.{hasRecord, slotOf, sheet, noSheet, readDay, restoredDay, copyDay, dayOf, daySymbols, Tells, Whole}
+use Rattle.report.specs.Day.{hasRecord, slotOf, Day, sheet, noSheet, readDay, restoredDay, copyDay, dayOf, answered, daySymbols, Tells, Whole}
 use Rattle.report.specs.declared.day.Reading.{Reading}
 
 -- ---- slots by number
@@ -144,6 +144,15 @@ module _ (r : List ℕ) where
     day-refused q e =
         let f : noSheet (refusal q) ≡ copyDay (recordOf r) (copyWritten r) = ap (λ (o : Outcome). copyDay o (copyWritten r)) (ap repair (sym e) ∙ ex) in
         record { day = f; symbols = ap daySymbols f }
+
+-- ---- what a reading tells
+
+module _ (d : Day) (x : Reading) (T : Tells d x) where
+  pub told-sheet : (k : ℕ) → x .answer ≡ Restored k → d ≡ sheet k (x .symbols)
+  told-sheet k e = sym (T .day) ∙ ap (λ (a : Repair). answered a (x .symbols)) e
+
+  pub told-refused : (q : Question) → x .answer ≡ RefusedRepair q → d ≡ noSheet (refusal q)
+  told-refused q e = sym (T .day) ∙ ap (λ (a : Repair). answered a (x .symbols)) e
 
 -- ---- a record that is a day sheet
 

@@ -21,8 +21,12 @@ use Rattle.report.specs.Day.{hasRecord, slotOf, Day, sheet, noSheet, day
 use Rattle.report.specs.Compare.{signsOf, sheetSigns, sameDay, chosenOf, comparedOf, shownSigns, shownTotal}
 use Rattle.report.specs.Compare.{symbolsAt, numbersAsked, compareOf, compareSigns, compareTotal, partOf}
 use Rattle.report.specs.Demands.{Agreed, CompareAccepts, SignsStand, TotalsCount, TotalsMake, StandsAt, PartStands, RefusedNothing}
+use Rattle.report.specs.Demands.{AllCounted, MeanStands, HighestStands, Ordered, PartsAdded}
 use Rattle.report.proofs.Days.{slot-some, is-sheet}
 use Rattle.report.proofs.Comparing.{sheet-signs-long, sheet-signs-at}
+use Rattle.report.proofs.Order.{earlier-irreflexive, earlier-transitive, earlier-total}
+use Rattle.report.proofs.Reports.{in-parts}
+use Rattle.report.proofs.Starts.{all-looked, row-mean, row-none, row-highest}
 
 -- ---- two day sheets side by side
 
@@ -154,3 +158,20 @@ refused-nothing c i d j n e = (
   λ s. ap (λ (o : Outcome). shownTotal o (symbolsAt c i) (symbolsAt d j) s) e,
   ap (λ (o : Outcome). partOf o (slotOf c i) (slotOf d j)) e,
 )
+
+-- ---- starts in a window
+
+pub all-counted : AllCounted
+all-counted w card h = (all-looked w h card, omega arith)
+
+pub mean-stands : MeanStands
+mean-stands w card p h l = (row-mean w h card p l, row-none w h card p l)
+
+pub highest-stands : HighestStands
+highest-stands w card p h l = row-highest w h card p l
+
+pub ordered : Ordered
+ordered = record { irreflexive = earlier-irreflexive; transitive = earlier-transitive; total = earlier-total }
+
+pub parts-added : PartsAdded
+parts-added w report a b j whole = in-parts w a b j whole report

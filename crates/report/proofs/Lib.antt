@@ -1,4 +1,8 @@
 -- Laws of day sheets on cards. Assumes nothing.
 pub mod Days
 pub mod Comparing
+pub mod Order
+pub mod Counting
+pub mod Reports
+pub mod Starts
 pub mod Demands

@@ -2,17 +2,24 @@
 -- proofs/Demands.antt proves each statement under the same name in small letters. Assumes nothing.
 use mathlib.Core.Path.{_≡_}
 use mathlib.Core.Logic.{_↔_}
-use mathlib.Core.Bool.{true}
-use mathlib.Core.List.{List, []}
-use Prim.Native.Nat.{ℕ, _+_, _-_, _*_, _<_}
+use mathlib.Core.Bool.{true, false}
+use mathlib.Core.List.{List, [], _++_}
+use Prim.Native.Nat.{ℕ, zero, suc, _+_, _-_, _*_, _≤_, _<_, min}
 use lib.ListN.{length, replicate}
 use Rattle.field.specs.Question.{accepted, refused}
 use Rattle.code.specs.Word.{at}
 use Rattle.code.specs.Demands.{occurs}
 use Rattle.card.specs.Record.{recordSize}
-use Rattle.sheet.specs.Sheet.{quarters}
+use Rattle.card.specs.Card.{recordCount, recordAt}
+use Rattle.card.specs.Listing.{mostRecords}
+use Rattle.sheet.specs.Sheet.{quarters, pumpAt}
 use Rattle.report.specs.Day.{hasRecord, slotOf, sheet, dayOf}
 use Rattle.report.specs.Compare.{signOf, sameDay, chosenOf, symbolsAt, compareOf, compareSigns, compareTotal, comparePart}
+use Rattle.report.specs.Window.{isWindow, dateOf, earlier, pumps, rowSize, refusedAt, blankAt, rowFrom, rowOf, partAdded, reportOf}
+use Rattle.report.specs.declared.window.Window.{Window}
+use Rattle.report.specs.declared.window.Date.{Date}
+use Rattle.report.specs.declared.window.Peak.{Peak}
+use Rattle.report.specs.declared.window.Row.{Row}
 
 -- ---- two day sheets side by side: record i of the controller's card c, and record j of the cupboard's card d
 
@@ -69,3 +76,68 @@ abbrev pub RefusedNothing : Type 0
 RefusedNothing =
     (c : List ℕ) (i : ℕ) (d : List ℕ) (j n : ℕ) → compareOf c i d j ≡ refused n
     → (compareSigns c i d j ≡ replicate quarters 0) × ((s : ℕ) → compareTotal c i d j s ≡ 0) × (comparePart c i d j ≡ [])
+
+-- ---- starts in a window: the report of a card
+
+-- the number of slots that are looked at: all of the card, 1,000,000 at most
+abbrev pub looked : List ℕ → ℕ
+looked card = min (recordCount (length card)) mostRecords
+
+-- the sheets of the pumps below p
+unfoldable pub sheetsBelow : ℕ → List ℕ → ℕ
+sheetsBelow zero report = 0
+sheetsBelow (suc p) report = sheetsBelow p report + rowOf report p .sheets
+
+-- the sheets of all pumps, the refused records and the blank slots together are the slots that were looked at
+abbrev pub AllCounted : Type 0
+AllCounted =
+    (w : Window) (card : List ℕ) → isWindow w ≡ true
+    → (sheetsBelow pumps (reportOf w card) + at (reportOf w card) refusedAt + at (reportOf w card) blankAt ≡ looked card) × (looked card ≤ mostRecords)
+
+-- the row of a pump without sheets
+abbrev pub noRow : Row
+noRow = rowFrom (replicate rowSize 0)
+
+-- the quotient times the sheets, with the remainder, is the sum, and the remainder is below the sheets; without sheets all is 0
+abbrev pub MeanStands : Type 0
+MeanStands =
+    (w : Window) (card : List ℕ) (p : ℕ) → isWindow w ≡ true → p < pumps
+    → (0 < rowOf (reportOf w card) p .sheets
+    → (rowOf (reportOf w card) p .quotient * rowOf (reportOf w card) p .sheets + rowOf (reportOf w card) p .remainder ≡ rowOf (reportOf w card) p .sum)
+    × (rowOf (reportOf w card) p .remainder < rowOf (reportOf w card) p .sheets))
+    × (rowOf (reportOf w card) p .sheets ≡ 0 → rowOf (reportOf w card) p ≡ noRow)
+
+-- slot i, counted from 0, is a day sheet of pump p with the date d, and has n starts in the quarter hour q of the window
+pub record CountAt (w : Window) (card : List ℕ) (p i q n : ℕ) (d : Date) : Type 0 where
+  pub changed : ℕ
+  pub symbols : List ℕ
+  pub inside : i < looked card
+  pub day : dayOf (recordAt card i) ≡ sheet changed symbols
+  pub pump : at symbols pumpAt ≡ p
+  pub first : w .first ≤ q
+  pub end : q < w .end
+  pub count : at symbols q ≡ n
+  pub date : dateOf symbols ≡ d
+
+-- of the counts of a pump this is the highest, with its earliest date: where there are sheets it is reached on that date, it is exceeded by
+-- none, and reached by none on an earlier date
+pub record Highest (w : Window) (card : List ℕ) (p sheets : ℕ) (peak : Peak) : Type 0 where
+  pub reached : 0 < sheets → (i : ℕ) × ((q : ℕ) × CountAt w card p i q (peak .count) (peak .date))
+  pub exceeded : (i q n : ℕ) (d : Date) → CountAt w card p i q n d → n ≤ peak .count
+  pub earliest : (i q : ℕ) (d : Date) → CountAt w card p i q (peak .count) d → earlier d (peak .date) ≡ false
+
+abbrev pub HighestStands : Type 0
+HighestStands =
+    (w : Window) (card : List ℕ) (p : ℕ) → isWindow w ≡ true → p < pumps
+    → Highest w card p (rowOf (reportOf w card) p .sheets) (rowOf (reportOf w card) p .peak)
+
+-- dates are in one order: none is earlier than itself, earlier than an earlier one is earlier, and of two different ones one is earlier
+pub record Ordered : Type 0 where
+  pub irreflexive : (a : Date) → earlier a a ≡ false
+  pub transitive : (a b c : Date) → earlier a b ≡ true → earlier b c ≡ true → earlier a c ≡ true
+  pub total : (a b : Date) → earlier a b ≡ false → earlier b a ≡ false → a ≡ b
+
+-- a card may come in parts: the report of two, the first of whole slots, is that of the second from where the first has come to
+abbrev pub PartsAdded : Type 0
+PartsAdded =
+    (w : Window) (report a b : List ℕ) (j : ℕ) → length a ≡ j * recordSize → partAdded w report (a ++ b) ≡ partAdded w (partAdded w report a) b

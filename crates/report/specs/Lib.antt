@@ -1,4 +1,5 @@
 -- The definitions of day sheets on cards. Assumes nothing.
 pub mod Day
 pub mod Compare
+pub mod Window
 pub mod Demands

@@ -3,7 +3,9 @@
 //!     bench words         a line 'NAME WIDTH WRONG MARKS NANOSECONDS' for each kind of word
 //!     bench card FILE     writes a card of 1,000,000 clean records of width 7
 //!     bench worn FILE     writes such a card with two wrong symbols in each record
+//!     bench sheets FILE   writes a card of 1,000,000 clean day sheets
 //!     bench calls FILE    a line 'NAME SECONDS' for each call on the clean card
+//!     bench window FILE   such a line for the starts in a window, on the card of sheets
 
 #[path = "../../tests/reference/mod.rs"]
 mod reference;
@@ -15,6 +17,7 @@ use reference::search::radius;
 use reference::{items, order, places, WIDTHS};
 use std::io::{BufWriter, Write};
 use std::time::{Duration, Instant};
+use tools::sheets::random_symbols;
 use tools::wear::spoiled;
 use tools::Chance;
 
@@ -136,6 +139,19 @@ fn write_card(path: &str, wrong: usize) -> std::io::Result<()> {
     card.flush()
 }
 
+/// A card of day sheets of all pumps, with counts and dates by chance.
+fn write_sheets(path: &str) -> std::io::Result<()> {
+    let mut chance = Chance::new();
+    let mut card = BufWriter::new(std::fs::File::create(path)?);
+    let mut word = [0; 132];
+    for _ in 0..RECORDS {
+        xrs::write_sheet(7, &random_symbols(&mut chance), &mut word).expect("symbols of a sheet");
+        card.write_all(&[7, 0, 255, 255, 255, 255, 255])?;
+        card.write_all(&word)?;
+    }
+    card.flush()
+}
+
 /// Prints the seconds of the best of three calls.
 fn time_call(name: &str, mut call: impl FnMut()) {
     let spent = (0..3).map(|_| {
@@ -164,13 +180,25 @@ fn time_calls(path: &str) -> std::io::Result<()> {
     Ok(())
 }
 
+/// The same on a card of sheets.
+fn time_window(path: &str) -> std::io::Result<()> {
+    let card = std::fs::read(path)?;
+    time_call("window", || {
+        let report = xrs::window(&card, 28, 88).expect("a window");
+        assert_eq!(report.pumps.iter().map(|pump| pump.sheets).sum::<u64>(), RECORDS as u64, "sheets");
+    });
+    Ok(())
+}
+
 fn main() {
     let arguments: Vec<String> = std::env::args().skip(1).collect();
     match arguments.iter().map(String::as_str).collect::<Vec<_>>()[..] {
         ["words"] => time_words(),
         ["card", path] => write_card(path, 0).expect("the card cannot be written"),
         ["worn", path] => write_card(path, 2).expect("the card cannot be written"),
+        ["sheets", path] => write_sheets(path).expect("the card cannot be written"),
         ["calls", path] => time_calls(path).expect("the card cannot be read"),
-        _ => panic!("usage: bench words | bench card FILE | bench worn FILE | bench calls FILE"),
+        ["window", path] => time_window(path).expect("the card cannot be read"),
+        _ => panic!("usage: bench words | bench card|worn|sheets|calls|window FILE"),
     }
 }

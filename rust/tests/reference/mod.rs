@@ -8,6 +8,7 @@ pub mod masked;
 pub mod search;
 pub mod sheet;
 pub mod walk;
+pub mod window;
 
 /// The widths of the code.
 pub const WIDTHS: [u8; 4] = [3, 4, 5, 7];

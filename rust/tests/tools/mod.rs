@@ -181,6 +181,11 @@ pub fn compare_sheets(controller: &[u8], number: u64, cupboard: &[u8], other_num
     answer
 }
 
+/// `xrs::window` on a copy of the card.
+pub fn window(card: &[u8], first: u8, end: u8) -> Result<xrs::Report, Refusal> {
+    lend(card, &[], |card, _| xrs::window(card, first, end)).0
+}
+
 /// The answer of the reference, its number as a refusal.
 pub fn refusal<T>(answer: Result<T, u8>) -> Result<T, Refusal> {
     answer.map_err(|number| Refusal::from_number(number).expect("a refusal number"))

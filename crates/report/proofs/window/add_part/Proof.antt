@@ -1,0 +1,90 @@
+-- `report::window::add_part` meets its contract. Before turn i the first i slots have entered. Assumes nothing.
+use borrow.Author.Needs.{needs}
+use mathlib.Core.Path.{_≡_, refl, ap, _∙_, sym, subst}
+use native.Mathlib.Omega.{arith}
+use Prim.Native.Nat.{_+_, _-_, _*_, _^_, _≤_}
+use lib.ListN.{length}
+use Rattle.card.specs.Card.{recordCount}
+use Rattle.report.specs.Window.{slotsAdded, Countable, dayMost}
+use Rattle.report.proofs.Reports.{slots-start, slots-on, slots-countable, countable-more}
+use Rattle.report.proofs.window.add_part.Statement.{statement}
+use Rattle.report.proofs.window.add_part.Tie as tie
+
+abbrev Inv-loop : tie.InvT-loop
+Inv-loop part w report₀ n i₀ report i = (i ≤ n) × (length report ≡ length report₀) × (report ≡ slotsAdded w report₀ part i)
+
+abbrev μ-loop : tie.MeasureT-loop
+μ-loop part w report₀ n i₀ report i = n - i
+
+sub-n : tie.Need-sub-n Inv-loop μ-loop
+sub-n c = search needs
+
+add-n : tie.Need-add-n Inv-loop μ-loop
+add-n c = search needs
+
+loop-holds : tie.Need-loop-holds Inv-loop μ-loop
+loop-holds c = let a = c .before .before .args in (omega arith, refl, slots-start (a .w) (a .report .now) (a .part .now))
+
+mul-record-from : tie.Need-mul-record-from Inv-loop μ-loop
+mul-record-from c = search needs
+
+record-from-requires : tie.Need-record-from-requires Inv-loop μ-loop
+record-from-requires c κs = search needs
+
+add-slot-requires : tie.Need-add-slot-requires Inv-loop μ-loop
+add-slot-requires c κs =
+    let l = c .before .before .before in
+    let s = l .before .before .before in
+    let a = s .args in
+    let i = l .loop .i in (
+      s .pre .0,
+      subst (Countable (2 ^ 63)) (sym (l .loop .inv .2))
+          (countable-more (2 ^ 62 + i * dayMost) (2 ^ 63) (omega arith) (slotsAdded (a .w) (a .report .now) (a .part .now) i)
+          (slots-countable (a .w) (s .pre .0) (2 ^ 62) (a .report .now) (s .pre .2) (a .part .now) i)),
+    )
+
+add-i : tie.Need-add-i Inv-loop μ-loop
+add-i c = search needs
+
+loop-less : tie.Need-loop-less Inv-loop μ-loop
+loop-less c = search needs
+
+loop-again : tie.Need-loop-again Inv-loop μ-loop
+loop-again c =
+    let added = c .before .before in
+    let found = added .before .before in
+    let l = found .before .before in
+    let a = l .before .before .before .args in (
+      omega arith,
+      omega arith,
+      slots-on (a .w) (a .report .now) (a .part .now) (l .loop .i) _ _ _ (l .loop .inv .2) (found .record-from .ensures) (added .add-slot .ensures),
+    )
+
+same-length : tie.Need-same-length Inv-loop μ-loop
+same-length c = search needs
+
+returns : tie.Need-returns Inv-loop μ-loop
+returns c =
+    let l = c .before in
+    let s = l .before .before .before in
+    let a = s .args in
+    let all : l .loop .i ≡ recordCount (length (a .part .now)) = omega arith in
+    l .loop .inv .2 ∙ ap (slotsAdded (a .w) (a .report .now) (a .part .now)) all
+
+pub add-part-spec : {M : Type 1} → statement M
+add-part-spec =
+    tie.close
+    (tie.spec
+    Inv-loop
+    μ-loop
+    sub-n
+    add-n
+    loop-holds
+    mul-record-from
+    record-from-requires
+    add-slot-requires
+    add-i
+    loop-less
+    loop-again
+    same-length
+    returns)

@@ -1,0 +1,119 @@
+-- `report::window::add_sheet` meets its contract. Assumes nothing.
+use borrow.Author.Needs.{needs}
+use mathlib.Core.Path.{ap, _∙_, sym, subst}
+use native.Mathlib.Omega.{arith}
+use Prim.Native.Nat.{_^_}
+use Rattle.code.specs.Word.{at}
+use Rattle.sheet.specs.Sheet.{pumpAt}
+use Rattle.report.specs.Window.{Most, rowWith, rowOf}
+use Rattle.report.specs.declared.window.Row.{Row}
+use Rattle.report.proofs.Reports.{pump-small, row-fits, row-most, part-long, row-read, row-written}
+use Rattle.report.proofs.window.add_sheet.Statement.{statement}
+use Rattle.report.proofs.window.add_sheet.Tie as tie
+
+shared-slice-read-from : tie.Need-shared-slice-read-from
+shared-slice-read-from c = omega (arith, c .before .before .before .pre .1 .size)
+
+cast-from : tie.Need-cast-from
+cast-from c = omega (arith, c .shared-slice-known2 .given 99)
+
+mul-from : tie.Need-mul-from
+mul-from c =
+    let s = c .before .before .before in
+    omega (arith, pump-small (s .args .symbols .now) (s .pre .1))
+
+add-to : tie.Need-add-to
+add-to c =
+    let s = c .before .before .before in
+    omega (arith, pump-small (s .args .symbols .now) (s .pre .1))
+
+mul-row-of : tie.Need-mul-row-of
+mul-row-of c =
+    let s = c .before .before .before in
+    omega (arith, pump-small (s .args .symbols .now) (s .pre .1))
+
+sub-row-of : tie.Need-sub-row-of
+sub-row-of c = search needs
+
+part-row-of-start : tie.Need-part-row-of-start
+part-row-of-start c = search needs
+
+part-row-of-end : tie.Need-part-row-of-end
+part-row-of-end c =
+    let s = c .before .before .before .before in
+    omega (arith, pump-small (s .args .symbols .now) (s .pre .1), s .pre .2 .size)
+
+row-of-requires : tie.Need-row-of-requires
+row-of-requires c κs =
+    let s = c .before .before .before .before .before in
+    let p = at (s .args .symbols .now) pumpAt in
+    part-long (s .args .report .now) p (row-fits (2 ^ 63) (s .args .report .now) (s .pre .2) p (pump-small (s .args .symbols .now) (s .pre .1)))
+
+with-sheet-requires : tie.Need-with-sheet-requires
+with-sheet-requires c κs =
+    let s = c .before .before .before .before .before .before in
+    let p = at (s .args .symbols .now) pumpAt in
+    let r = row-read (s .args .report .now) p (c .row-of .result) (c .row-of .ensures) in (
+      s .pre .0,
+      s .pre .1,
+      subst (Most (2 ^ 63)) (sym r) (row-most (2 ^ 63) (s .args .report .now) (s .pre .2) p (pump-small (s .args .symbols .now) (s .pre .1))),
+    )
+
+mul-put-row : tie.Need-mul-put-row
+mul-put-row c =
+    let s = c .before .before .before .before .before .before .before in
+    omega (arith, pump-small (s .args .symbols .now) (s .pre .1))
+
+sub-put-row : tie.Need-sub-put-row
+sub-put-row c = search needs
+
+part-put-row-start : tie.Need-part-put-row-start
+part-put-row-start c = search needs
+
+part-put-row-end : tie.Need-part-put-row-end
+part-put-row-end c =
+    let s = c .before .before .before .before .before .before .before in
+    omega (arith, pump-small (s .args .symbols .now) (s .pre .1), s .pre .2 .size)
+
+put-row-requires : tie.Need-put-row-requires
+put-row-requires c κs =
+    let s = c .before .before .before .before .before .before .before .before in
+    let p = at (s .args .symbols .now) pumpAt in
+    part-long (s .args .report .now) p (row-fits (2 ^ 63) (s .args .report .now) (s .pre .2) p (pump-small (s .args .symbols .now) (s .pre .1)))
+
+same-length : tie.Need-same-length
+same-length c = search needs
+
+returns : tie.Need-returns
+returns c =
+    let put = c .before .before in
+    let x = put .before .before in
+    let r = x .before in
+    let s = r .before .before .before .before .before .before in
+    let a = s .args in
+    let p = at (a .symbols .now) pumpAt in
+    row-written (a .report .now) p (rowWith (a .w) (rowOf (a .report .now) p) (a .symbols .now)) (x .with-sheet .result) _ (put .put-row .ensures)
+    (x .with-sheet .ensures
+    ∙ ap (λ (y : Row). rowWith (a .w) y (a .symbols .now)) (row-read (a .report .now) p (r .row-of .result) (r .row-of .ensures)))
+
+pub add-sheet-spec : {M : Type 1} → statement M
+add-sheet-spec =
+    tie.close
+    (tie.spec
+    shared-slice-read-from
+    cast-from
+    mul-from
+    add-to
+    mul-row-of
+    sub-row-of
+    part-row-of-start
+    part-row-of-end
+    row-of-requires
+    with-sheet-requires
+    mul-put-row
+    sub-put-row
+    part-put-row-start
+    part-put-row-end
+    put-row-requires
+    same-length
+    returns)

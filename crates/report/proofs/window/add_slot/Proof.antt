@@ -1,0 +1,52 @@
+-- `report::window::add_slot` meets its contract. Assumes nothing.
+use borrow.Author.Needs.{needs}
+use native.Mathlib.Omega.{arith}
+use Prim.Native.Nat.{_^_}
+use Rattle.report.proofs.Reports.{within-at, slot-blank, slot-record}
+use Rattle.report.proofs.window.add_slot.Statement.{statement}
+use Rattle.report.proofs.window.add_slot.Tie as tie
+
+is-blank-requires : tie.Need-is-blank-requires
+is-blank-requires c κs = search needs
+
+add-one-requires : tie.Need-add-one-requires
+add-one-requires c κs =
+    let s = c .before .before .before .before .before in
+    (omega (arith, s .pre .1 .size), omega (arith, within-at (2 ^ 63) (s .args .report .now) 1153 (s .pre .1 .within)))
+
+add-record-requires : tie.Need-add-record-requires
+add-record-requires c κs = let s = c .before .before .before .before .before in (s .pre .0, s .pre .1)
+
+same-length : tie.Need-same-length
+same-length c = search needs
+
+returns : tie.Need-returns
+returns c =
+    let done = c .before .before in
+    let t = done .before .before in
+    let x = t .before .is-blank in
+    let a = t .before .before .before .before .args in
+    slot-blank (a .w) (a .report .now) (a .slot .now) (x .result) (x .ensures) (t .if1 .taken) _ (done .add-one .ensures)
+
+same-length-2 : tie.Need-same-length-2
+same-length-2 c = search needs
+
+returns-2 : tie.Need-returns-2
+returns-2 c =
+    let done = c .before .before in
+    let t = done .before .before in
+    let x = t .before .is-blank in
+    let a = t .before .before .before .before .args in
+    slot-record (a .w) (a .report .now) (a .slot .now) (x .result) (x .ensures) (t .if1 .left) _ (done .add-record .ensures)
+
+pub add-slot-spec : {M : Type 1} → statement M
+add-slot-spec =
+    tie.close
+    (tie.spec
+    is-blank-requires
+    add-one-requires
+    add-record-requires
+    same-length
+    returns
+    same-length-2
+    returns-2)

@@ -1,0 +1,57 @@
+-- `report::window::begin` meets its contract. Assumes nothing.
+use borrow.Author.Needs.{needs}
+use mathlib.Core.Path.{refl}
+use native.Mathlib.Omega.{arith}
+use Prim.Native.Nat.{ℕ, _-_}
+use lib.ListN.{length, replicate, length-replicate, getD-replicate}
+use Rattle.code.proofs.Loops.{Filled, filled-start, filled-on, filled-end}
+use Rattle.report.proofs.window.begin.Statement.{statement}
+use Rattle.report.proofs.window.begin.Tie as tie
+
+abbrev Inv-loop : tie.InvT-loop
+Inv-loop report₀ i₀ report i = Filled ℕ 0 (length report₀) Unit (λ k. 0) report i
+
+abbrev μ-loop : tie.MeasureT-loop
+μ-loop report₀ i₀ report i = length report₀ - i
+
+loop-holds : tie.Need-loop-holds Inv-loop μ-loop
+loop-holds c = filled-start refl
+
+mul-report : tie.Need-mul-report Inv-loop μ-loop
+mul-report c = search needs
+
+slice-write-report : tie.Need-slice-write-report Inv-loop μ-loop
+slice-write-report c = search needs
+
+add-i : tie.Need-add-i Inv-loop μ-loop
+add-i c = search needs
+
+loop-less : tie.Need-loop-less Inv-loop μ-loop
+loop-less c = search needs
+
+loop-again : tie.Need-loop-again Inv-loop μ-loop
+loop-again c = filled-on (c .before .loop .inv) (omega (arith, c .before .loop .inv .long, c .loop-test .taken)) (λ u. refl)
+
+same-length : tie.Need-same-length Inv-loop μ-loop
+same-length c = search needs
+
+returns : tie.Need-returns Inv-loop μ-loop
+returns c =
+    let R = c .before .before .args .report .now in
+    filled-end (c .before .loop .inv) (omega (arith, c .before .loop .inv .long, c .loop-test .left)) tt (replicate (length R) 0)
+    (length-replicate (length R) 0) (λ k h. getD-replicate (length R) k 0 0 h)
+
+pub begin-spec : {M : Type 1} → statement M
+begin-spec =
+    tie.close
+    (tie.spec
+    Inv-loop
+    μ-loop
+    loop-holds
+    mul-report
+    slice-write-report
+    add-i
+    loop-less
+    loop-again
+    same-length
+    returns)

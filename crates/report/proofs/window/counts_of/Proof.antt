@@ -1,0 +1,57 @@
+-- `report::window::counts_of` meets its contract. Assumes nothing.
+use borrow.Author.Needs.{needs}
+use native.Mathlib.Omega.{arith}
+use Prim.Native.Nat.{_-_}
+use lib.ListN.{length}
+use Rattle.report.proofs.Counting.{Counted, counted-start, counted-on, counted-end}
+use Rattle.report.proofs.window.counts_of.Statement.{statement}
+use Rattle.report.proofs.window.counts_of.Tie as tie
+
+abbrev Inv-loop : tie.InvT-loop
+Inv-loop xs c₀ i₀ c i = Counted xs i c
+
+abbrev μ-loop : tie.MeasureT-loop
+μ-loop xs c₀ i₀ c i = length xs - i
+
+loop-holds : tie.Need-loop-holds Inv-loop μ-loop
+loop-holds c = counted-start (c .before .args .xs .now)
+
+shared-slice-read-with-count : tie.Need-shared-slice-read-with-count Inv-loop μ-loop
+shared-slice-read-with-count c = search needs
+
+with-count-requires : tie.Need-with-count-requires Inv-loop μ-loop
+with-count-requires c κs =
+    let K = c .before .before .loop .inv in
+    (omega (arith, K .small, K .place, c .before .before .before .before .pre), omega (arith, K .few, K .place, c .before .before .before .before .pre))
+
+add-i : tie.Need-add-i Inv-loop μ-loop
+add-i c = search needs
+
+loop-less : tie.Need-loop-less Inv-loop μ-loop
+loop-less c = search needs
+
+loop-again : tie.Need-loop-again Inv-loop μ-loop
+loop-again c =
+    let l = c .before .before .before in
+    let a = l .before .before .args in
+    counted-on (a .xs .now) (l .loop .i) (l .loop .c) (l .loop .inv) (c .before .before .loop-test .taken)
+    (omega (arith, c .before .shared-slice-known2 .given (l .loop .i))) _ (c .with-count .ensures)
+
+returns : tie.Need-returns Inv-loop μ-loop
+returns c =
+    let l = c .before in
+    counted-end (l .before .before .args .xs .now) (l .loop .i) (l .loop .c) (l .loop .inv) (c .loop-test .left)
+
+pub counts-of-spec : {M : Type 1} → statement M
+counts-of-spec =
+    tie.close
+    (tie.spec
+    Inv-loop
+    μ-loop
+    loop-holds
+    shared-slice-read-with-count
+    with-count-requires
+    add-i
+    loop-less
+    loop-again
+    returns)

@@ -1,0 +1,15 @@
+-- `report::window::front` meets its contract. Assumes nothing.
+use borrow.Author.Needs.{needs}
+use mathlib.Core.Path.{sym}
+use lib.Seq.{length-take-le}
+use Rattle.report.proofs.window.front.Statement.{statement}
+use Rattle.report.proofs.window.front.Tie as tie
+
+slice-aggregate-result : tie.Need-slice-aggregate-result
+slice-aggregate-result c = let s = c .before in sym (length-take-le (s .args .n) (s .args .card .now) (s .pre))
+
+returns : tie.Need-returns
+returns c = search needs
+
+pub front-spec : {M : Type 1} → statement M
+front-spec = tie.close (tie.spec slice-aggregate-result returns)

@@ -1,0 +1,14 @@
+-- `report::window::full_of` meets its contract. Assumes nothing.
+use mathlib.Core.Path.{sym}
+use borrow.Author.Tests.{eq-eqb, ne-eqb}
+use Rattle.report.proofs.window.full_of.Statement.{statement}
+use Rattle.report.proofs.window.full_of.Tie as tie
+
+returns : tie.Need-returns
+returns c = simp (eq-eqb 127 _ (sym (c .if1 .taken)))
+
+returns-2 : tie.Need-returns-2
+returns-2 c = simp (ne-eqb 127 _ (λ e. c .if1 .left (sym e)))
+
+pub full-of-spec : {M : Type 1} → statement M
+full-of-spec = tie.close (tie.spec returns returns-2)

@@ -1,0 +1,56 @@
+-- `report::window::starts` meets its contract. Assumes nothing.
+use borrow.Author.Needs.{needs}
+use Rattle.report.proofs.Reports.{starts-window, starts-size, starts-reported, starts-refused}
+use Rattle.report.proofs.window.starts.Statement.{statement}
+use Rattle.report.proofs.window.starts.Tie as tie
+
+ask-starts-requires : tie.Need-ask-starts-requires
+ask-starts-requires c κs = search needs
+
+enum-told : tie.Need-enum-told
+enum-told c = search needs
+
+write-report-requires : tie.Need-write-report-requires
+write-report-requires c κs =
+    let told = c .before in
+    let v = told .before .before in
+    let a = v .before .before .before .args in
+    let x = v .ask-starts in (
+      starts-window (a .w) (a .report .now) (x .result) (x .ensures) (told .enum-told .given .1),
+      starts-size (a .w) (a .report .now) (x .result) (x .ensures) (told .enum-told .given .1),
+    )
+
+enum-known-q : tie.Need-enum-known-q
+enum-known-q c = search needs
+
+same-length : tie.Need-same-length
+same-length c = search needs
+
+returns : tie.Need-returns
+returns c =
+    let done = c .before .before in
+    let told = done .before .before in
+    let v = told .before .before in
+    let a = v .before .before .before .args in
+    let x = v .ask-starts in
+    starts-reported (a .w) (a .report .now) (x .result) (x .ensures) (told .enum-told .given .1) (a .card .now) _ (done .write-report .ensures)
+
+returns-2 : tie.Need-returns-2
+returns-2 c =
+    let told = c .before in
+    let v = told .before .before in
+    let a = v .before .before .before .args in
+    let x = v .ask-starts in
+    starts-refused (a .w) (a .report .now) (x .result) (x .ensures) _ (told .q .given .1) (a .card .now)
+
+pub starts-spec : {M : Type 1} → statement M
+starts-spec =
+    tie.close
+    (tie.spec
+    ask-starts-requires
+    enum-told
+    write-report-requires
+    enum-known-q
+    same-length
+    returns
+    returns-2)

@@ -1,0 +1,69 @@
+-- `report::window::with_sheet` meets its contract. Assumes nothing.
+use borrow.Author.Needs.{needs}
+use native.Mathlib.Omega.{arith}
+use Rattle.report.proofs.Counting.{window-first, window-end, counts-long, counts-fit, row-with}
+use Rattle.report.proofs.window.with_sheet.Statement.{statement}
+use Rattle.report.proofs.window.with_sheet.Tie as tie
+
+cast-first : tie.Need-cast-first
+cast-first c = search needs
+
+cast-end : tie.Need-cast-end
+cast-end c = search needs
+
+sub-counts-of : tie.Need-sub-counts-of
+sub-counts-of c =
+    let s = c .before .before .before in
+    omega (arith, window-first (s .args .w) (s .pre .0) (s .args .symbols .now) (s .pre .1))
+
+part-counts-of-start : tie.Need-part-counts-of-start
+part-counts-of-start c =
+    let s = c .before .before .before in
+    omega (arith, window-first (s .args .w) (s .pre .0) (s .args .symbols .now) (s .pre .1))
+
+part-counts-of-end : tie.Need-part-counts-of-end
+part-counts-of-end c =
+    let s = c .before .before .before in
+    omega (arith, window-end (s .args .w) (s .pre .0) (s .args .symbols .now) (s .pre .1), s .pre .1 .size)
+
+counts-of-requires : tie.Need-counts-of-requires
+counts-of-requires c κs =
+    let s = c .before .before .before .before in
+    let a = s .args in
+    omega (
+      arith,
+      counts-long (a .w) (s .pre .0) (a .symbols .now) (s .pre .1),
+      window-end (a .w) (s .pre .0) (a .symbols .now) (s .pre .1),
+    )
+
+date-of-requires : tie.Need-date-of-requires
+date-of-requires c κs = c .before .before .before .before .before .pre .1 .size
+
+row-after-requires : tie.Need-row-after-requires
+row-after-requires c κs =
+    let n = c .before .counts-of in
+    let s = c .before .before .before .before .before .before in
+    let f = counts-fit (s .args .w) (s .pre .0) (s .args .symbols .now) (s .pre .1) (n .result) (n .ensures) in
+    (omega (arith, s .pre .2 .sheets), omega (arith, s .pre .2 .sum, f .0), omega (arith, s .pre .2 .full, f .1))
+
+returns : tie.Need-returns
+returns c =
+    let d = c .before in
+    let n = d .before in
+    let a = n .before .before .before .before .before .args in
+    row-with (a .w) (a .row) (a .symbols .now) (n .counts-of .result) (d .date-of .result) _ (n .counts-of .ensures) (d .date-of .ensures)
+    (c .row-after .ensures)
+
+pub with-sheet-spec : {M : Type 1} → statement M
+with-sheet-spec =
+    tie.close
+    (tie.spec
+    cast-first
+    cast-end
+    sub-counts-of
+    part-counts-of-start
+    part-counts-of-end
+    counts-of-requires
+    date-of-requires
+    row-after-requires
+    returns)
