@@ -19,3 +19,5 @@ void peer_encode(uint8_t *word) { encode_rs_char(code, word, word + DATA); }
 int peer_mark(int place) { return place; }
 
 int peer_restore(uint8_t *word, int *marked, int marks, int wrong) { return decode_rs_char(code, word, marked, marks) == wrong + marks; }
+
+int peer_refuse(uint8_t *word, int *marked, int marks) { return decode_rs_char(code, word, marked, marks) < 0; }

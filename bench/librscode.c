@@ -27,8 +27,14 @@ void peer_encode(uint8_t *word) {
 /* Places count from the end. */
 int peer_mark(int place) { return PLACES - 1 - place; }
 
-int peer_restore(uint8_t *word, int *marked, int marks, int wrong) {
-    (void)wrong;
+static int accepted(uint8_t *word, int *marked, int marks) {
     decode_data(word, PLACES);
     return check_syndrome() == 0 || correct_errors_erasures(word, PLACES, marks, marked) == 1;
 }
+
+int peer_restore(uint8_t *word, int *marked, int marks, int wrong) {
+    (void)wrong;
+    return accepted(word, marked, marks);
+}
+
+int peer_refuse(uint8_t *word, int *marked, int marks) { return !accepted(word, marked, marks); }

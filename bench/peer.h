@@ -27,4 +27,7 @@ int peer_mark(int place);
  */
 int peer_restore(uint8_t *word, int *marked, int marks, int wrong);
 
+/* The same for a word that is to be refused: says whether it was. */
+int peer_refuse(uint8_t *word, int *marked, int marks);
+
 #endif

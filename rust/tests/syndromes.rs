@@ -14,15 +14,36 @@ fn compare(width: u8, word: &[u8], marks: &[u8]) -> Result<[u8; 5], xrs::Refusal
     answer
 }
 
+/// Each digit at each place: the sums are linear, so that these tell what every word has.
 #[test]
 fn one_symbol_at_every_place() {
     for width in WIDTHS {
         for place in 0..places(width) {
-            for symbol in [1, order(width) as u8 - 1] {
+            for symbol in (0..width).map(|digit| 1 << digit).chain([order(width) as u8 - 1]) {
                 let mut word = vec![0; places(width)];
                 word[place] = symbol;
                 assert_ne!(compare(width, &word, &[]), Ok([0; 5]), "place {place} at width {width}");
                 assert_eq!(compare(width, &word, &[place as u8]), Ok([0; 5]), "place {place} at width {width}");
+            }
+        }
+    }
+}
+
+#[test]
+fn a_byte_that_is_no_symbol_at_every_place() {
+    let mut chance = Chance::new();
+    for width in WIDTHS {
+        let count = places(width);
+        for place in 0..count {
+            for byte in [order(width) as u8, 128, 255] {
+                let mut word = chance.symbols(count, order(width));
+                word[place] = byte;
+                assert_eq!(compare(width, &word, &[]), Err(xrs::Refusal::Symbol), "{byte} at place {place} of width {width}");
+                assert!(compare(width, &word, &[place as u8]).is_ok(), "{byte} at place {place} of width {width}");
+                let other = (place + 1 + chance.below(count - 1)) % count;
+                word[other] = byte;
+                assert_eq!(compare(width, &word, &[place as u8]), Err(xrs::Refusal::Symbol), "{byte} at places {place} and {other} of width {width}");
+                assert!(compare(width, &word, &[place as u8, other as u8]).is_ok(), "{byte} at places {place} and {other} of width {width}");
             }
         }
     }

@@ -2,7 +2,7 @@
 use mathlib.Core.Path.{_≡_, refl, sym, ap, ap₂, _∙_, subst}
 use mathlib.Core.Logic.{_≢_}
 use mathlib.Core.Bool.{Bool, true, false, cond, _||_}
-use mathlib.Core.List.{List, [], _∷_, _++_, map}
+use mathlib.Core.List.{List, [], _∷_, map}
 use Prim.Native.Nat.{ℕ, suc, _≤_, _<_}
 use native.Mathlib.Nat.{le-refl}
 use native.Mathlib.Omega.{arith}
@@ -14,6 +14,7 @@ use Rattle.field.specs.Field.{order, product}
 use Rattle.field.specs.Question.{allBelow}
 use Rattle.field.proofs.Laws.{IsField}
 use Rattle.field.proofs.Widths.{field-of}
+use Rattle.sums.proofs.Below.{below-head, below-tail}
 use Rattle.code.specs.declared.restorer.Trial.{Trial}
 use Rattle.code.specs.declared.restorer.Correction.{Correction}
 use Rattle.code.specs.Word.{checks, places, at, syndrome, Codeword}
@@ -24,7 +25,7 @@ use Rattle.code.specs.Correction.{fill, Agrees, Lent, tried, Ready, corr
 use Rattle.code.specs.Locate.{without, full, Amends}
 use Rattle.code.proofs.Algebra.{add-cancel}
 use Rattle.code.proofs.DistanceLaw.{distance-of}
-use Rattle.code.proofs.Members.{append-left, member-append, below-head, below-tail}
+use Rattle.code.proofs.Members.{append-left, member-append}
 use Rattle.code.proofs.Unique.{same-near}
 use Rattle.code.proofs.Columns.{combine, syndrome-masked}
 use Rattle.code.proofs.Filling.{Solution, fill-agrees, each-map, agrees-changes, solution-codeword}

@@ -13,12 +13,13 @@ use Rattle.field.specs.Polynomial.{add}
 use Rattle.field.specs.Field.{product}
 use Rattle.field.specs.Question.{allBelow}
 use Rattle.field.proofs.Laws.{IsField}
+use Rattle.sums.proofs.Below.{below-head, below-tail}
 use Rattle.code.specs.Word.{checks, places, Codeword}
 use Rattle.code.specs.Place.{column}
 use Rattle.code.specs.Erasure.{member, maskedSyndrome}
 use Rattle.code.specs.Correction.{Lent, NoneAt, NoneWithin}
 use Rattle.code.proofs.Questions.{not-member-head, not-member-tail}
-use Rattle.code.proofs.Members.{distinct-head, below-head, below-tail, below-cons}
+use Rattle.code.proofs.Members.{distinct-head, below-cons}
 use Rattle.code.proofs.Columns.{combine}
 use Rattle.code.proofs.Extra.{Beside, within-beside, wrong}
 use Rattle.code.specs.Beside.{Arranged, same, swapped, DataNamed, NoneCheck, NoneData}

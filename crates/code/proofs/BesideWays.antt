@@ -14,8 +14,9 @@ use Rattle.field.specs.Field.{product, power, α}
 use Rattle.field.specs.Question.{isWidth, allBelow}
 use Rattle.field.proofs.Laws.{IsField}
 use Rattle.field.proofs.Widths.{field-of, cubes-of}
+use Rattle.sums.proofs.Evaluation.{five-at}
 use Rattle.code.specs.declared.restorer.Correction.{Correction}
-use Rattle.code.specs.Word.{checks, places, items, at}
+use Rattle.code.specs.Word.{checks, places, items, five, at}
 use Rattle.code.specs.Erasure.{member}
 use Rattle.code.specs.Near.{radius}
 use Rattle.code.specs.Matrix.{unknowns}
@@ -152,17 +153,22 @@ module _ (m : ℕ) (wd : isWidth m ≡ true) (w es ss : List ℕ) (x : Correctio
   -- ---- beside two data places
 
   module _ (a c : ℕ) (e : es ≡ a ∷ c ∷ []) (ha : checks ≤ a) (hc : checks ≤ c) where
-    pub eliminated-two : (v0 v1 v2 low high : ℕ)
-        → v0 ≡ eliminate m 1 (point m a) (at ss) 0 → v1 ≡ eliminate m 1 (point m a) (at ss) 1 → v2 ≡ eliminate m 1 (point m a) (at ss) 2
-        → low ≡ add v1 (product m (power m (point m c) 1) v0) → high ≡ add v2 (product m (power m (point m c) 1) v1)
-        → Searched m w es 1 (NoneRoot m w es 0 low high) x → Searched m w es 1 (NoneData m w es (at ss)) x
+    pub eliminated-two : (v u : List ℕ) → v ≡ five (eliminate m 1 (point m a) (at ss)) → u ≡ five (eliminate m 1 (point m c) (at v))
+        → Searched m w es 1 (NoneRoot m w es 0 (at u 0) (at u 1)) x → Searched m w es 1 (NoneData m w es (at ss)) x
     unfolding eliminate
-    eliminated-two v0 v1 v2 low high e0 e1 e2 el eh T = searched-last (le-refl 1) (λ none b hb lb o D.
-        none b hb lb o (step-linear F low high b hb lb
-        (subst (λ (y : ℕ). Step m 1 low y b) (sym (eh ∙ ap₂ (λ (i j : ℕ). add i (product m (power m (point m c) 1) j)) e2 e1))
-        (subst (λ (y : ℕ). Step m 1 y (eliminate m 1 (point m c) (eliminate m 1 (point m a) (at ss)) 1) b)
-        (sym (el ∙ ap₂ (λ (i j : ℕ). add i (product m (power m (point m c) 1) j)) e1 e0))
+    eliminated-two v u ev eu T = searched-last (le-refl 1) (λ none b hb lb o D.
+        none b hb lb o (step-linear F (at u 0) (at u 1) b hb lb
+        (subst (λ (y : ℕ). Step m 1 (at u 0) y b) (sym (row 1 (omega arith)))
+        (subst (λ (y : ℕ). Step m 1 y (eliminate m 1 (point m c) (eliminate m 1 (point m a) (at ss)) 1) b) (sym (row 0 (omega arith)))
         (D .beside-two a c e ha hc 0 (omega arith)))))) T
+      where
+        row : (k : ℕ) → k < 2 → at u k ≡ eliminate m 1 (point m c) (eliminate m 1 (point m a) (at ss)) k
+        row k h =
+            ap (λ (y : List ℕ). at y k) eu ∙ five-at (eliminate m 1 (point m c) (at v)) k (omega arith)
+            ∙ ap₂ (λ (i j : ℕ). add i (product m (power m (point m c) 1) j)) (first (1 + k) (omega arith)) (first k (omega arith))
+          where
+            first : (j : ℕ) → j < checks → at v j ≡ eliminate m 1 (point m a) (at ss) j
+            first j l = ap (λ (y : List ℕ). at y j) ev ∙ five-at (eliminate m 1 (point m a) (at ss)) j l
 
 -- ---- the erasures of a trial
 

@@ -17,14 +17,14 @@ use Rattle.field.specs.declared.Verdict.the-variants.{Passed, Refused}
 use Rattle.field.proofs.Laws.{IsField}
 use Rattle.field.proofs.Check.{and-left, and-right, all, all-at}
 use Rattle.field.proofs.Widths.{field-of}
+use Rattle.sums.proofs.Evaluation.{five-cong}
+use Rattle.sums.proofs.Below.{allBelow-means}
 use Rattle.code.specs.Word.{places, items, five, at, Codeword, encode}
 use Rattle.code.specs.Erasure.{changes, maskedSyndrome}
 use Rattle.code.specs.Near.{distance, radius, Near}
 use Rattle.code.specs.Call.{written, done, zeroSyndromes, restoreAsked}
 use Rattle.code.specs.Demands.{Data, PassesWithin}
 use Rattle.code.specs.Cases.{Case, encoding, restoring, codeword, Holds, Table}
-use Rattle.code.proofs.Questions.{allBelow-means}
-use Rattle.code.proofs.Horner.{five-cong}
 use Rattle.code.proofs.Columns.{combine}
 use Rattle.code.specs.Correction.{Lent}
 use Rattle.code.proofs.Filling.{Each, Solution, codeword-solution}

@@ -1,37 +1,65 @@
 -- A trial is a linear system: its entries, and the solver's answers in terms of the codewords that agree with the word outside the places
 -- of the trial. Assumes nothing.
-use mathlib.Core.Path.{_≡_, refl, sym, ap, _∙_, subst}
+use mathlib.Core.Path.{_≡_, refl, sym, ap, ap₂, _∙_, subst}
 use mathlib.Core.Logic.{_≢_}
-use mathlib.Core.Bool.{Bool, true, false, cond, false≢true, true≢false}
-use mathlib.Core.List.{List, [], _∷_, map}
+use mathlib.Core.Bool.{Bool, true, false, cond}
+use mathlib.Core.List.{List, [], _∷_, _++_, map}
 use Prim.Native.Nat.{ℕ, zero, suc, _+_, _-_, _≤_, _<_}
 use native.Mathlib.Nat.{not-suc-le-zero, le-of-suc-le-suc, le-refl}
+use native.Mathlib.Decide.{decLt, ℕ-discrete}
 use native.Mathlib.Omega.{arith}
-use borrow.Author.Tests.{eq-eqb, ne-eqb, le-leb, lt-leb}
+use borrow.Author.Tests.{ne-eqb, le-leb, lt-leb}
 use lib.Dec.{eqb, leb}
-use lib.ListN.{length, getD, take, length-take}
-use lib.Seq.{getD-take, length-take-le}
+use lib.ListN.{length, getD, set, take, length-set, length-map, List·getD-map}
+use lib.Seq.{getD-take, length-take-le, getD-set-same, getD-set-other}
 use Rattle.field.specs.Polynomial.{add}
 use Rattle.field.specs.Field.{order, product}
 use Rattle.field.specs.Question.{isWidth}
+use Rattle.field.specs.Answer.{Operand}
 use Rattle.field.proofs.Laws.{IsField}
 use Rattle.field.proofs.Widths.{field-of}
+use Rattle.sums.proofs.Evaluation.{five-at, five-cong}
 use Rattle.code.specs.declared.restorer.Trial.{Trial}
 use Rattle.code.specs.declared.solver.Solutions.{Solutions}
 use Rattle.code.specs.declared.solver.Solutions.the-variants.{None, One, Several}
-use Rattle.code.specs.Word.{at}
+use Rattle.code.specs.Word.{at, five}
 use Rattle.code.specs.Place.{column}
 use Rattle.code.specs.Erasure.{maskedSyndrome}
-use Rattle.code.specs.Near.{distance}
-use Rattle.code.specs.Matrix.{rows, unknowns, columns, entry, Matrix, dot, Values, Means}
-use Rattle.code.specs.Correction.{fill, tried, Ready, systemEntry, SystemMatrix, NoneAt, OneAt, SeveralAt, Searched}
-use Rattle.code.proofs.DistanceLaw.{distance-of}
+use Rattle.code.specs.Matrix.{rows, unknowns, columns, entry, columnOf, Matrix, Operands, rowAdd, dot, Values, Means}
+use Rattle.code.specs.Correction.{fill, tried, Ready, systemEntry, SystemColumns, SystemRow, SystemMatrix, NoneAt, OneAt, SeveralAt, Searched}
 use Rattle.code.proofs.Sums.{parity-lt}
-use Rattle.code.proofs.Horner.{five-at}
 use Rattle.code.proofs.Columns.{combine, column-lt}
-use Rattle.code.proofs.Filling.{Each, Solution, fill-agrees, agrees-changes, masked-lt, solution-values, solution-codeword, codeword-solution, codeword-fill}
+use Rattle.code.proofs.Filling.{Each, Solution, fill-agrees, masked-lt, solution-values, solution-codeword, codeword-solution, codeword-fill}
 use Rattle.code.proofs.LinearSystem.{System, Meets, meets-solves, system-none, system-solved, system-several}
-use Rattle.code.proofs.Unique.{same-near}
+
+-- ---- a column times a symbol, added to the syndromes as a row of the solver
+
+-- five symbols, with 0 behind them
+pub five-operands : {m : ℕ} (F : IsField m) (f : ℕ → ℕ) → isWidth m ≡ true → ((k : ℕ) → k < 5 → f k < order m) → Operands m (five f ++ 0 ∷ [])
+five-operands {m} F f w small j h = record { width = w; symbol = go j h }
+  where
+    go : (j : ℕ) → j < columns → getD (five f ++ 0 ∷ []) j 0 < order m
+    go zero h = small 0 (omega arith)
+    go (suc zero) h = small 1 (omega arith)
+    go (suc (suc zero)) h = small 2 (omega arith)
+    go (suc (suc (suc zero))) h = small 3 (omega arith)
+    go (suc (suc (suc (suc zero)))) h = small 4 (omega arith)
+    go (suc (suc (suc (suc (suc zero))))) h = omega (arith, F .one-lt)
+    go (suc (suc (suc (suc (suc (suc j)))))) h = absurd (omega arith)
+
+pub masked-row : {m : ℕ} (F : IsField m) (p : ℕ) (s ys pys ps r out : List ℕ) (x : ℕ) → isWidth m ≡ true → x < order m
+    → ys ≡ five (column m p) → pys ≡ five (at ys) ++ 0 ∷ [] → ps ≡ five (at s) ++ 0 ∷ []
+    → (Operand m x → Operands m pys → r ≡ rowAdd m ps x pys) → out ≡ five (at r)
+    → out ≡ five (λ k. add (at s k) (product m (column m p k) x))
+masked-row {m} F p s ys pys ps r out x w h ey ep es er eo =
+    eo
+    ∙ ap (λ (u : List ℕ). five (at u)) (er (record { width = w; symbol = h })
+    (subst (Operands m) (sym col) (five-operands F (column m p) w (λ k l. column-lt F p k))))
+    ∙ ap₂ (λ (u v : List ℕ). five (at (rowAdd m u x v))) es col
+    ∙ five-cong _ _ (λ k l. ap (add (at s k)) (F .product-comm x (column m p k)))
+  where
+    col : pys ≡ five (column m p) ++ 0 ∷ []
+    col = ep ∙ ap (λ (u : List ℕ). five (at u) ++ 0 ∷ []) ey
 
 -- ---- the entries of the system
 
@@ -46,21 +74,6 @@ module _ (m : ℕ) (ls : List ℕ) (b k j : ℕ) where
   entry-past : j ≢ 0 → length ls < j → systemEntry m ls b k j ≡ 0
   entry-past d h = entry-left d ∙ ap (λ (t : Bool). cond t (column m (getD ls (j - 1) 0) k) 0) (lt-leb j (length ls) h)
 
--- the system of the first n places xs
-module _ (m : ℕ) (xs : List ℕ) (n b k j : ℕ) where
-  pub entry-right : j ≡ 0 → b ≡ systemEntry m (take n xs) b k j
-  entry-right e =
-      sym (ap (λ (t : Bool). cond t b (cond (leb j (length (take n xs))) (column m (getD (take n xs) (j - 1) 0) k) 0)) (eq-eqb j 0 e))
-
-  module _ (l : n ≤ length xs) (d : j ≢ 0) where
-    pub entry-column : j ≤ n → (x : ℕ) → x ≡ column m (getD xs (j - 1) 0) k → x ≡ systemEntry m (take n xs) b k j
-    entry-column h x e =
-        e ∙ ap (λ (p : ℕ). column m p k) (sym (getD-take n xs (j - 1) 0 (omega arith)))
-        ∙ sym (entry-at m (take n xs) b k j d (omega (arith, length-take-le n xs l)))
-
-    pub entry-none : n < j → 0 ≡ systemEntry m (take n xs) b k j
-    entry-none h = sym (entry-past m (take n xs) b k j d (omega (arith, length-take-le n xs l)))
-
 -- what holds of five rows holds of each
 pub each-row : (P : ℕ → List ℕ → Type 0) (r0 r1 r2 r3 r4 : List ℕ) → P 0 r0 → P 1 r1 → P 2 r2 → P 3 r3 → P 4 r4
     → (k : ℕ) → k < rows → P k (getD (r0 ∷ r1 ∷ r2 ∷ r3 ∷ r4 ∷ []) k [])
@@ -70,6 +83,60 @@ each-row P r0 r1 r2 r3 r4 p0 p1 p2 p3 p4 (suc (suc zero)) h = p2
 each-row P r0 r1 r2 r3 r4 p0 p1 p2 p3 p4 (suc (suc (suc zero))) h = p3
 each-row P r0 r1 r2 r3 r4 p0 p1 p2 p3 p4 (suc (suc (suc (suc zero)))) h = p4
 each-row P r0 r1 r2 r3 r4 p0 p1 p2 p3 p4 (suc (suc (suc (suc (suc k))))) h = absurd (omega arith)
+
+-- column j + 1 of the system of the first n places xs
+module _ (m : ℕ) (xs : List ℕ) (n j : ℕ) (l : n ≤ length xs) (b k : ℕ) where
+  column-at : j < n → systemEntry m (take n xs) b k (suc j) ≡ column m (getD xs j 0) k
+  column-at h =
+      let back : suc j - 1 ≡ j = omega arith in
+      entry-at m (take n xs) b k (suc j) (omega arith) (omega (arith, length-take-le n xs l))
+      ∙ ap (λ (p : ℕ). column m p k) (ap (λ (i : ℕ). getD (take n xs) i 0) back ∙ getD-take n xs j 0 h)
+
+  column-past : n ≤ j → systemEntry m (take n xs) b k (suc j) ≡ 0
+  column-past h = entry-past m (take n xs) b k (suc j) (omega arith) (omega (arith, length-take-le n xs l))
+
+-- the columns of the first i places xs, and with one place more
+module _ (m : ℕ) (xs : List ℕ) where
+  pub columns-start : SystemColumns m (take 0 xs) (five (λ k. 0) ∷ five (λ k. 0) ∷ five (λ k. 0) ∷ five (λ k. 0) ∷ five (λ k. 0) ∷ [])
+  columns-start =
+      record {
+        wide = refl;
+        each = λ w. each-row (λ j c. c ≡ five (λ k. systemEntry m [] 0 k (suc j))) _ _ _ _ _ refl refl refl refl refl;
+      }
+
+  module _ (i : ℕ) (h : i < length xs) where
+    place-other : (j k : ℕ) → j ≢ i → systemEntry m (take i xs) 0 k (suc j) ≡ systemEntry m (take (i + 1) xs) 0 k (suc j)
+    place-other j k d = go (decLt j i)
+      where
+        go : Dec (j < i) → systemEntry m (take i xs) 0 k (suc j) ≡ systemEntry m (take (i + 1) xs) 0 k (suc j)
+        go (yes l) = column-at m xs i j (omega arith) 0 k l ∙ sym (column-at m xs (i + 1) j (omega arith) 0 k (omega arith))
+        go (no l) = column-past m xs i j (omega arith) 0 k (omega arith) ∙ sym (column-past m xs (i + 1) j (omega arith) 0 k (omega arith))
+
+    pub columns-on : {a : List (List ℕ)} → SystemColumns m (take i xs) a → i < unknowns → {x : List ℕ} → (isWidth m ≡ true → x ≡ five (column m (getD xs i 0)))
+        → SystemColumns m (take (i + 1) xs) (set a i x)
+    columns-on {a} s u {x} e = record { wide = length-set a i x ∙ s .wide; each = λ w j l. go w j l (ℕ-discrete j i) }
+      where
+        go : isWidth m ≡ true → (j : ℕ) → j < unknowns → Dec (j ≡ i) → getD (set a i x) j [] ≡ five (λ k. systemEntry m (take (i + 1) xs) 0 k (suc j))
+        go w j l (yes r) =
+            ap (λ (n : ℕ). getD (set a i x) n []) r ∙ getD-set-same a i x [] (omega (arith, s .wide)) ∙ e w
+            ∙ ap (λ (n : ℕ). five (column m (getD xs n 0))) (sym r)
+            ∙ five-cong _ _ (λ k b. sym (column-at m xs (i + 1) j (omega arith) 0 k (omega arith)))
+        go w j l (no d) = getD-set-other a i j x [] d ∙ s .each w j l ∙ five-cong _ _ (λ k b. place-other j k d)
+
+-- a right-hand side, and row k of the columns
+pub system-row : {m b k : ℕ} {ls r : List ℕ} {a : List (List ℕ)} → SystemColumns m ls a → k < rows → r ≡ b ∷ columnOf a k → SystemRow m ls b k r
+system-row {m} {b} {k} {ls} {r} {a} s h e =
+    record {
+      wide = ap length e ∙ ap suc (length-map a _ ∙ s .wide);
+      entries = λ w j l. ap (λ (u : List ℕ). getD u j 0) e ∙ go w j l;
+    }
+  where
+    go : isWidth m ≡ true → (j : ℕ) → j < columns → getD (b ∷ columnOf a k) j 0 ≡ systemEntry m ls b k j
+    go w zero l = refl
+    go w (suc j) l =
+        List·getD-map (λ (c : List ℕ). getD c k 0) a j [] ∙ ap (λ (c : List ℕ). at c k) (s .each w j (omega arith))
+        ∙ five-at (λ k. systemEntry m ls 0 k (suc j)) k h
+        ∙ entry-left m ls 0 k (suc j) (omega arith) ∙ sym (entry-left m ls b k (suc j) (omega arith))
 
 -- ---- values at places, as lists
 

@@ -9,13 +9,13 @@ use lib.ListN.{length}
 use Rattle.field.specs.Question.{Outcome, accepted, after, isWidth}
 use Rattle.field.specs.declared.Verdict.{Verdict}
 use Rattle.field.proofs.Widths.{field-of}
+use Rattle.sums.proofs.Evaluation.{five-cong}
 use Rattle.code.specs.Word.{places, at, syndrome, Codeword, encode, dataOf}
 use Rattle.code.specs.Erasure.{syndromesOf}
 use Rattle.code.specs.Call.{written, done, withinWritten, shown, allZero, zeroSyndromes, encodeOf, encodeWritten, testOf}
 use Rattle.code.specs.Demands.{Data, EncoderMakes, EncoderMade, ReadBack, TestsCodeword, NeverTwo, Accepts, RefusesSeven, RefusesFourteen, FewErasures}
 use Rattle.code.specs.Demands.{LongerReach, ShorterReach, RefusedUnchanged, FewChanged, SameRestored, MethodsAgree, DisplaysPlain, DisplaysZero, SameDisplayed}
 use Rattle.code.proofs.Encoding.{encode-codeword, encode-data, codeword-data, codeword-encode}
-use Rattle.code.proofs.Horner.{five-cong}
 use Rattle.code.proofs.Passing.{encode-passes, read-passes, test-codeword, zero-syndromes, five-zero, given, within-passes}
 use Rattle.code.proofs.Restoring as Restoring
 

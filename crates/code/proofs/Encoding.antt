@@ -9,10 +9,11 @@ use lib.Seq.{getD-drop, ext-getD}
 use Rattle.field.specs.Polynomial.{add}
 use Rattle.field.specs.Field.{order}
 use Rattle.field.proofs.Laws.{IsField}
+use Rattle.sums.proofs.Evaluation.{five-at}
 use Rattle.code.specs.Word.{checks, places, five, at, parity, syndrome, Codeword, encode, dataOf}
 use Rattle.code.specs.Demands.{Data}
+use Rattle.code.proofs.Parities.{parity-data}
 use Rattle.code.proofs.Sums.{parity-lt}
-use Rattle.code.proofs.Horner.{five-at, parity-data}
 
 -- the encoder's word holds the data
 pub encode-data : (m : ℕ) (c : List ℕ) → dataOf (encode m c) ≡ c

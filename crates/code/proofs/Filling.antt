@@ -13,12 +13,13 @@ use Rattle.field.specs.Polynomial.{add}
 use Rattle.field.specs.Field.{order}
 use Rattle.field.specs.Question.{allBelow}
 use Rattle.field.proofs.Laws.{IsField}
+use Rattle.sums.proofs.Below.{below-head, below-tail}
 use Rattle.code.specs.Word.{checks, places, at, syndrome, Codeword}
 use Rattle.code.specs.Erasure.{member, distinct, differ, changes, masked, maskedSyndrome}
 use Rattle.code.specs.Correction.{fill, Agrees, Lent}
 use Rattle.code.proofs.Sums.{total-le, total-zero, syndrome-cong}
 use Rattle.code.proofs.Questions.{not-member-head, not-member-tail}
-use Rattle.code.proofs.Members.{distinct-head, distinct-tail, below-head, below-tail}
+use Rattle.code.proofs.Members.{distinct-head, distinct-tail}
 use Rattle.code.proofs.Unique.{differ-eq}
 use Rattle.code.proofs.Columns.{combine, masked-small, syndrome-masked}
 

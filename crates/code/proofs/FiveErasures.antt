@@ -1,9 +1,8 @@
 -- The cases with five erasures. Assumes nothing.
 use mathlib.Core.Path.{_≡_, refl, sym, ap, ap₂, _∙_}
-use mathlib.Core.Logic.{_≢_}
-use mathlib.Core.Bool.{true, false, _&&_}
+use mathlib.Core.Bool.{false, _&&_}
 use mathlib.Core.List.{List, [], _∷_, map}
-use Prim.Native.Nat.{ℕ, _+_, _≤_, _<_, zero-le}
+use Prim.Native.Nat.{ℕ, _+_, _≤_}
 use native.Mathlib.Omega.{arith}
 use borrow.Author.Tests.{ne-eqb}
 use lib.Dec.{T, leb, leb→le}
@@ -15,14 +14,14 @@ use Rattle.field.specs.Question.{accepted}
 use Rattle.field.proofs.Laws.{IsField}
 use Rattle.field.proofs.Check.{and-left, and-right}
 use Rattle.field.proofs.Widths.{field-of}
-use Rattle.code.specs.Word.{checks, places, at, sum, Codeword, encode, dataOf}
+use Rattle.sums.proofs.Sums.{sum-cong, sum-add, sum-times, sum-zero}
+use Rattle.code.specs.Word.{checks, at, sum, encode, dataOf}
 use Rattle.code.specs.Place.{column}
 use Rattle.code.specs.Erasure.{member, total, changes, maskedSyndrome}
 use Rattle.code.specs.Near.{radius, Near}
 use Rattle.code.specs.Call.{zeroSyndromes, restoreAsked}
 use Rattle.code.specs.Demands.{PassesWithin}
 use Rattle.code.specs.Cases.{restoring, refusing, zeros, wordC, word, symbols, _but_is_, fiveErasures, Holds, Table}
-use Rattle.code.proofs.Sums.{sum-cong, sum-add, sum-times, sum-zero}
 use Rattle.code.proofs.Columns.{combine}
 use Rattle.code.proofs.Filling.{codeword-solution}
 use Rattle.code.proofs.Extra.{within-agrees}

@@ -10,7 +10,7 @@ pub mod Members
 -- the code: distance, encoder, columns
 pub mod Points
 pub mod DistanceLaw
-pub mod Horner
+pub mod Parities
 pub mod Encoding
 pub mod Columns
 -- erasures, near codewords, the demands and the starred cases
@@ -45,5 +45,6 @@ pub mod PlainWays
 pub mod Ratios
 pub mod Beside
 pub mod BesideWays
+pub mod CheckPlaces
 -- and what is restored
 pub mod Repairing

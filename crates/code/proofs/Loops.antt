@@ -3,11 +3,12 @@
 use mathlib.Core.Path.{_≡_, refl, sym, ap, ap₂, _∙_, subst}
 use mathlib.Core.List.{List, [], _∷_, _++_, append-nil}
 use Prim.Native.Nat.{ℕ, zero, suc, _+_, _-_, _≤_, _<_}
-use native.Mathlib.Nat.{not-suc-le-zero, le-of-suc-le-suc, le-refl}
+use native.Mathlib.Nat.{not-suc-le-zero, le-of-suc-le-suc, le-refl, add-zero}
 use native.Mathlib.Numerals.{add-one}
 use native.Mathlib.Omega.{arith}
 use borrow.Author.Count.{below-more}
 use lib.ListN.{length, getD, set, take, drop, length-set, length-drop, drop-of-length-le}
+use Rattle.sums.specs.Block.{Run}
 use lib.Seq.{take-all, take-at, take-suc, take-suc-set, getD-set-same, getD-set-other, ext-getD}
 
 -- ---- copying the list s over the list d of the same length: after i turns d is `take i s ++ drop i d`
@@ -93,3 +94,17 @@ sought-start P r k l b = absurd (omega arith)
 
 pub sought-on : (P : ℕ → Type 0) (r i : ℕ) → Sought P r i → P i → Sought P r (i + 1)
 sought-on P r i h p k l b = below-more (λ (k : ℕ). r ≤ k → P k) i (λ k b l. h k l b) (λ l. p) k b l
+
+-- ---- a run of places is passed at once: what each place passed carries on holds at the end
+
+pub run-on : (P Q : ℕ → Type 0) (i n r : ℕ) → ((p : ℕ) → p < n → Q p → P p → P (p + 1)) → Run Q i n r → P i → P r
+run-on P Q i n r step a start =
+    let e : i + (r - i) ≡ r = omega (arith, a .on) in
+    subst P e (go (r - i) (omega arith))
+  where
+    go : (d : ℕ) → i + d ≤ r → P (i + d)
+    go zero h = rw add-zero start
+    go (suc d) h = subst P (one d) (step (i + d) (omega (arith, a .within)) (a .each (i + d) (omega arith) (omega arith)) (go d (omega arith)))
+      where
+        one : (d : ℕ) → i + d + 1 ≡ i + suc d
+        one d = omega arith

@@ -7,7 +7,7 @@ use Prim.Native.Nat.{ℕ, zero, suc, _+_, _≤_, _<_, zero-le}
 use native.Mathlib.Nat.{zero-add, le-refl}
 use native.Mathlib.Decide.{ℕ-discrete}
 use native.Mathlib.Omega.{arith}
-use borrow.Author.Tests.{not-true, ltb-true, ltb-false, lt-ltb, le-ltb, eqb-true, eq-eqb, ne-eqb}
+use borrow.Author.Tests.{not-true, ltb-false, lt-ltb, le-ltb, eqb-true, eq-eqb, ne-eqb}
 use lib.Dec.{eqb, ltb}
 use lib.ListN.{length}
 use Rattle.field.specs.Question.{allBelow}
@@ -39,12 +39,6 @@ module _ (l : ℕ) (ls : List ℕ) where
 
   pub distinct-cons : member l ls ≡ false → distinct ls ≡ true → distinct (l ∷ ls) ≡ true
   distinct-cons e d = ap (λ (t : Bool). not t && distinct ls) e ∙ d
-
-  pub below-head : (n : ℕ) → allBelow n (l ∷ ls) ≡ true → l < n
-  below-head n b = ltb-true l n (and-true-left (ltb l n) (allBelow n ls) b)
-
-  pub below-tail : (n : ℕ) → allBelow n (l ∷ ls) ≡ true → allBelow n ls ≡ true
-  below-tail n b = and-true-right (ltb l n) (allBelow n ls) b
 
   pub below-cons : (n : ℕ) → l < n → allBelow n ls ≡ true → allBelow n (l ∷ ls) ≡ true
   below-cons n h b = ap (λ (t : Bool). t && allBelow n ls) (lt-ltb l n h) ∙ b

@@ -14,6 +14,7 @@ use Rattle.field.specs.Polynomial.{add}
 use Rattle.field.specs.Field.{order, product}
 use Rattle.field.specs.Question.{allBelow}
 use Rattle.field.proofs.Laws.{IsField}
+use Rattle.sums.proofs.Below.{below-head, below-tail}
 use Rattle.code.specs.Word.{checks, places, at, syndrome, Codeword}
 use Rattle.code.specs.Place.{column}
 use Rattle.code.specs.Erasure.{member, distinct, masked, maskedSyndrome}
@@ -21,7 +22,7 @@ use Rattle.code.specs.Correction.{Lent}
 use Rattle.code.proofs.Algebra.{add-of-eq}
 use Rattle.code.proofs.Sums.{syndrome-add, syndrome-zero}
 use Rattle.code.proofs.Questions.{not-member-head, not-member-tail}
-use Rattle.code.proofs.Members.{distinct-head, distinct-tail, distinct-cons, below-head, below-tail, below-cons}
+use Rattle.code.proofs.Members.{distinct-head, distinct-tail, distinct-cons, below-cons}
 use Rattle.code.proofs.Columns.{combine, column-unit, column-none, syndrome-masked}
 use Rattle.code.proofs.Filling.{masked-lt}
 use Rattle.code.proofs.Extra.{Falling, falling-le, wrong}

@@ -12,6 +12,8 @@ use Rattle.field.specs.Field.{order, product, inverse}
 use Rattle.field.specs.Question.{isWidth, allBelow}
 use Rattle.field.proofs.Laws.{IsField}
 use Rattle.field.proofs.Widths.{field-of}
+use Rattle.sums.proofs.Below.{below-head}
+use Rattle.sums.proofs.Evaluation.{five-at, five-cong}
 use Rattle.code.specs.declared.place.Place.{Place}
 use Rattle.code.specs.declared.restorer.Trial.{Trial}
 use Rattle.code.specs.declared.restorer.Correction.{Correction}
@@ -27,9 +29,8 @@ use Rattle.code.specs.Correction.{Lent, tried, Ready, Searched, NoneWith
 use Rattle.code.specs.Scan.{Carried, Scanned}
 use Rattle.code.specs.Locate.{point, without, Ratio, TwoErrors, full, Lists, Amends, NoRatio, NoPair, PairValues}
 use Rattle.code.proofs.Algebra.{add-of-eq}
-use Rattle.code.proofs.Horner.{five-at, five-cong}
 use Rattle.code.proofs.Questions.{both-ways}
-use Rattle.code.proofs.Members.{below-head, below-cons}
+use Rattle.code.proofs.Members.{below-cons}
 use Rattle.code.proofs.Extra.{Falling}
 use Rattle.code.proofs.Passing.{five-zero}
 use Rattle.code.proofs.Trying.{sums-at, sums-lt, searched-none, searched-one, searched-last}

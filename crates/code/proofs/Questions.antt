@@ -13,15 +13,15 @@ use lib.ListN.{length, getD, take, drop, drop-of-length-le}
 use lib.Seq.{drop-cons}
 use Rattle.field.specs.Question.{allBelow}
 use Rattle.field.proofs.Ask.{and-true-left, and-true-right}
+use Rattle.sums.specs.Block.{Run}
+use Rattle.sums.proofs.Below.{and-holds}
+pub use Rattle.sums.proofs.Below.{allBelow-means, allBelow-holds}
 use Rattle.code.specs.Word.{at}
 use Rattle.code.specs.Erasure.{member, distinct, symbolsFrom}
 use Rattle.code.specs.Call.{allZero}
-use Rattle.code.proofs.Loops.{part-drop}
+use Rattle.code.proofs.Loops.{part-drop, run-on}
 
 -- ---- Booleans
-
-and-holds : (a b : Bool) → a ≡ true → b ≡ true → (a && b) ≡ true
-and-holds a b h k = simp (h, k)
 
 or-means : (a b : Bool) → (a || b) ≡ true → (a ≡ true) ⊎ (b ≡ true)
 or-means true b h = inl refl
@@ -45,16 +45,6 @@ pub both-ways : {b : Bool} → b ≡ true → b ≡ false → ⊥
 both-ways h k = false≢true (sym k ∙ h)
 
 -- ---- what the tests mean
-
-pub allBelow-means : (n : ℕ) (xs : List ℕ) → allBelow n xs ≡ true → (k : ℕ) → k < length xs → getD xs k 0 < n
-allBelow-means n [] h k l = absurd (not-suc-le-zero l)
-allBelow-means n (x ∷ xs) h zero l = ltb-true x n (and-true-left (ltb x n) (allBelow n xs) h)
-allBelow-means n (x ∷ xs) h (suc k) l = allBelow-means n xs (and-true-right (ltb x n) (allBelow n xs) h) k (le-of-suc-le-suc l)
-
-pub allBelow-holds : (n : ℕ) (xs : List ℕ) → ((k : ℕ) → k < length xs → getD xs k 0 < n) → allBelow n xs ≡ true
-allBelow-holds n [] h = refl
-allBelow-holds n (x ∷ xs) h =
-    and-holds (ltb x n) (allBelow n xs) (lt-ltb x n (h zero (omega arith))) (allBelow-holds n xs (λ k l. h (suc k) (omega arith)))
 
 pub member-means : (a : ℕ) (xs : List ℕ) → member a xs ≡ true → (k : ℕ) × (k < length xs) × (getD xs k 0 ≡ a)
 member-means a [] h = absurd (false≢true h)
@@ -123,6 +113,10 @@ module _ (n : ℕ) (xs : List ℕ) (i : ℕ) (e : allBelow n xs ≡ allBelow n (
   pub allBelow-end : length xs ≤ i → true ≡ allBelow n xs
   allBelow-end h = sym (e ∙ ap (allBelow n) (drop-of-length-le xs h))
 
+pub allBelow-run : (n : ℕ) (xs : List ℕ) (i r : ℕ) → Run (λ p. getD xs p 0 < n) i (length xs) r → allBelow n xs ≡ allBelow n (drop i xs)
+    → allBelow n xs ≡ allBelow n (drop r xs)
+allBelow-run n xs i r = run-on (λ p. allBelow n xs ≡ allBelow n (drop p xs)) (λ p. getD xs p 0 < n) i (length xs) r (λ p h t e. allBelow-on n xs p e h t)
+
 -- what is below 1 is 0
 pub allZero-below : (xs : List ℕ) → allBelow 1 xs ≡ allZero xs
 allZero-below [] = refl
@@ -174,3 +168,9 @@ module _ (q : ℕ) (es xs : List ℕ) (i : ℕ) (e : symbolsFrom q es 0 xs ≡ s
 
   pub symbols-end : length xs ≤ i → true ≡ symbolsFrom q es 0 xs
   symbols-end h = sym (e ∙ ap (symbolsFrom q es i) (drop-of-length-le xs h))
+
+pub symbols-run : (q : ℕ) (es xs : List ℕ) (i r : ℕ) → Run (λ p. getD xs p 0 < q) i (length xs) r
+    → symbolsFrom q es 0 xs ≡ symbolsFrom q es i (drop i xs) → symbolsFrom q es 0 xs ≡ symbolsFrom q es r (drop r xs)
+symbols-run q es xs i r =
+    run-on (λ p. symbolsFrom q es 0 xs ≡ symbolsFrom q es p (drop p xs)) (λ p. getD xs p 0 < q) i (length xs) r
+    (λ p h t e. symbols-on q es xs p e h t)

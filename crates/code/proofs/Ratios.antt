@@ -23,27 +23,31 @@ use Rattle.code.proofs.Locating.{column-point, point-distinct}
 
 module _ {m : ℕ} (F : IsField m) where
   -- what a data symbol x adds to row k
-  abbrev term : ℕ → ℕ → ℕ → ℕ
+  abbrev pub term : ℕ → ℕ → ℕ → ℕ
   term z v k = product m (power m z k) v
+
+  -- the column of a data place times its value
+  pub column-term : (e : ℕ → ℕ) (p k : ℕ) → checks ≤ p → product m (column m p k) (e p) ≡ term (point m p) (e p) k
+  column-term e p k h = ap (λ (n : ℕ). product m n (e p)) (column-point F p k h)
 
   -- ---- elimination
 
-  eliminate-add : (h z : ℕ) (f g : ℕ → ℕ) (k : ℕ) → eliminate m h z (λ j. add (f j) (g j)) k ≡ add (eliminate m h z f k) (eliminate m h z g k)
+  pub eliminate-add : (h z : ℕ) (f g : ℕ → ℕ) (k : ℕ) → eliminate m h z (λ j. add (f j) (g j)) k ≡ add (eliminate m h z f k) (eliminate m h z g k)
   unfolding eliminate
   eliminate-add h z f g k = simp (F .product-add, F .add-assoc, F .add-left-comm, F .add-comm)
 
   -- a term with the point x gets the factor x^h + z^h
-  eliminate-term : (h z x v k : ℕ) → eliminate m h z (term x v) k ≡ term x (product m v (add (power m x h) (power m z h))) k
+  pub eliminate-term : (h z x v k : ℕ) → eliminate m h z (term x v) k ≡ term x (product m v (add (power m x h) (power m z h))) k
   unfolding eliminate
   eliminate-term h z x v k =
       ap (λ (n : ℕ). add (product m n v) (product m (power m z h) (product m (power m x k) v))) (F .power-add x h k)
       ∙ simp (F .product-add, F .product-assoc, F .product-left-comm, F .product-comm)
 
   -- the term of the point itself goes
-  eliminate-own : (h z v k : ℕ) → eliminate m h z (term z v) k ≡ 0
+  pub eliminate-own : (h z v k : ℕ) → eliminate m h z (term z v) k ≡ 0
   eliminate-own h z v k = eliminate-term h z z v k ∙ simp (F .add-self, F .product-zero)
 
-  eliminate-rows : (h z : ℕ) (s t : ℕ → ℕ) (k : ℕ) → s k ≡ t k → s (h + k) ≡ t (h + k) → eliminate m h z s k ≡ eliminate m h z t k
+  pub eliminate-rows : (h z : ℕ) (s t : ℕ → ℕ) (k : ℕ) → s k ≡ t k → s (h + k) ≡ t (h + k) → eliminate m h z s k ≡ eliminate m h z t k
   unfolding eliminate
   eliminate-rows h z s t k e e′ = ap₂ (λ (a b : ℕ). add a (product m (power m z h) b)) e′ e
 
@@ -84,15 +88,11 @@ module _ {m : ℕ} (F : IsField m) where
   -- ---- the wrong data place b beside the erasures es, with the sums s
 
   module _ (s e : ℕ → ℕ) (b : ℕ) (hb : checks ≤ b) (lb : b < places m) (nb : e b ≢ 0) where
-    -- the column of a data place times its value
-    column-term : (p k : ℕ) → checks ≤ p → product m (column m p k) (e p) ≡ term (point m p) (e p) k
-    column-term p k h = ap (λ (n : ℕ). product m n (e p)) (column-point F p k h)
-
     -- check places erased, or nothing
     module _ (cs : List ℕ) (bs : allBelow checks cs ≡ true) (P : Pattern m s e (b ∷ cs)) where
       row-checks : (k : ℕ) → k < checks → member k cs ≡ false → s k ≡ term (point m b) (e b) k
       unfolding combine
-      row-checks k h o = P .rows k h ∙ ap₂ add (column-term b k hb) (checks-outside F e k h cs bs o) ∙ F .add-zero _
+      row-checks k h o = P .rows k h ∙ ap₂ add (column-term e b k hb) (checks-outside F e k h cs bs o) ∙ F .add-zero _
 
       pub step-checks : (g k : ℕ) → Injective m g → k < checks → member k cs ≡ false → g + k < checks → member (g + k) cs ≡ false → Step m g (s k) (s (g + k)) b
       step-checks g k inj h o h′ o′ =
@@ -105,7 +105,7 @@ module _ {m : ℕ} (F : IsField m) where
       unfolding combine
       row-data k h o =
           P .rows k h
-          ∙ ap₂ add (column-term b k hb) (ap₂ add (column-term a k ha) (checks-outside F e k h cs bs o) ∙ F .add-zero _)
+          ∙ ap₂ add (column-term e b k hb) (ap₂ add (column-term e a k ha) (checks-outside F e k h cs bs o) ∙ F .add-zero _)
 
       -- rows k and h + k without the erased symbol
       left-data : (h k : ℕ) → k < checks → member k cs ≡ false → h + k < checks → member (h + k) cs ≡ false
@@ -131,7 +131,7 @@ module _ {m : ℕ} (F : IsField m) where
           → s k ≡ add (term (point m b) (e b) k) (add (term (point m a) (e a) k) (term (point m c) (e c) k))
       unfolding combine
       row-two k h =
-          P .rows k h ∙ ap₂ add (column-term b k hb) (ap₂ add (column-term a k ha) (F .add-zero _ ∙ column-term c k hc))
+          P .rows k h ∙ ap₂ add (column-term e b k hb) (ap₂ add (column-term e a k ha) (F .add-zero _ ∙ column-term e c k hc))
 
       vb : ℕ
       vb = product m (e b) (add (power m (point m b) 1) (power m (point m a) 1))

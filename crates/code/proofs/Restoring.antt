@@ -19,6 +19,8 @@ use Rattle.field.specs.declared.Verdict.{Verdict}
 use Rattle.field.specs.declared.Verdict.the-variants.{Passed, Refused}
 use Rattle.field.proofs.Laws.{IsField}
 use Rattle.field.proofs.Widths.{field-of}
+use Rattle.sums.proofs.Below.{allBelow-means, allBelow-holds}
+use Rattle.sums.proofs.Evaluation.{five-cong}
 use Rattle.code.specs.Word.{places, at}
 use Rattle.code.specs.Erasure.{member, distinct, symbolsFrom, differ, changes, masked, syndromesOf}
 use Rattle.code.specs.Near.{distance, radius, codewords, Near, nearby, Restoration, none, one, several, found, restoration}
@@ -27,8 +29,7 @@ use Rattle.code.specs.Demands.{Passes, PassesWithin, NeverTwo, Nearest, 
 use Rattle.code.specs.Demands.{LongerReach, ShorterReach}
 use Rattle.code.specs.Demands.{SameErasures, AgreeOutside, SameRestored, SameDisplayed}
 use Rattle.code.proofs.Sums.{total-cong, syndrome-cong}
-use Rattle.code.proofs.Horner.{five-cong}
-use Rattle.code.proofs.Questions.{bool-eq, allBelow-means, allBelow-holds, member-means, member-at, symbols-means, symbols-holds}
+use Rattle.code.proofs.Questions.{bool-eq, member-means, member-at, symbols-means, symbols-holds}
 use Rattle.code.proofs.Members.{distinct-once, once-distinct, same-member, same-length}
 use Rattle.code.proofs.DistanceLaw.{distance-of}
 use Rattle.code.proofs.Unique.{same-near, radius-few}

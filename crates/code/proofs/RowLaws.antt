@@ -1,16 +1,19 @@
 -- Rows and columns: their entries, and the products of rows with a list of values. Assumes nothing.
-use mathlib.Core.Path.{_≡_, refl, sym, _∙_, ap, ap₂}
+use mathlib.Core.Path.{_≡_, refl, sym, _∙_, ap, ap₂, subst}
 use mathlib.Core.Logic.{_≢_}
 use mathlib.Core.List.{List, [], _∷_}
 use Prim.Native.Nat.{ℕ, zero, suc, _≤_, _<_}
 use native.Mathlib.Nat.{le-of-suc-le-suc, not-suc-le-zero}
 use native.Mathlib.Omega.{arith}
-use lib.ListN.{length, getD, set, take, drop, replicate, length-map, List·getD-map}
-use lib.Seq.{length-take-le, getD-take, getD-drop}
+use lib.ListN.{length, getD, set, take, drop, replicate, length-map, List·getD-map, getD-replicate}
+use lib.Seq.{length-take-le, getD-take, getD-drop, ext-getD}
 use Rattle.field.specs.Polynomial.{add}
 use Rattle.field.specs.Field.{order, product}
+use Rattle.field.specs.Answer.{Operand}
 use Rattle.field.proofs.Laws.{IsField}
-use Rattle.code.specs.Matrix.{rows, entry, columnOf, rowAdd, scale, dot}
+use Rattle.sums.specs.Lanes.{six}
+use Rattle.code.specs.Word.{five, at}
+use Rattle.code.specs.Matrix.{rows, columns, entry, columnOf, rowAdd, scale, dot}
 
 pub length-rowAdd : (m : ℕ) (xs : List ℕ) (k : ℕ) (ys : List ℕ) → length (rowAdd m xs k ys) ≡ length xs
 length-rowAdd m [] k ys = refl
@@ -29,6 +32,37 @@ getD-scale m k [] j l = absurd (not-suc-le-zero l)
 getD-scale m k (y ∷ ys) zero l = refl
 getD-scale m k (y ∷ ys) (suc j) l = getD-scale m k ys j (le-of-suc-le-suc l)
 
+-- a symbol at width 7
+pub below-order : {m k : ℕ} → m ≡ 7 → Operand m k → k < 128
+below-order {m} {k} e o = subst (λ (n : ℕ). k < order n) e (o .symbol)
+
+-- rows of six entries, written out
+six-at : (f : ℕ → ℕ) (j : ℕ) → j < columns → getD (six f) j 0 ≡ f j
+six-at f zero h = refl
+six-at f (suc zero) h = refl
+six-at f (suc (suc zero)) h = refl
+six-at f (suc (suc (suc zero))) h = refl
+six-at f (suc (suc (suc (suc zero)))) h = refl
+six-at f (suc (suc (suc (suc (suc zero))))) h = refl
+six-at f (suc (suc (suc (suc (suc (suc j)))))) h = absurd (omega arith)
+
+six-ext : (f : ℕ → ℕ) (xs : List ℕ) → length xs ≡ columns → ((j : ℕ) → j < columns → getD xs j 0 ≡ f j) → six f ≡ xs
+six-ext f xs e s = ext-getD 0 (six f) xs (sym e) (λ j h. six-at f j h ∙ sym (s j h))
+
+pub six-rowAdd : (m : ℕ) (xs : List ℕ) (k : ℕ) (ys : List ℕ) → length xs ≡ columns → length ys ≡ columns
+    → six (λ j. add (at xs j) (product m k (at ys j))) ≡ rowAdd m xs k ys
+six-rowAdd m xs k ys long wide =
+    six-ext _ (rowAdd m xs k ys) (length-rowAdd m xs k ys ∙ long) (λ j h. getD-rowAdd m xs k ys j (long ∙ sym wide) (omega arith))
+
+-- added to zeros
+pub zero-rowAdd : {m : ℕ} (F : IsField m) (k : ℕ) (ys : List ℕ) → length ys ≡ columns → rowAdd m (replicate columns 0) k ys ≡ scale m k ys
+zero-rowAdd {m} F k ys long =
+    sym (six-rowAdd m (replicate columns 0) k ys refl long)
+    ∙ six-ext _ (scale m k ys) (simp length-map long) (λ j h. getD-scale m k ys j (omega arith) ∙ zero j h)
+  where
+    zero : (j : ℕ) → j < columns → product m k (at ys j) ≡ add (at (replicate columns 0) j) (product m k (at ys j))
+    zero j h = sym (ap (λ (z : ℕ). add z (product m k (at ys j))) (getD-replicate {A = ℕ} columns j 0 0 h) ∙ F .zero-add _)
+
 pub getD-tail : (xs : List ℕ) (j : ℕ) → getD (drop 1 xs) j 0 ≡ getD xs (suc j) 0
 getD-tail xs j = getD-drop 1 xs j 0 ∙ ap (λ (n : ℕ). getD xs n 0) (omega arith)
 
@@ -38,6 +72,16 @@ length-column a j n tall h = length-take-le n (columnOf a j) (simp length-map (o
 
 pub getD-column : (a : List (List ℕ)) (j n i : ℕ) → i < n → getD (take n (columnOf a j)) i 0 ≡ entry a i j
 getD-column a j n i h = getD-take n (columnOf a j) i 0 h ∙ List·getD-map (λ (row : List ℕ). getD row j 0) a i []
+
+-- column j entry by entry
+pub column-entries : (a : List (List ℕ)) (j : ℕ) → length a ≡ rows → five (λ i. entry a i j) ≡ columnOf a j
+column-entries [] j e = absurd (omega arith)
+column-entries (p ∷ []) j e = absurd (omega arith)
+column-entries (p ∷ q ∷ []) j e = absurd (omega arith)
+column-entries (p ∷ q ∷ r ∷ []) j e = absurd (omega arith)
+column-entries (p ∷ q ∷ r ∷ s ∷ []) j e = absurd (omega arith)
+column-entries (p ∷ q ∷ r ∷ s ∷ t ∷ []) j e = refl
+column-entries (p ∷ q ∷ r ∷ s ∷ t ∷ u ∷ a) j e = absurd (omega arith)
 
 -- the values with v added to the value at place j
 abbrev pub raised : List ℕ → ℕ → ℕ → List ℕ

@@ -10,6 +10,7 @@ use Rattle.field.specs.Field.{order, product}
 use Rattle.field.proofs.Laws.{IsField}
 use Rattle.code.specs.Word.{checks, places, sum, parity, syndrome}
 use Rattle.code.specs.Erasure.{total}
+use Rattle.sums.proofs.Sums.{sum-cong, sum-add, sum-zero, sum-lt}
 use Rattle.code.proofs.Algebra.{add-cancel}
 
 -- ---- totals
@@ -53,39 +54,7 @@ part-le (suc n) f i h = go (ℕ-discrete i n) (λ l. part-le n f i l)
 
 -- ---- field sums
 
-pub sum-cong : (n : ℕ) (f g : ℕ → ℕ) → ((i : ℕ) → i < n → f i ≡ g i) → sum n f ≡ sum n g
-unfolding sum
-sum-cong zero f g h = refl
-sum-cong (suc n) f g h = ap₂ add (sum-cong n f g (λ i l. h i (omega arith))) (h n (le-refl (suc n)))
-
 module _ {m : ℕ} (F : IsField m) where
-  pub sum-add : (n : ℕ) (f g : ℕ → ℕ) → sum n (λ i. add (f i) (g i)) ≡ add (sum n f) (sum n g)
-  unfolding sum
-  sum-add zero f g = sym (F .add-zero 0)
-  sum-add (suc n) f g =
-      ap (λ (x : ℕ). add x (add (f n) (g n))) (sum-add n f g) ∙ simp (F .add-assoc, F .add-left-comm, F .add-comm)
-
-  pub sum-times : (n : ℕ) (f : ℕ → ℕ) (z : ℕ) → sum n (λ i. product m (f i) z) ≡ product m (sum n f) z
-  unfolding sum
-  sum-times zero f z = sym (F .zero-product z)
-  sum-times (suc n) f z = ap (λ (x : ℕ). add x (product m (f n) z)) (sum-times n f z) ∙ sym (F .add-product (sum n f) (f n) z)
-
-  pub sum-zero : (n : ℕ) → sum n (λ i. 0) ≡ 0
-  unfolding sum
-  sum-zero zero = refl
-  sum-zero (suc n) = F .add-zero _ ∙ sum-zero n
-
-  sum-lt : (n : ℕ) (f : ℕ → ℕ) → ((i : ℕ) → i < n → f i < order m) → sum n f < order m
-  unfolding sum
-  sum-lt zero f h = omega arith
-  sum-lt (suc n) f h = F .add-lt _ _ (sum-lt n f (λ i l. h i (omega arith))) (h n (le-refl (suc n)))
-
-  pub sum-split : (a b : ℕ) (f : ℕ → ℕ) → sum (a + b) f ≡ add (sum a f) (sum b (λ i. f (a + i)))
-  unfolding sum
-  sum-split a zero f = ap (λ (n : ℕ). sum n f) (add-zero a) ∙ sym (F .add-zero (sum a f))
-  sum-split a (suc b) f =
-      ap (λ (n : ℕ). sum n f) (add-suc a b) ∙ ap (λ (n : ℕ). add n (f (a + b))) (sum-split a b f) ∙ F .add-assoc (sum a f) _ (f (a + b))
-
   change : (s a b : ℕ) → add s a ≡ add (add s b) (add a b)
   change s a b = ap (add s) (sym (add-cancel F b a)) ∙ simp (F .add-assoc, F .add-comm b a)
 
@@ -105,10 +74,10 @@ module _ {m : ℕ} (F : IsField m) where
   -- ---- syndromes
 
   pub parity-lt : (c : ℕ → ℕ) (k : ℕ) → parity m c k < order m
-  parity-lt c k = sum-lt _ _ (λ i h. F .product-lt _ _)
+  parity-lt c k = sum-lt F _ _ (λ i h. F .product-lt _ _)
 
   parity-add : (u v : ℕ → ℕ) (k : ℕ) → parity m (λ i. add (u i) (v i)) k ≡ add (parity m u k) (parity m v k)
-  parity-add u v k = sum-cong _ _ _ (λ i h. F .product-add _ _ _) ∙ sum-add _ _ _
+  parity-add u v k = sum-cong _ _ _ (λ i h. F .product-add _ _ _) ∙ sum-add F _ _ _
 
   -- the syndromes of the placewise sum of two words
   pub syndrome-add : (u v : ℕ → ℕ) (k : ℕ) → syndrome m (λ p. add (u p) (v p)) k ≡ add (syndrome m u k) (syndrome m v k)
@@ -121,4 +90,4 @@ module _ {m : ℕ} (F : IsField m) where
 
   pub syndrome-zero : (u : ℕ → ℕ) → ((p : ℕ) → p < places m → u p ≡ 0) → (k : ℕ) → k < checks → syndrome m u k ≡ 0
   syndrome-zero u z k h =
-      syndrome-cong u (λ p. 0) z k h ∙ F .zero-add _ ∙ sum-cong _ _ (λ i. 0) (λ i l. F .product-zero _) ∙ sum-zero _
+      syndrome-cong u (λ p. 0) z k h ∙ F .zero-add _ ∙ sum-cong _ _ (λ i. 0) (λ i l. F .product-zero _) ∙ sum-zero F _

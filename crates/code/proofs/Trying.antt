@@ -13,6 +13,8 @@ use Rattle.field.specs.Field.{order, product}
 use Rattle.field.specs.Question.{allBelow}
 use Rattle.field.proofs.Laws.{IsField}
 use Rattle.field.proofs.Widths.{field-of}
+use Rattle.sums.proofs.Below.{below-head, below-tail}
+use Rattle.sums.proofs.Evaluation.{five-at, five-cong}
 use Rattle.code.specs.declared.restorer.Trial.{Trial}
 use Rattle.code.specs.declared.restorer.Correction.{Correction}
 use Rattle.code.specs.Word.{checks, five, places, at, Codeword}
@@ -23,12 +25,11 @@ use Rattle.code.specs.Correction.{NoneAt, SeveralAt, NoneFrom, isSolved,
 use Rattle.code.specs.declared.solver.Solutions.{Solutions}
 use Rattle.code.specs.declared.solver.Solutions.the-variants.{None, One, Several}
 use Rattle.code.proofs.Sums.{parity-lt}
-use Rattle.code.proofs.Horner.{five-at, five-cong}
 use Rattle.code.proofs.Questions.{or-false-right, both-ways}
-use Rattle.code.proofs.Members.{distinct-head, distinct-tail, distinct-cons, below-head, below-tail, below-cons}
+use Rattle.code.proofs.Members.{distinct-head, distinct-tail, distinct-cons, below-cons}
 use Rattle.code.proofs.Columns.{masked-more}
 use Rattle.code.proofs.Filling.{masked-lt}
-use Rattle.code.proofs.Extra.{Falling, Beside, within-beside, wrong}
+use Rattle.code.proofs.Extra.{Falling, within-beside, wrong}
 
 -- ---- the syndromes of a trial
 

@@ -69,6 +69,14 @@ NoneRoot m w es u v c = (b : ℕ) → checks ≤ b → b < places m → member b
 abbrev pub NoneCheck : ℕ → List ℕ → List ℕ → Type 0
 NoneCheck m w es = (b : ℕ) → b < checks → NoneBeside m w b es
 
+-- nor outside the erasures and a check place before low, or from high on
+abbrev pub NoneOutside : ℕ → List ℕ → List ℕ → ℕ → ℕ → Type 0
+NoneOutside m w es low high = (b : ℕ) → b < checks → (low ≤ b → b < high → ⊥) → NoneBeside m w b es
+
+-- each of the rows u that is not 0 tells that no check place is wrong but one of the n from it on
+abbrev pub Tell : ℕ → List ℕ → List ℕ → ℕ → (ℕ → ℕ) → Type 0
+Tell m w es n u = (k : ℕ) → k + n ≤ checks → u k ≢ 0 → NoneOutside m w es k (k + n)
+
 -- nor outside the erasures and the data place that the sums name
 abbrev pub NoneData : ℕ → List ℕ → List ℕ → (ℕ → ℕ) → Type 0
 NoneData m w es s = (b : ℕ) → checks ≤ b → b < places m → member b es ≡ false → DataNamed m es s b → NoneAt m w (b ∷ es)

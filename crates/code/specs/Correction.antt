@@ -13,7 +13,7 @@ use Rattle.code.specs.declared.restorer.Trial.{Trial}
 use Rattle.code.specs.declared.restorer.Correction.{Correction}
 use Rattle.code.specs.declared.solver.Solutions.{Solutions}
 use Rattle.code.specs.declared.solver.Solutions.the-variants.{None, One, Several}
-use Rattle.code.specs.Word.{checks, places, longest, at, Codeword}
+use Rattle.code.specs.Word.{checks, places, longest, at, five, Codeword}
 use Rattle.code.specs.Place.{column}
 use Rattle.code.specs.Erasure.{member, distinct, syndromesOf}
 use Rattle.code.specs.Near.{Near}
@@ -51,6 +51,11 @@ pub record Ready (m : ℕ) (w : List ℕ) (t : Trial) : Type 0 where
 -- the entry in row k and column j of the system of a trial: the right-hand side, then a column for each place, then zeros
 abbrev pub systemEntry : ℕ → List ℕ → ℕ → ℕ → ℕ → ℕ
 systemEntry m ls b k j = cond (eqb j 0) b (cond (leb j (length ls)) (column m (getD ls (j - 1) 0) k) 0)
+
+-- the columns without the right-hand side, the first of them column 1
+pub record SystemColumns (m : ℕ) (ls : List ℕ) (a : List (List ℕ)) : Type 0 where
+  pub wide : length a ≡ unknowns
+  pub each : isWidth m ≡ true → (j : ℕ) → j < unknowns → getD a j [] ≡ five (λ k. systemEntry m ls 0 k (suc j))
 
 -- the row for syndrome k
 pub record SystemRow (m : ℕ) (ls : List ℕ) (b k : ℕ) (row : List ℕ) : Type 0 where

@@ -2,12 +2,16 @@
 -- In the definitions of sums a word is a function from places to symbols; a list w is one as `at w`. Assumes nothing.
 use mathlib.Core.Path.{_≡_}
 use mathlib.Core.Bool.{cond}
-use mathlib.Core.List.{List, [], _∷_, _++_}
-use Prim.Native.Nat.{ℕ, zero, suc, _+_, _-_, _*_, _<_}
-use lib.ListN.{length, getD, drop}
+use mathlib.Core.List.{List, _++_}
+use Prim.Native.Nat.{ℕ, _+_, _-_, _<_}
+use lib.ListN.{length, drop}
 use Rattle.field.specs.Polynomial.{add}
-use Rattle.field.specs.Field.{order, product, power, α}
+use Rattle.field.specs.Field.{order}
 use Rattle.field.specs.Question.{isWidth}
+-- `at w p` is the symbol at place p of the word w, `sum n f` the field sum of f 0 to f (n - 1), `five f` a number for each syndrome, and
+-- `weighted m n c k` the field sum over i below n of α^(k·i) times c_i
+unfoldable pub use Rattle.sums.specs.Sum.{sum}
+pub use Rattle.sums.specs.Sum.{at, five, weighted}
 
 -- the number of check symbols p_0 to p_4, which stand before the data
 abbrev pub checks : ℕ
@@ -28,23 +32,6 @@ wordLength m = cond (isWidth m) (places m) 0
 -- the number of data symbols c_0 to c_(q-2); c_i stands at place 5 + i
 abbrev pub items : ℕ → ℕ
 items m = order m - 1
-
--- the symbol at place p of the word w
-abbrev pub at : List ℕ → ℕ → ℕ
-at w p = getD w p 0
-
--- the field sum of f 0 to f (n - 1)
-unfoldable pub sum : ℕ → (ℕ → ℕ) → ℕ
-sum zero f = 0
-sum (suc n) f = add (sum n f) (f n)
-
--- f at 0 to 4: a number for each syndrome
-abbrev pub five : (ℕ → ℕ) → List ℕ
-five f = f 0 ∷ f 1 ∷ f 2 ∷ f 3 ∷ f 4 ∷ []
-
--- the field sum over i below n of α^(k·i) times c_i
-abbrev pub weighted : ℕ → ℕ → (ℕ → ℕ) → ℕ → ℕ
-weighted m n c k = sum n (λ i. product m (power m α (k * i)) (c i))
 
 -- what the data c adds to the sum k, which the check symbol p_k has to make up for
 abbrev pub parity : ℕ → (ℕ → ℕ) → ℕ → ℕ

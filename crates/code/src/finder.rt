@@ -2,6 +2,7 @@
 // a correction: so no test has to be right by itself, and what is to be shown is that the places of each near codeword are named. These
 // functions are no entry points.
 ghost use mathlib.Core.Path.{_≡_};
+ghost use mathlib.Core.Logic.{_≢_};
 ghost use mathlib.Core.Bool.{true, false, cond};
 ghost use mathlib.Core.List.{List, [], _∷_};
 ghost use Prim.Native.Nat.{ℕ, _+_, _-_, _≤_, _<_};
@@ -11,15 +12,15 @@ ghost use Rattle.field.specs.Polynomial.{add};
 ghost use Rattle.field.specs.Field.{order, product, power, inverse};
 ghost use Rattle.field.specs.Question.{isWidth, allBelow};
 ghost use Rattle.field.specs.Answer.{Operand};
-ghost use Rattle.code.specs.Word.{checks, places, longest, at};
+ghost use Rattle.code.specs.Word.{checks, five, places, longest, at};
 ghost use Rattle.code.specs.Place.{column as columnM};
 ghost use Rattle.code.specs.Near.{radius};
 ghost use Rattle.code.specs.Matrix.{unknowns};
-ghost use Rattle.code.specs.Correction.{tried, Ready, NoneBeside, Searched, NoneWithin};
+ghost use Rattle.code.specs.Correction.{NoneAt, tried, Ready, NoneBeside, Searched, NoneWithin};
 ghost use Rattle.code.specs.declared.solver.Solutions.the-variants.{None, One};
-ghost use Rattle.code.specs.Scan.{Carried, Scanned};
+ghost use Rattle.code.specs.Scan.{Carried, Scanned, Ratio};
 ghost use Rattle.code.specs.Locate.{point, without, full, Lists, Amends, NoRatio, NoPair, PairValues};
-ghost use Rattle.code.specs.Beside.{Injective, Arranged, NoneRoot, NoneCheck, NoneData, Only, Between, Apart};
+ghost use Rattle.code.specs.Beside.{Injective, eliminate, Arranged, NoneRoot, NoneCheck, NoneOutside, Tell, NoneData, Only, Between, Apart};
 use crate::place::Place;
 use crate::place::column;
 use crate::place::place_of;
@@ -34,9 +35,11 @@ use crate::restorer::masked;
 use crate::restorer::solved;
 use crate::solver::Solutions;
 use crate::solver::UNKNOWNS;
+use crate::solver::add_times;
 use field::Exponent;
 use field::arithmetic::invert;
 use field::arithmetic::multiply;
+use field::arithmetic::ratio_exponent;
 use field::shift::shift;
 
 // No correction.
@@ -89,6 +92,43 @@ fn root_from(width: u8, from: Exponent, square: u8, linear: u8, constant: u8, n:
         square: d,
         linear: e,
     }
+}
+
+// Is there just one root among the powers of α at width 7, for the function is linear and its terms are symbols other than 0?
+fn has_ratio(width: u8, square: u8, linear: u8, constant: u8, n: u16) -> bool
+    ensures { λ r. ⌜ (r ≡ true → Ratio width square linear constant n) ⌝ }
+{
+    if width != 7 {
+        return false;
+    }
+    if n != 127 {
+        return false;
+    }
+    if square != 0 {
+        return false;
+    }
+    if linear == 0 {
+        return false;
+    }
+    if constant == 0 {
+        return false;
+    }
+    constant < 128
+}
+
+// The first root, below n; at n if there is none. The one root of a linear function at width 7 is told by its logarithms.
+fn first_root(width: u8, square: u8, linear: u8, constant: u8, n: u16) -> Scan
+    ensures { λ r.
+        ⌜ (r .at .0 ≤ n) × ((a b : ℕ) → isWidth width ≡ true → Carried width a b 0 square linear → Scanned width a b constant 0 n r) ⌝ }
+{
+    if has_ratio(width, square, linear, constant, n) {
+        return Scan {
+            at: ratio_exponent(linear, constant),
+            square: 0,
+            linear: constant,
+        };
+    }
+    root_from(width, Exponent(0), square, linear, constant, n)
 }
 
 // The number of data symbols of a word.
@@ -247,7 +287,7 @@ fn amend_ratio(width: u8, word: &[u8], t: Trial, a: u8, reach: usize) -> Correct
         return nothing();
     }
     let n = items_of(word);
-    let f = root_from(width, Exponent(0), 0, x, z, n);
+    let f = first_root(width, 0, x, z, n);
     let e = f.at;
     if n <= e.0 {
         return nothing();
@@ -445,7 +485,7 @@ fn try_root(width: u8, word: &[u8], t: Trial, square: u8, linear: u8, constant: 
         ⌝ }
 {
     let n = items_of(word);
-    let f = root_from(width, Exponent(0), square, linear, constant, n);
+    let f = first_root(width, square, linear, constant, n);
     let e = f.at;
     if n <= e.0 {
         return nothing();
@@ -453,7 +493,138 @@ fn try_root(width: u8, word: &[u8], t: Trial, square: u8, linear: u8, constant: 
     try_place(width, word, t, place_of(e))
 }
 
-// The trial with an extra check place.
+// Check places, from `low` on and below `high`. Syndromes at which no check place is wrong come from the erasures alone, and what is left of
+// them without these is 0: so what is left and is not 0 tells that the wrong one is among its syndromes.
+pub struct Window {
+    pub low: u8,
+    pub high: u8,
+}
+
+// The window's places among the n from k on, if x is not 0.
+fn narrowed(f: Window, k: u8, n: u8, x: u8) -> Window
+    requires { ⌜ k + n ≤ checks ⌝ }
+    ensures { λ r.
+        ⌜
+        (
+        (m : ℕ) (w es : List ℕ) → NoneOutside m w es (f .low) (f .high) → (x ≢ 0 → NoneOutside m w es k (k + n))
+        → NoneOutside m w es (r .low) (r .high)
+        )
+        ⌝ }
+{
+    if x == 0 {
+        return f;
+    }
+    let high = f.high;
+    let end = k + n;
+    if high < end {
+        return Window { low: k, high };
+    }
+    Window { low: k, high: end }
+}
+
+// The check places that are among the n from k on, for each row k that is not 0.
+fn window_of(rows: [u8; 5], n: u8) -> Window
+    requires { ⌜ (0 < n) × (n ≤ checks) ⌝ }
+    ensures { λ r. ⌜ ((m : ℕ) (w es : List ℕ) → Tell m w es n (at rows) → NoneOutside m w es (r .low) (r .high)) ⌝ }
+{
+    let end = 6 - n;
+    let mut f = Window { low: 0, high: 5 };
+    let mut k: u8 = 0;
+    while k < end {
+        f = narrowed(f, k, n, rows[k as usize]);
+        k += 1;
+    }
+    f
+}
+
+// The rows with the data place a eliminated: to each, times the point of a, the next is added.
+fn differences(width: u8, rows: [u8; 5], a: Place) -> [u8; 5]
+    ensures { λ r.
+        ⌜
+        (
+        isWidth width ≡ true → checks ≤ a .0 → ((k : ℕ) → k < checks → at rows k < order width)
+        → r ≡ five (eliminate width 1 (point width (a .0)) (at rows))
+        )
+        ⌝ }
+{
+    let by = [rows[0], rows[1], rows[2], rows[3], rows[4], 0];
+    let next = [rows[1], rows[2], rows[3], rows[4], 0, 0];
+    let r = add_times(width, next, column(width, a, 1), by);
+    [r[0], r[1], r[2], r[3], r[4]]
+}
+
+// The check places that come into question beside the erased place p. The syndrome of an erased check place tells nothing.
+fn window_one(width: u8, t: Trial, p: Place) -> Window
+    ensures { λ r. ⌜ ((w : List ℕ) → Ready width w t → tried t ≡ p .0 ∷ [] → NoneOutside width w (tried t) (r .low) (r .high)) ⌝ }
+{
+    let mut rows = t.sums;
+    let i = p.0;
+    if 5 <= i {
+        return window_of(differences(width, rows, p), 2);
+    }
+    rows[i as usize] = 0;
+    window_of(rows, 1)
+}
+
+// The same beside the erased places p and q.
+fn window_two(width: u8, t: Trial, p: Place, q: Place) -> Window
+    ensures { λ r. ⌜ ((w : List ℕ) → Ready width w t → tried t ≡ p .0 ∷ q .0 ∷ [] → NoneOutside width w (tried t) (r .low) (r .high)) ⌝ }
+{
+    let sums = t.sums;
+    if 5 <= p.0 {
+        if 5 <= q.0 {
+            return window_of(differences(width, differences(width, sums, p), q), 3);
+        }
+    }
+    Window { low: 0, high: 5 }
+}
+
+// The same beside the erasures.
+fn window_beside(width: u8, t: Trial) -> Window
+    ensures { λ r. ⌜ ((w : List ℕ) → Ready width w t → NoneOutside width w (tried t) (r .low) (r .high)) ⌝ }
+{
+    let places = t.places;
+    let count = t.count;
+    let p = places[0];
+    let q = places[1];
+    if count == 1 {
+        return window_one(width, t, Place(p));
+    }
+    if count == 2 {
+        return window_two(width, t, Place(p), Place(q));
+    }
+    Window { low: 0, high: 5 }
+}
+
+// A check place outside the window, or 5 where there is none.
+fn left_out(f: Window) -> u8
+    ensures { λ r. ⌜ (r < checks → (f .low ≤ r → r < f .high → ⊥)) ⌝ }
+{
+    if 0 < f.low {
+        return 0;
+    }
+    if f.high < 5 {
+        return 4;
+    }
+    5
+}
+
+// Do the erasures alone tell of no codeword? So it is where a check place that is not erased is outside the window: what rules the place
+// out rules out that nothing is wrong, too.
+fn is_hopeless(width: u8, t: Trial) -> bool
+    requires { ⌜ t .count ≤ unknowns ⌝ }
+    ensures { λ r. ⌜ (r ≡ true → (w : List ℕ) → Ready width w t → NoneAt width w (tried t)) ⌝ }
+{
+    let b = left_out(window_beside(width, t));
+    let places = t.places;
+    let count = t.count;
+    if b < 5 {
+        return !listed(places, count, Place(b));
+    }
+    false
+}
+
+// The trial with an extra check place that comes into question.
 fn try_checks(width: u8, word: &[u8], t: Trial) -> Correction
     requires { ⌜ t .count < unknowns ⌝ }
     ensures { λ r.
@@ -463,8 +634,10 @@ fn try_checks(width: u8, word: &[u8], t: Trial) -> Correction
         → Searched width (now (word .entry)) (tried t) 1 (NoneCheck width (now (word .entry)) (tried t)) r)
         ⌝ }
 {
-    let mut p: u8 = 0;
-    while p < 5 {
+    let f = window_beside(width, t);
+    let high = f.high;
+    let mut p = f.low;
+    while p < high {
         let c = try_place(width, word, t, Place(p));
         if solved(c) {
             return c;
@@ -580,12 +753,9 @@ fn try_between_two(width: u8, word: &[u8], t: Trial, a: Place, c: Place) -> Corr
         ⌝ }
 {
     let sums = t.sums;
-    let v0 = eliminated(width, a, 1, sums[0], sums[1]);
-    let v1 = eliminated(width, a, 1, sums[1], sums[2]);
-    let v2 = eliminated(width, a, 1, sums[2], sums[3]);
-    let low = eliminated(width, c, 1, v0, v1);
-    let high = eliminated(width, c, 1, v1, v2);
-    try_root(width, word, t, 0, low, high)
+    let v = differences(width, sums, a);
+    let u = differences(width, v, c);
+    try_root(width, word, t, 0, u[0], u[1])
 }
 
 // The same beside the two erasures p and q. Where a data place and p_2 are erased, cubing has to be one to one.
@@ -638,6 +808,17 @@ fn try_data(width: u8, word: &[u8], t: Trial) -> Correction
     try_eliminated(width, word, t, Place(p), 5)
 }
 
+// The trial as it is, where that is not hopeless.
+fn attempt_alone(width: u8, t: Trial) -> Correction
+    requires { ⌜ t .count ≤ unknowns ⌝ }
+    ensures { λ r. ⌜ (r .count ≤ unknowns) × ((w : List ℕ) → Ready width w t → Searched width w (tried t) 0 (NoneAt width w (tried t)) r) ⌝ }
+{
+    if is_hopeless(width, t) {
+        return nothing();
+    }
+    attempt(width, t)
+}
+
 // A correction with at most one extra place, beside one or two erasures.
 fn find_beside(width: u8, word: &[u8], t: Trial) -> Correction
     requires { ⌜ (0 < t .count) × (t .count ≤ 2) × (checks ≤ length (now word)) × (length (now word) ≤ longest) ⌝ }
@@ -648,7 +829,7 @@ fn find_beside(width: u8, word: &[u8], t: Trial) -> Correction
         → Searched width (now (word .entry)) (tried t) 1 (NoneWithin width (now (word .entry)) (tried t) 1) r)
         ⌝ }
 {
-    let b = attempt(width, t);
+    let b = attempt_alone(width, t);
     if solved(b) {
         return b;
     }

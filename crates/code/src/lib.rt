@@ -42,7 +42,7 @@ use restorer::started;
 use restorer::write;
 use slice::copy;
 use solver::Solutions;
-use syndrome::parities;
+use sums::parities;
 use syndrome::syndromes;
 
 // What the codeword test answers.

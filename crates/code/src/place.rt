@@ -3,9 +3,11 @@ ghost use mathlib.Core.Path.{_≡_};
 ghost use Prim.Native.Nat.{_+_, _*_, _≤_, _<_};
 ghost use mathlib.Core.Bool.{true};
 ghost use Rattle.field.specs.Question.{isWidth};
+ghost use Rattle.code.specs.Word.{five};
 ghost use Rattle.code.specs.Place.{exponentOf, placeOf, multipleOf, column as columnM};
 use field::Exponent;
 use field::arithmetic::raise;
+use field::table::first_powers;
 
 // Place 0 to 4 holds a check symbol, place 5 + i the data symbol i.
 pub struct Place(pub u8);
@@ -49,4 +51,25 @@ pub fn column(width: u8, p: Place, k: u8) -> u8
         return 0;
     }
     raise(width, 2, multiple(k, exponent_of(p)))
+}
+
+// The column at place p whole: at width 7 a data place takes one read of the table of powers.
+pub fn whole_column(width: u8, p: Place) -> [u8; 5]
+    ensures { λ r. ⌜ (isWidth width ≡ true → r ≡ five (columnM width (p .0))) ⌝ }
+{
+    let place = p.0;
+    if width == 7 {
+        if 5 <= place {
+            if place < 132 {
+                return first_powers(exponent_of(p));
+            }
+        }
+    }
+    [
+        column(width, p, 0),
+        column(width, p, 1),
+        column(width, p, 2),
+        column(width, p, 3),
+        column(width, p, 4),
+    ]
 }

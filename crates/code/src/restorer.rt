@@ -2,7 +2,7 @@
 // solved. These functions are no entry points.
 ghost use mathlib.Core.Path.{_≡_};
 ghost use mathlib.Core.Bool.{true, false, cond};
-ghost use mathlib.Core.List.{List, _∷_};
+ghost use mathlib.Core.List.{List, [], _∷_, _++_};
 ghost use Prim.Native.Nat.{ℕ, _+_, _≤_, _<_};
 ghost use lib.ListN.{length, take};
 ghost use Rattle.field.specs.Polynomial.{add};
@@ -12,11 +12,12 @@ ghost use Rattle.code.specs.Word.{checks, five, places, longest, at};
 ghost use Rattle.code.specs.Place.{column as columnM};
 ghost use Rattle.code.specs.Erasure.{member, differ, changesBelow, syndromesOf};
 ghost use Rattle.code.specs.Call.{allZero};
-ghost use Rattle.code.specs.Matrix.{unknowns};
-ghost use Rattle.code.specs.Correction.{fill, Lent, tried, Ready, systemEntry, SystemRow, SystemMatrix, corrected};
+ghost use Rattle.code.specs.Matrix.{rows, unknowns, columnOf};
+ghost use Rattle.code.specs.Correction.{fill, Lent, tried, Ready, SystemColumns, SystemMatrix, corrected};
 ghost use Rattle.code.specs.Correction.{NoneAt, NoneFrom, Searched, isSolved, Workable};
 use crate::place::Place;
 use crate::place::column;
+use crate::place::whole_column;
 use crate::question::all_zero;
 use crate::question::contains;
 use crate::slice::copy;
@@ -24,9 +25,11 @@ use crate::solver::COLUMNS;
 use crate::solver::ROWS;
 use crate::solver::Solutions;
 use crate::solver::UNKNOWNS;
+use crate::solver::add_times;
 use crate::solver::solve;
 use crate::syndrome::syndromes;
 use field::arithmetic::multiply;
+use sums::block::pass_equal;
 
 // Places taken as erased, the first `count` of them, and the five syndromes of the other places.
 pub struct Trial {
@@ -43,32 +46,33 @@ pub struct Correction {
     pub values: [u8; UNKNOWNS],
 }
 
-// The entry in row k and column j of the system of a trial.
-fn entry_of(width: u8, places: [u8; UNKNOWNS], count: usize, sum: u8, k: u8, j: usize) -> u8
+// The columns at the first `count` places, then zeros.
+fn columns_of(width: u8, places: [u8; UNKNOWNS], count: usize) -> [[u8; ROWS]; UNKNOWNS]
     requires { ⌜ count ≤ unknowns ⌝ }
-    ensures { λ r. ⌜ (isWidth width ≡ true → r ≡ systemEntry width (take count places) sum k j) ⌝ }
+    ensures { λ r. ⌜ SystemColumns width (take count places) r ⌝ }
 {
-    if j == 0 {
-        return sum;
-    }
-    if j <= count {
-        return column(width, Place(places[j - 1]), k);
-    }
-    0
-}
-
-// Row k of the system of a trial.
-fn row_of(width: u8, places: [u8; UNKNOWNS], count: usize, sum: u8, k: u8) -> [u8; COLUMNS]
-    requires { ⌜ count ≤ unknowns ⌝ }
-    ensures { λ r. ⌜ SystemRow width (take count places) sum k r ⌝ }
-{
-    let mut row = [0u8; COLUMNS];
+    let mut columns = [[0u8; ROWS]; UNKNOWNS];
     let mut j = 0;
-    while j < COLUMNS {
-        row[j] = entry_of(width, places, count, sum, k, j);
+    while j < count {
+        columns[j] = whole_column(width, Place(places[j]));
         j += 1;
     }
-    row
+    columns
+}
+
+// The row with a right-hand side, and row k of the columns.
+fn row_at(sum: u8, columns: [[u8; ROWS]; UNKNOWNS], k: usize) -> [u8; COLUMNS]
+    requires { ⌜ k < rows ⌝ }
+    ensures { λ r. ⌜ r ≡ sum ∷ columnOf columns k ⌝ }
+{
+    [
+        sum,
+        columns[0][k],
+        columns[1][k],
+        columns[2][k],
+        columns[3][k],
+        columns[4][k],
+    ]
 }
 
 // The system of a trial: the columns at its places, and its syndromes on the right.
@@ -81,12 +85,14 @@ fn matrix_of(
     requires { ⌜ count ≤ unknowns ⌝ }
     ensures { λ r. ⌜ SystemMatrix width places count sums r ⌝ }
 {
-    let r0 = row_of(width, places, count, sums[0], 0);
-    let r1 = row_of(width, places, count, sums[1], 1);
-    let r2 = row_of(width, places, count, sums[2], 2);
-    let r3 = row_of(width, places, count, sums[3], 3);
-    let r4 = row_of(width, places, count, sums[4], 4);
-    [r0, r1, r2, r3, r4]
+    let columns = columns_of(width, places, count);
+    [
+        row_at(sums[0], columns, 0),
+        row_at(sums[1], columns, 1),
+        row_at(sums[2], columns, 2),
+        row_at(sums[3], columns, 3),
+        row_at(sums[4], columns, 4),
+    ]
 }
 
 // The codeword that agrees with the word outside the places of the trial, if there is just one.
@@ -142,7 +148,21 @@ pub fn column_times(width: u8, p: Place, k: u8, x: u8) -> u8
     multiply(width, column(width, p, k), x)
 }
 
-// The syndromes without the symbol x at place p.
+// Five symbols as a row of the solver, with 0 behind them.
+fn padded(xs: [u8; 5]) -> [u8; COLUMNS]
+    ensures { λ r. ⌜ r ≡ five (at xs) ++ 0 ∷ [] ⌝ }
+{
+    [xs[0], xs[1], xs[2], xs[3], xs[4], 0]
+}
+
+// And back.
+fn first_five(row: [u8; COLUMNS]) -> [u8; 5]
+    ensures { λ r. ⌜ r ≡ five (at row) ⌝ }
+{
+    [row[0], row[1], row[2], row[3], row[4]]
+}
+
+// The syndromes without the symbol x at place p: x times the column is added to them, as one row to another.
 pub fn masked(width: u8, sums: [u8; 5], p: Place, x: u8) -> [u8; 5]
     ensures { λ r.
         ⌜
@@ -152,18 +172,8 @@ pub fn masked(width: u8, sums: [u8; 5], p: Place, x: u8) -> [u8; 5]
         )
         ⌝ }
 {
-    let a0 = column_times(width, p, 0, x);
-    let a1 = column_times(width, p, 1, x);
-    let a2 = column_times(width, p, 2, x);
-    let a3 = column_times(width, p, 3, x);
-    let a4 = column_times(width, p, 4, x);
-    [
-        sums[0] ^ a0,
-        sums[1] ^ a1,
-        sums[2] ^ a2,
-        sums[3] ^ a3,
-        sums[4] ^ a4,
-    ]
+    let column = padded(whole_column(width, p));
+    first_five(add_times(width, padded(sums), x, column))
 }
 
 // The trial with one more place p, where the word holds x.
@@ -348,10 +358,10 @@ pub fn count_changes(word: &[u8], other: &[u8], erasures: &[u8]) -> u8
     ensures { λ r. ⌜ r ≡ changesBelow (length (now (word .entry))) (now (erasures .entry)) (now (word .entry)) (now (other .entry)) ⌝ }
 {
     let mut k: u8 = 0;
-    let mut p = 0;
+    let mut p = pass_equal(word, other, 0);
     while p < word.len() {
         k += change_at(erasures, Place(p as u8), word[p], other[p]);
-        p += 1;
+        p = pass_equal(word, other, p + 1);
     }
     k
 }

@@ -6,9 +6,13 @@ ghost use Prim.Native.Nat.{_≤_, _<_};
 ghost use lib.ListN.{take};
 ghost use Rattle.field.specs.Question.{isWidth};
 ghost use Rattle.field.specs.Answer.{Operand};
+ghost use Rattle.sums.specs.Lanes.{Below, Multiples};
+ghost use Rattle.code.specs.Word.{at};
 ghost use Rattle.code.specs.Matrix.{rows, unknowns, columns, Matrix, Operands, rowAdd, scale, Cleared, swapped, Pivot, columnOf, Means};
 use field::arithmetic::invert;
 use field::arithmetic::multiply;
+use sums::row::add_multiple;
+use sums::row::multiples;
 
 // The shape of a matrix: a row for each equation, with the right-hand side in column 0 and then a column for each unknown.
 pub const ROWS: usize = 5;
@@ -30,8 +34,8 @@ pub struct Solution {
     pub values: [u8; UNKNOWNS],
 }
 
-// The row with k times the row `by` added.
-fn add_row(width: u8, row: [u8; COLUMNS], k: u8, by: [u8; COLUMNS]) -> [u8; COLUMNS]
+// The row with k times the row `by` added, product by product.
+fn add_products(width: u8, row: [u8; COLUMNS], k: u8, by: [u8; COLUMNS]) -> [u8; COLUMNS]
     ensures { λ r. ⌜ (Operand width k → Operands width by → r ≡ rowAdd width row k by) ⌝ }
 {
     let mut out = row;
@@ -43,17 +47,34 @@ fn add_row(width: u8, row: [u8; COLUMNS], k: u8, by: [u8; COLUMNS]) -> [u8; COLU
     out
 }
 
+// The row with k times the row `by` added: at width 7 from the multiples of that row.
+fn add_row(width: u8, row: [u8; COLUMNS], k: u8, by: [u8; COLUMNS], ms: [u64; 7]) -> [u8; COLUMNS]
+    ensures { λ r.
+        ⌜
+        (
+        Operand width k → Operands width by → (width ≡ 7 → Below 128 6 (at by) → Multiples (at by) ms)
+        → r ≡ rowAdd width row k by
+        )
+        ⌝ }
+{
+    if width == 7 {
+        return add_multiple(row, k, ms);
+    }
+    add_products(width, row, k, by)
+}
+
+// The same for a row of which no multiples are given.
+pub fn add_times(width: u8, row: [u8; COLUMNS], k: u8, by: [u8; COLUMNS]) -> [u8; COLUMNS]
+    ensures { λ r. ⌜ (Operand width k → Operands width by → r ≡ rowAdd width row k by) ⌝ }
+{
+    add_row(width, row, k, by, multiples(by))
+}
+
 // k times the row.
 fn scale_row(width: u8, k: u8, row: [u8; COLUMNS]) -> [u8; COLUMNS]
     ensures { λ r. ⌜ (Operand width k → Operands width row → r ≡ scale width k row) ⌝ }
 {
-    let mut out = row;
-    let mut j = 0;
-    while j < COLUMNS {
-        out[j] = multiply(width, k, row[j]);
-        j += 1;
-    }
-    out
+    add_row(width, [0; COLUMNS], k, row, multiples(row))
 }
 
 // Column c becomes 1 in row p, whose symbol there is not 0, and 0 in every other row.
@@ -64,11 +85,12 @@ fn clear_column(width: u8, a: [[u8; COLUMNS]; ROWS], c: usize, p: usize) -> [[u8
     let pivot = a[p];
     let k = invert(width, pivot[c]);
     let unit = scale_row(width, k, pivot);
+    let ms = multiples(unit);
     let mut out = a;
     let mut i = 0;
     while i < ROWS {
         let row = a[i];
-        out[i] = add_row(width, row, row[c], unit);
+        out[i] = add_row(width, row, row[c], unit, ms);
         i += 1;
     }
     out[p] = unit;

@@ -3,13 +3,16 @@
 use mathlib.Core.Path.{_≡_, refl, sym, ap, _∙_, subst}
 use mathlib.Core.Bool.{Bool, true, _&&_}
 use mathlib.Core.List.{List, [], _∷_}
-use Prim.Native.Nat.{ℕ, zero, suc, _<_}
-use native.Mathlib.Nat.{le-of-suc-le-suc, not-suc-le-zero}
-use lib.Dec.{T, eqb, eqb→eq}
+use Prim.Native.Nat.{ℕ, zero, suc, _*_, _%_, _<_}
+use native.Mathlib.Nat.{le-of-suc-le-suc, not-suc-le-zero, zero-mul, one-mul}
+use native.Mathlib.Omega.{arith}
+use lib.Dec.{T, eqb, eqb→eq, lit<}
 use lib.ListN.{length, getD}
 use Rattle.field.specs.Field.{order, double, product, power, α, arithmetic}
 use Rattle.field.proofs.Ring.{double-lt, product-assoc, product-comm, product-one-l, product-one-r}
 use Rattle.field.proofs.Powers.{one-lt, power-zero, power-suc, power-lt, double-product}
+use Rattle.field.proofs.Widths.{fieldAt, Width.seven}
+use Rattle.field.proofs.Steps.{power-mod}
 use Rattle.field.proofs.Check.{and-left, and-right}
 
 -- the list begins with x, and each entry after it is the double of the one before
@@ -44,6 +47,37 @@ module _ (m : ℕ) (pos : 0 < m) where
   -- the doubling rule, carried to each exponent
   pub doubling-at : (xs : List ℕ) → T (doubling m 1 xs) → (k : ℕ) → k < length xs → getD xs k 0 ≡ power m α k
   doubling-at xs t k h = doubling-from 1 (one-lt m pos) xs t k h ∙ product-one-r m (power m α k) (power-lt m pos α k)
+
+-- the entries of the table of width 7
+unfoldable pub powers : List ℕ
+powers =
+    1 ∷ 2 ∷ 4 ∷ 8 ∷ 16 ∷ 32 ∷ 64 ∷ 9 ∷ 18 ∷ 36 ∷ 72 ∷ 25 ∷ 50 ∷ 100 ∷ 65 ∷ 11 ∷ 22 ∷ 44 ∷ 88 ∷ 57 ∷ 114 ∷ 109 ∷ 83 ∷ 47 ∷ 94 ∷ 53 ∷ 106 ∷ 93 ∷ 51 ∷ 102 ∷ 69 ∷ 3 ∷
+    6 ∷ 12 ∷ 24 ∷ 48 ∷ 96 ∷ 73 ∷ 27 ∷ 54 ∷ 108 ∷ 81 ∷ 43 ∷ 86 ∷ 37 ∷ 74 ∷ 29 ∷ 58 ∷ 116 ∷ 97 ∷ 75 ∷ 31 ∷ 62 ∷ 124 ∷ 113 ∷ 107 ∷ 95 ∷ 55 ∷ 110 ∷ 85 ∷ 35 ∷ 70 ∷ 5 ∷ 10 ∷
+    20 ∷ 40 ∷ 80 ∷ 41 ∷ 82 ∷ 45 ∷ 90 ∷ 61 ∷ 122 ∷ 125 ∷ 115 ∷ 111 ∷ 87 ∷ 39 ∷ 78 ∷ 21 ∷ 42 ∷ 84 ∷ 33 ∷ 66 ∷ 13 ∷ 26 ∷ 52 ∷ 104 ∷ 89 ∷ 59 ∷ 118 ∷ 101 ∷ 67 ∷ 15 ∷ 30 ∷ 60 ∷
+    120 ∷ 121 ∷ 123 ∷ 127 ∷ 119 ∷ 103 ∷ 71 ∷ 7 ∷ 14 ∷ 28 ∷ 56 ∷ 112 ∷ 105 ∷ 91 ∷ 63 ∷ 126 ∷ 117 ∷ 99 ∷ 79 ∷ 23 ∷ 46 ∷ 92 ∷ 49 ∷ 98 ∷ 77 ∷ 19 ∷ 38 ∷ 76 ∷ 17 ∷ 34 ∷ 68 ∷ 1 ∷
+    2 ∷ 4 ∷ 8 ∷ 16 ∷ 32 ∷ 64 ∷ 9 ∷ 18 ∷ 36 ∷ 72 ∷ 25 ∷ 50 ∷ 100 ∷ 65 ∷ 11 ∷ 22 ∷ 44 ∷ 88 ∷ 57 ∷ 114 ∷ 109 ∷ 83 ∷ 47 ∷ 94 ∷ 53 ∷ 106 ∷ 93 ∷ 51 ∷ 102 ∷ 69 ∷ 3 ∷ 6 ∷
+    12 ∷ 24 ∷ 48 ∷ 96 ∷ 73 ∷ 27 ∷ 54 ∷ 108 ∷ 81 ∷ 43 ∷ 86 ∷ 37 ∷ 74 ∷ 29 ∷ 58 ∷ 116 ∷ 97 ∷ 75 ∷ 31 ∷ 62 ∷ 124 ∷ 113 ∷ 107 ∷ 95 ∷ 55 ∷ 110 ∷ 85 ∷ 35 ∷ 70 ∷ 5 ∷ 10 ∷ 20 ∷
+    40 ∷ 80 ∷ 41 ∷ 82 ∷ 45 ∷ 90 ∷ 61 ∷ 122 ∷ 125 ∷ 115 ∷ 111 ∷ 87 ∷ 39 ∷ 78 ∷ 21 ∷ 42 ∷ 84 ∷ 33 ∷ 66 ∷ 13 ∷ 26 ∷ 52 ∷ 104 ∷ 89 ∷ 59 ∷ 118 ∷ 101 ∷ 67 ∷ 15 ∷ 30 ∷ 60 ∷ 120 ∷
+    121 ∷ 123 ∷ 127 ∷ 119 ∷ 103 ∷ 71 ∷ 7 ∷ 14 ∷ 28 ∷ 56 ∷ 112 ∷ 105 ∷ 91 ∷ 63 ∷ 126 ∷ 117 ∷ 99 ∷ 79 ∷ 23 ∷ 46 ∷ 92 ∷ 49 ∷ 98 ∷ 77 ∷ 19 ∷ 38 ∷ 76 ∷ 17 ∷ 34 ∷ 68 ∷ []
+
+rule : T (doubling 7 1 powers)
+unfolding powers arithmetic
+rule = tt
+
+pub powers-at : (k : ℕ) → k < 254 → getD powers k 0 ≡ power 7 α k
+unfolding powers
+powers-at k h = doubling-at 7 (lit< tt) powers rule k h
+
+-- at an exponent modulo 127
+powers-mod : (k : ℕ) → getD powers (k % 127) 0 ≡ power 7 α k
+powers-mod k = powers-at (k % 127) (omega arith) ∙ power-mod 7 (fieldAt seven) k
+
+-- the powers 0 to 4 of α^i
+pub first-powers : (i : ℕ) → i < 127
+    → _≡_ {A = List ℕ} (1 ∷ getD powers i 0 ∷ getD powers (2 * i % 127) 0 ∷ getD powers (3 * i % 127) 0 ∷ getD powers (4 * i % 127) 0 ∷ [])
+    (power 7 α (0 * i) ∷ power 7 α (1 * i) ∷ power 7 α (2 * i) ∷ power 7 α (3 * i) ∷ power 7 α (4 * i) ∷ [])
+first-powers i h =
+    simp (zero-mul, one-mul, power-zero, powers-at i (omega arith), powers-mod (2 * i), powers-mod (3 * i), powers-mod (4 * i))
 
 -- the example of document 01: the powers 0 to 6 of α at width 3
 pub powers3 : orbit 3 1 7 ≡ 1 ∷ 2 ∷ 4 ∷ 3 ∷ 6 ∷ 7 ∷ 5 ∷ []

@@ -104,6 +104,22 @@ power-mod m F k =
     (ap (power m α) (mul-comm (k / u) u) ∙ sym (F .power-power α u (k / u)) ∙ ap (λ (x : ℕ). power m x (k / u)) (F .α-cycle) ∙ F .one-power (k / u))
     ∙ F .one-product (power m α (k % u)) (F .power-lt α (k % u)))
 
+-- a quotient by exponents of α
+pub ratio-exponents : (m : ℕ) → IsField m → (a b i j : ℕ) → i ≤ order m - 1 → power m α i ≡ a → power m α j ≡ b
+    → product m (power m α ((j + (order m - 1) - i) % (order m - 1))) a ≡ b
+ratio-exponents m F a b i j h ea eb =
+    let u = order m - 1 in
+    ap (λ (x : ℕ). product m x a) (power-mod m F (j + u - i))
+    ∙ sym (product-exponents m F (power m α (j + u - i)) a (j + u - i) i refl ea)
+    ∙ ap (power m α) (whole j u h)
+    ∙ F .power-add α j u
+    ∙ ap (product m (power m α j)) (F .α-cycle)
+    ∙ F .product-one (power m α j) (F .power-lt α j)
+    ∙ eb
+  where
+    whole : (j u : ℕ) → i ≤ u → j + u - i + i ≡ j + u
+    whole j u h = omega arith
+
 -- a power by the exponent of α
 pub power-exponent : (m : ℕ) → IsField m → (a e i : ℕ) → power m α i ≡ a → power m α (i * e % (order m - 1)) ≡ power m a e
 power-exponent m F a e i ea =

@@ -1,9 +1,10 @@
 // Arithmetic below the questions: plain bytes in and out. These functions are no entry points: they ask nothing, and their contracts say
 // what they give on every byte. A byte that is no width stands for width 7, and one that is no symbol for its lowest digits.
 ghost use mathlib.Core.Path.{_≡_};
+ghost use mathlib.Core.Logic.{_≢_};
 ghost use mathlib.Core.Bool.{true};
 ghost use Prim.Native.Nat.{ℕ, _%_, _≤_, _<_};
-ghost use Rattle.field.specs.Field.{order, polynomial, double as doubleM, product as productM, power as powerM};
+ghost use Rattle.field.specs.Field.{order, polynomial, double as doubleM, product as productM, power as powerM, α};
 ghost use Rattle.field.specs.Question.{isWidth};
 ghost use Rattle.field.specs.Answer.{Operand, orderOf};
 ghost use Rattle.field.specs.Bytes.{Small, multiplied, raised, inverted};
@@ -95,6 +96,15 @@ pub fn multiply(width: u8, a: u8, b: u8) -> u8
         3..=5 => multiply_by_digits(width, a, b),
         _ => multiply7(a, b),
     }
+}
+
+// The exponent of α at which its power times a is b, at width 7, where a and b are other than 0.
+pub fn ratio_exponent(a: u8, b: u8) -> Exponent
+    ensures { λ r. ⌜ (r .0 < 127) × (a % 128 ≢ 0 → b % 128 ≢ 0 → productM 7 (powerM 7 α (r .0)) (a % 128) ≡ b % 128) ⌝ }
+{
+    let i = logarithm(a).0;
+    let j = logarithm(b).0;
+    Exponent((j + 127 - i) % 127)
 }
 
 // A power at width 7: the exponent of α is multiplied, and counts modulo 127.

@@ -6,7 +6,7 @@ ghost use Rattle.field.specs.Answer.{operands, outcome, sumOf, productOf
 
 pub mod arithmetic;
 pub mod shift;
-mod table;
+pub mod table;
 
 use arithmetic::multiply;
 use arithmetic::order_of;

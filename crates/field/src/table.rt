@@ -1,7 +1,8 @@
-// The tables of width 7: the powers of α, and the logarithms to the base α.
+// The tables of width 7: the powers of α, and the logarithms to the base α. These functions are no entry points.
 ghost use mathlib.Core.Path.{_≡_};
 ghost use mathlib.Core.Logic.{_≢_};
-ghost use Prim.Native.Nat.{_%_, _<_};
+ghost use mathlib.Core.List.{_∷_, []};
+ghost use Prim.Native.Nat.{_*_, _%_, _<_};
 ghost use Rattle.field.specs.Field.{power as powerM, α};
 use crate::Exponent;
 
@@ -396,12 +397,33 @@ const LOGARITHMS: [u8; 128] = [
 ];
 
 // α to the power e at width 7.
-pub fn power_of_alpha(e: Exponent) -> u8
+pub(crate) fn power_of_alpha(e: Exponent) -> u8
     requires { ⌜ e .0 < 254 ⌝ }
     ensures { λ r. ⌜ r ≡ powerM 7 α (e .0) ⌝ }
 {
     let i = e.0 as usize;
     POWERS[i]
+}
+
+// The powers 0 to 4 of α^e at width 7. The table is named once, since each use of a constant array copies it; of the exponents below 127
+// alone, since what is never read is not copied.
+pub fn first_powers(e: Exponent) -> [u8; 5]
+    requires { ⌜ e .0 < 127 ⌝ }
+    ensures { λ r.
+        ⌜
+        r
+        ≡ powerM 7 α (0 * e .0) ∷ powerM 7 α (1 * e .0) ∷ powerM 7 α (2 * e .0) ∷ powerM 7 α (3 * e .0) ∷ powerM 7 α (4 * e .0) ∷ []
+        ⌝ }
+{
+    let powers = POWERS;
+    let i = e.0 as usize;
+    [
+        1,
+        powers[i],
+        powers[2 * i % 127],
+        powers[3 * i % 127],
+        powers[4 * i % 127],
+    ]
 }
 
 // The entry of the table of logarithms at a.
@@ -413,7 +435,7 @@ fn logarithm_at(a: usize) -> u8
 }
 
 // The exponent of α at which its power at width 7 is the symbol of a, where that is not 0.
-pub fn logarithm(a: u8) -> Exponent
+pub(crate) fn logarithm(a: u8) -> Exponent
     ensures { λ r. ⌜ (r .0 < 127) × (a % 128 ≢ 0 → powerM 7 α (r .0) ≡ a % 128) ⌝ }
 {
     Exponent(logarithm_at((a % 128) as usize) as u16)

@@ -46,10 +46,11 @@ fn restorable(chance: &mut Chance, width: u8, clean: &[u8], count: usize) -> Vec
 }
 
 /// Words of one kind: `wrong` wrong symbols beside `marks` erasures, whose symbols are wrong too. The words stand one behind the other.
-/// With three wrong symbols they are refused.
+/// With more wrong symbols than r they are refused.
 struct Words {
     width: u8,
     wrong: usize,
+    refused: bool,
     worn: Vec<u8>,
     /// What must be there afterwards.
     after: Vec<u8>,
@@ -59,15 +60,16 @@ struct Words {
 impl Words {
     fn new(width: u8, wrong: usize, marks: usize) -> Words {
         let mut chance = Chance::new();
-        let mut words = Words { width, wrong, worn: Vec::new(), after: Vec::new(), marks: Vec::new() };
+        let refused = wrong > radius(width, marks);
+        let mut words = Words { width, wrong, refused, worn: Vec::new(), after: Vec::new(), marks: Vec::new() };
         while words.marks.len() < WORDS {
             let clean = codeword(&mut chance, width);
             let places = restorable(&mut chance, width, &clean, wrong + marks);
             let worn = spoiled(&mut chance, width, &clean, &places);
-            if wrong > 2 && xrs::restore_word(width, &mut worn.clone(), &[]).is_ok() {
+            if refused && xrs::restore_word(width, &mut worn.clone(), &places[wrong..]).is_ok() {
                 continue; // near another codeword
             }
-            words.after.extend(if wrong > 2 { &worn } else { &clean });
+            words.after.extend(if refused { &worn } else { &clean });
             words.worn.extend(worn);
             words.marks.push(places[wrong..].to_vec());
         }
@@ -76,7 +78,7 @@ impl Words {
 
     /// Restores fresh copies of the words, made before the clock starts. Fails where an answer is not the one that must come.
     fn round(&self, name: &str, restore: &impl Fn(&mut [u8], &[u8]) -> Option<u8>) -> Duration {
-        let wanted = (self.wrong <= 2).then_some(self.wrong as u8);
+        let wanted = (!self.refused).then_some(self.wrong as u8);
         let mut copies = self.worn.clone();
         let mut right = 0;
         let start = Instant::now();
@@ -109,8 +111,8 @@ fn time_words() {
             Words::new(width, wrong, 0).time("ours", |word, marks| xrs::restore_word(width, word, marks).ok());
         }
     }
-    for marks in 1..=5 {
-        Words::new(7, 0, marks).time("ours", |word, marks| xrs::restore_word(7, word, marks).ok());
+    for (wrong, marks) in [(0, 1), (0, 2), (0, 3), (0, 4), (0, 5), (1, 1), (1, 2), (2, 1)] {
+        Words::new(7, wrong, marks).time("ours", |word, marks| xrs::restore_word(7, word, marks).ok());
     }
     for wrong in 0..=2 {
         Words::new(7, wrong, 0).time("trials", |word, marks| xrs::restore_word_by_trials(7, word, marks).ok());

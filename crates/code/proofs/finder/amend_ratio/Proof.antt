@@ -30,8 +30,8 @@ returns c =
 items-of-requires : tie.Need-items-of-requires
 items-of-requires c κs = search needs
 
-root-from-requires : tie.Need-root-from-requires
-root-from-requires c κs = search needs
+first-root-requires : tie.Need-first-root-requires
+first-root-requires c κs = search needs
 
 nothing-requires-2 : tie.Need-nothing-requires-2
 nothing-requires-2 c κs = search needs
@@ -43,7 +43,7 @@ returns-2 c =
     let a = r .before .before .before .before .before .args in (
       c .nothing2 .ensures .0,
       λ R e. ratio-out (R .width) (a .word .now) (a .t .sums) (a .reach) (a .a) _ (i .result) (omega (arith, R .lent .size, i .ensures .0))
-          (r .root-from .result) (r .root-from .ensures .2) (c .nothing2 .ensures .1) (c .before .if2 .taken),
+          (r .first-root .result) (r .first-root .ensures .1) (c .nothing2 .ensures .1) (c .before .if2 .taken),
     )
 
 place-of-requires : tie.Need-place-of-requires
@@ -68,7 +68,7 @@ returns-3 c =
       λ R e. (
           let y = v .value-from .ensures (R .width) (sums-lt R (a .a) (omega (arith, s .pre))) in
           ratio-beside (R .width) (a .word .now) (a .t .sums) (a .reach) (a .a) _ (i .result) (omega (arith, R .lent .size, i .ensures .0))
-          (r .root-from .result) (r .root-from .ensures .2) (p .place-of .result .0) (v .value-from .result) ep y (s .pre .0)
+          (r .first-root .result) (r .first-root .ensures .1) (p .place-of .result .0) (v .value-from .result) ep y (s .pre .0)
           (c .amend-beside .ensures .1 R e (omega (arith, ep)) (omega (arith, ep, R .lent .size, i .ensures .0, p .before .if2 .left))
           (subst (λ (n : ℕ). n < order (a .width)) (sym y) (field-of (a .width) (R .width) .product-lt _ _)))),
     )
@@ -83,7 +83,7 @@ amend-ratio-spec =
     nothing-requires
     returns
     items-of-requires
-    root-from-requires
+    first-root-requires
     nothing-requires-2
     returns-2
     place-of-requires

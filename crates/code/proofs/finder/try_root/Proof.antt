@@ -10,8 +10,8 @@ use Rattle.code.proofs.finder.try_root.Tie as tie
 items-of-requires : tie.Need-items-of-requires
 items-of-requires c κs = search needs
 
-root-from-requires : tie.Need-root-from-requires
-root-from-requires c κs = search needs
+first-root-requires : tie.Need-first-root-requires
+first-root-requires c κs = search needs
 
 nothing-requires : tie.Need-nothing-requires
 nothing-requires c κs = search needs
@@ -23,7 +23,7 @@ returns c =
     let a = r .before .before .before .args in (
       c .nothing .ensures .0,
       λ R. root-out (a .width) (R .width) (a .word .now) (tried (a .t)) (a .square) (a .linear) (a .constant) _ (i .result)
-          (omega (arith, R .lent .size, i .ensures .0)) (r .root-from .result) (r .root-from .ensures .2) (c .nothing .ensures .1) (c .before .if1 .taken),
+          (omega (arith, R .lent .size, i .ensures .0)) (r .first-root .result) (r .first-root .ensures .1) (c .nothing .ensures .1) (c .before .if1 .taken),
     )
 
 place-of-requires : tie.Need-place-of-requires
@@ -40,7 +40,7 @@ returns-2 c =
     let a = r .before .before .before .args in (
       c .try-place .ensures .0,
       λ R. root-place (a .width) (R .width) (a .word .now) (tried (a .t)) (a .square) (a .linear) (a .constant) _ (i .result)
-          (omega (arith, R .lent .size, i .ensures .0)) (r .root-from .result) (r .root-from .ensures .2) (p .place-of .result .0)
+          (omega (arith, R .lent .size, i .ensures .0)) (r .first-root .result) (r .first-root .ensures .1) (p .place-of .result .0)
           (ap (λ q. q .0) (p .place-of .ensures)) (c .try-place .ensures .1 R),
     )
 
@@ -49,7 +49,7 @@ try-root-spec =
     tie.close
     (tie.spec
     items-of-requires
-    root-from-requires
+    first-root-requires
     nothing-requires
     returns
     place-of-requires

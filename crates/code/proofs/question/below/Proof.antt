@@ -1,10 +1,10 @@
 -- `code::question::below` meets its contract. Assumes nothing.
 use borrow.Author.Needs.{needs}
-use mathlib.Core.Path.{_≡_}
 use Prim.Native.Nat.{_-_}
-use lib.ListN.{length, drop}
+use mathlib.Core.Path.{_≡_, refl}
 use Rattle.field.specs.Question.{allBelow}
-use Rattle.code.proofs.Questions.{allBelow-on, allBelow-stop, allBelow-end}
+use Rattle.code.proofs.Questions.{allBelow-on, allBelow-run, allBelow-stop, allBelow-end}
+use lib.ListN.{length, drop}
 use Rattle.code.proofs.question.below.Statement.{statement}
 use Rattle.code.proofs.question.below.Tie as tie
 
@@ -14,8 +14,13 @@ Inv-loop xs n i₀ i = allBelow n xs ≡ allBelow n (drop i xs)
 abbrev μ-loop : tie.MeasureT-loop
 μ-loop xs n i₀ i = length xs - i
 
+pass-below-requires : tie.Need-pass-below-requires Inv-loop μ-loop
+pass-below-requires c κs = search needs
+
 loop-holds : tie.Need-loop-holds Inv-loop μ-loop
-loop-holds c = search needs
+loop-holds c =
+    let s = c .before .before .args in
+    allBelow-run (s .n) (s .xs .now) 0 (c .pass-below .result) (c .pass-below .ensures) refl
 
 shared-slice-read-if1 : tie.Need-shared-slice-read-if1 Inv-loop μ-loop
 shared-slice-read-if1 c = search needs
@@ -41,6 +46,7 @@ below-spec =
     (tie.spec
     Inv-loop
     μ-loop
+    pass-below-requires
     loop-holds
     shared-slice-read-if1
     add-i

@@ -1,11 +1,11 @@
 -- `code::question::symbols_below` meets its contract. Assumes nothing.
 use borrow.Author.Needs.{needs}
-use mathlib.Core.Path.{_≡_}
+use Prim.Native.Nat.{ℕ, _+_, _-_, _≤_}
+use mathlib.Core.Path.{_≡_, refl}
 use mathlib.Core.Logic.{⊎-elim}
-use Prim.Native.Nat.{_-_, _≤_}
-use lib.ListN.{length, drop}
 use Rattle.code.specs.Erasure.{symbolsFrom}
-use Rattle.code.proofs.Questions.{symbols-on, symbols-erased, symbols-stop, symbols-end}
+use Rattle.code.proofs.Questions.{symbols-on, symbols-run, symbols-erased, symbols-stop, symbols-end}
+use lib.ListN.{length, drop}
 use Rattle.code.proofs.question.symbols_below.Statement.{statement}
 use Rattle.code.proofs.question.symbols_below.Tie as tie
 
@@ -15,8 +15,14 @@ Inv-loop word erasures q i₀ i = (i ≤ length word) × (symbolsFrom q erasures
 abbrev μ-loop : tie.MeasureT-loop
 μ-loop word erasures q i₀ i = length word - i
 
+pass-below-requires : tie.Need-pass-below-requires Inv-loop μ-loop
+pass-below-requires c κs = search needs
+
 loop-holds : tie.Need-loop-holds Inv-loop μ-loop
-loop-holds c = search needs
+loop-holds c =
+    let s = c .before .before .before .args in
+    let a = c .pass-below in
+    (a .ensures .within, symbols-run (s .q) (s .erasures .now) (s .word .now) 0 (a .result) (a .ensures) refl)
 
 shared-slice-read-if1 : tie.Need-shared-slice-read-if1 Inv-loop μ-loop
 shared-slice-read-if1 c = search needs
@@ -30,14 +36,27 @@ contains-requires c κs = search needs
 returns : tie.Need-returns Inv-loop μ-loop
 returns c = search (needs, symbols-stop)
 
-add-i : tie.Need-add-i Inv-loop μ-loop
-add-i c = search needs
+add-pass-below : tie.Need-add-pass-below Inv-loop μ-loop
+add-pass-below c = search needs
+
+pass-below-requires-2 : tie.Need-pass-below-requires-2 Inv-loop μ-loop
+pass-below-requires-2 c κs = search needs
 
 loop-less : tie.Need-loop-less Inv-loop μ-loop
 loop-less c = search needs
 
 loop-again : tie.Need-loop-again Inv-loop μ-loop
-loop-again c = ⊎-elim (λ w. search (needs, symbols-erased)) (λ w. search (needs, symbols-on)) (c .if1 .came)
+loop-again c =
+    let l = c .before .before .before .before in
+    let s = l .before .before .before .before .args in
+    let w = s .word .now in
+    let es = s .erasures .now in
+    let i : ℕ = l .loop .i in
+    let a = c .pass-below2 in
+    let next : symbolsFrom (s .q) es 0 w ≡ symbolsFrom (s .q) es (i + 1) (drop (i + 1) w) =
+    ⊎-elim (λ v. search (needs, symbols-erased)) (λ v. search (needs, symbols-on)) (c .before .if1 .came)
+    in
+    (a .ensures .within, symbols-run (s .q) es w (i + 1) (a .result) (a .ensures) next)
 
 returns-2 : tie.Need-returns-2 Inv-loop μ-loop
 returns-2 c = search (needs, symbols-end)
@@ -48,12 +67,14 @@ symbols-below-spec =
     (tie.spec
     Inv-loop
     μ-loop
+    pass-below-requires
     loop-holds
     shared-slice-read-if1
     cast-contains
     contains-requires
     returns
-    add-i
+    add-pass-below
+    pass-below-requires-2
     loop-less
     loop-again
     returns-2)

@@ -1,73 +1,34 @@
--- `code::solver::add_row` meets its contract. The loop fills the row; `^` is the sum. Assumes nothing.
+-- `code::solver::add_row` meets its contract. Assumes nothing.
 use borrow.Author.Needs.{needs}
-use native.Mathlib.Omega.{arith}
-use Prim.Native.Nat.{ℕ, _-_}
-use mathlib.Core.Path.{_≡_, sym, _∙_, ap}
-use lib.ListN.{length, getD}
-use Rattle.field.specs.Polynomial.{add}
-use Rattle.field.specs.Field.{product}
-use Rattle.field.specs.Answer.{Operand}
-use Rattle.field.proofs.Bytes.{xor-add, multiplied-product}
-use Rattle.code.specs.Matrix.{columns, Operands}
-use Rattle.code.proofs.RowLaws.{length-rowAdd, getD-rowAdd}
-use Rattle.code.proofs.Loops.{Filled, filled-start, filled-on, filled-end}
+use borrow.Kind.Array.{eInt, good-length}
+use mir.Syntax.{w8}
+use mathlib.Core.Path.{_≡_, sym, ap, _∙_}
+use Prim.Native.Nat.{ℕ}
+use Rattle.code.specs.Word.{at}
+use Rattle.code.specs.Matrix.{rowAdd}
+use Rattle.code.proofs.RowLaws.{below-order, six-rowAdd}
 use Rattle.code.proofs.solver.add_row.Statement.{statement}
 use Rattle.code.proofs.solver.add_row.Tie as tie
 
-abbrev Inv-loop : tie.InvT-loop
-Inv-loop width k row by out₀ j₀ out j =
-    Filled ℕ 0 columns (Operand width k × Operands width by) (λ i. add (getD row i 0) (product width k (getD by i 0))) out j
+add-multiple-requires : tie.Need-add-multiple-requires
+add-multiple-requires c κs = search needs
 
-abbrev μ-loop : tie.MeasureT-loop
-μ-loop width k row by out₀ j₀ out j = columns - j
-
-loop-holds : tie.Need-loop-holds Inv-loop μ-loop
-loop-holds c = search (needs, filled-start)
-
-array-read-out : tie.Need-array-read-out Inv-loop μ-loop
-array-read-out c = search needs
-
-array-read-multiply : tie.Need-array-read-multiply Inv-loop μ-loop
-array-read-multiply c = search needs
-
-multiply-requires : tie.Need-multiply-requires Inv-loop μ-loop
-multiply-requires c κs = search needs
-
-array-write-out : tie.Need-array-write-out Inv-loop μ-loop
-array-write-out c = search needs
-
-add-j : tie.Need-add-j Inv-loop μ-loop
-add-j c = search needs
-
-loop-less : tie.Need-loop-less Inv-loop μ-loop
-loop-less c = search needs
-
-loop-again : tie.Need-loop-again Inv-loop μ-loop
-loop-again c =
-    let x = getD (c .before .before .before .args .t2) (c .before .before .loop .j) 0 in
-    filled-on (c .before .before .loop .inv) (omega arith)
-    (λ h. xor-add x (c .multiply .result) ∙ ap (add x) (c .multiply .ensures ∙ multiplied-product (h .0) (h .1 _ (omega arith))))
-
-returns : tie.Need-returns Inv-loop μ-loop
+returns : tie.Need-returns
 returns c =
-    let start = c .before .before .args in
-    let long : length (start .t2) ≡ columns = search needs in
-    let wide : length (start .t4) ≡ columns = search needs in
-    λ k y. filled-end (c .before .loop .inv) (omega arith) (k, y) _ (length-rowAdd (start .width) (start .t2) (start .k) (start .t4) ∙ long)
-    (λ j h. getD-rowAdd (start .width) (start .t2) (start .k) (start .t4) j (long ∙ sym wide) (omega arith))
+    let start = c .before .before in
+    let a = start .args in
+    let seven : a .width ≡ 7 = c .before .if1 .taken in
+    let long = good-length (eInt w8) 6 (a .row) _ (start .good .1 .0) in
+    let wide = good-length (eInt w8) 6 (a .by) _ (start .good .1 .1 .1 .0) in
+    λ k y M. c .add-multiple .ensures (at (a .by)) (below-order seven k) (M seven (λ j h. below-order seven (y j h)))
+    ∙ six-rowAdd 7 (a .row) (a .k) (a .by) long wide
+    ∙ ap (λ (m : ℕ). rowAdd m (a .row) (a .k) (a .by)) (sym seven)
+
+add-products-requires : tie.Need-add-products-requires
+add-products-requires c κs = search needs
+
+returns-2 : tie.Need-returns-2
+returns-2 c = λ k y M. c .add-products .ensures k y
 
 pub add-row-spec : {M : Type 1} → statement M
-add-row-spec =
-    tie.close
-    (tie.spec
-    Inv-loop
-    μ-loop
-    loop-holds
-    array-read-out
-    array-read-multiply
-    multiply-requires
-    array-write-out
-    add-j
-    loop-less
-    loop-again
-    returns)
+add-row-spec = tie.close (tie.spec add-multiple-requires returns add-products-requires returns-2)

@@ -9,10 +9,10 @@ use Rattle.code.proofs.solver.clear_column.Statement.{statement}
 use Rattle.code.proofs.solver.clear_column.Tie as tie
 
 abbrev Inv-loop : tie.InvT-loop
-Inv-loop width c p a k unit out₀ i₀ out i = Clearing width a c p out i
+Inv-loop width c p a k unit ms out₀ i₀ out i = Clearing width a c p out i
 
 abbrev μ-loop : tie.MeasureT-loop
-μ-loop width c p a k unit out₀ i₀ out i = rows - i
+μ-loop width c p a k unit ms out₀ i₀ out i = rows - i
 
 mul-pivot : tie.Need-mul-pivot Inv-loop μ-loop
 mul-pivot c = search needs
@@ -28,6 +28,9 @@ invert-requires c κs = search needs
 
 scale-row-requires : tie.Need-scale-row-requires Inv-loop μ-loop
 scale-row-requires c κs = search needs
+
+multiples-requires : tie.Need-multiples-requires Inv-loop μ-loop
+multiples-requires c κs = search needs
 
 loop-holds : tie.Need-loop-holds Inv-loop μ-loop
 loop-holds c = search (needs, filled-start)
@@ -59,9 +62,10 @@ loop-less c = search needs
 loop-again : tie.Need-loop-again Inv-loop μ-loop
 loop-again c =
     let turn = c .before .before .before in
-    let scaled = turn .before in
+    let many = turn .before in
+    let scaled = many .before in
     clearing-on _ _ _ _ (omega arith) (omega arith) _ _ (scaled .before .invert .ensures) (scaled .scale-row .ensures) _ _ (turn .loop .inv)
-    (omega arith) _ (c .add-row .ensures)
+    (omega arith) _ (λ o y. c .add-row .ensures o y (λ e b. many .multiples .ensures b))
 
 mul-out-2 : tie.Need-mul-out-2 Inv-loop μ-loop
 mul-out-2 c = search needs
@@ -71,7 +75,7 @@ array-set-from-out-2 c = search needs
 
 returns : tie.Need-returns Inv-loop μ-loop
 returns c =
-    let scaled = c .before .before in
+    let scaled = c .before .before .before in
     clearing-end _ _ _ _ (omega arith) (omega arith) _ _ (scaled .before .invert .ensures) (scaled .scale-row .ensures) _ _ (c .before .loop .inv)
     (omega arith)
 
@@ -86,6 +90,7 @@ clear-column-spec =
     array-read-invert
     invert-requires
     scale-row-requires
+    multiples-requires
     loop-holds
     mul-row
     array-copy-out-row

@@ -5,8 +5,9 @@ use Prim.Native.Nat.{ℕ, _<_}
 use lib.Dec.{lit<}
 use Rattle.field.specs.Polynomial.{add}
 use Rattle.field.proofs.Bytes.{xor-add}
+use Rattle.sums.proofs.Evaluation.{five-of}
 use Rattle.code.specs.Word.{checks, at, syndrome}
-use Rattle.code.proofs.Horner.{five-of, syndromes-of}
+use Rattle.code.proofs.Parities.{syndromes-of}
 use Rattle.code.proofs.syndrome.syndromes.Statement.{statement}
 use Rattle.code.proofs.syndrome.syndromes.Tie as tie
 

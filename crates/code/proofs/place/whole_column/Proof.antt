@@ -1,0 +1,66 @@
+-- `code::place::whole_column` meets its contract. Assumes nothing.
+use borrow.Author.Needs.{needs}
+use mathlib.Core.Path.{sym, ap, _∙_}
+use Prim.Native.Nat.{ℕ, _*_}
+use native.Mathlib.Omega.{arith}
+use Rattle.field.specs.Field.{power, α}
+use Rattle.field.specs.declared.Exponent.{Exponent}
+use Rattle.sums.proofs.Evaluation.{five-of, five-cong}
+use Rattle.code.specs.Word.{five}
+use Rattle.code.specs.Place.{column}
+use Rattle.code.proofs.Columns.{column-power}
+use Rattle.code.proofs.place.whole_column.Statement.{statement}
+use Rattle.code.proofs.place.whole_column.Tie as tie
+
+exponent-of-requires : tie.Need-exponent-of-requires
+exponent-of-requires c κs = search needs
+
+first-powers-requires : tie.Need-first-powers-requires
+first-powers-requires c κs = omega (arith, ap (λ (e : Exponent). e .0) (c .exponent-of .ensures))
+
+returns : tie.Need-returns
+returns c = λ w.
+    (let in5 = c .before .before .before in
+    let p = in5 .before .before .args .p .0 in
+    c .first-powers .ensures
+    ∙ ap (λ (e : Exponent). five (λ k. power 7 α (k * e .0))) (c .before .exponent-of .ensures)
+    ∙ sym (five-cong _ _ (λ k l. column-power 7 p k (in5 .if2 .taken)))
+    ∙ ap (λ (m : ℕ). five (column m p)) (sym (in5 .before .if1 .taken)))
+
+column-requires : tie.Need-column-requires
+column-requires c κs = search needs
+
+column-requires-2 : tie.Need-column-requires-2
+column-requires-2 c κs = search needs
+
+column-requires-3 : tie.Need-column-requires-3
+column-requires-3 c κs = search needs
+
+column-requires-4 : tie.Need-column-requires-4
+column-requires-4 c κs = search needs
+
+column-requires-5 : tie.Need-column-requires-5
+column-requires-5 c κs = search needs
+
+returns-2 : tie.Need-returns-2
+returns-2 c = λ w.
+    (let k3 = c .before in
+    let k2 = k3 .before in
+    let k1 = k2 .before in
+    let a = k1 .before .before .before .args in
+    five-of (column (a .width) (a .p .0)) _ _ _ _ _
+    (k1 .before .column .ensures w) (k1 .column2 .ensures w) (k2 .column3 .ensures w) (k3 .column4 .ensures w) (c .column5 .ensures w))
+
+pub whole-column-spec : {M : Type 1} → statement M
+whole-column-spec =
+    tie.close
+    (tie.spec
+    exponent-of-requires
+    first-powers-requires
+    returns
+    column-requires
+    column-requires-2
+    column-requires-3
+    column-requires-4
+    column-requires-5
+    returns-2)

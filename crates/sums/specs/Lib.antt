@@ -1,0 +1,3 @@
+pub mod Sum
+pub mod Lanes
+pub mod Block
