@@ -5,9 +5,8 @@ mod tools;
 
 use reference::card::{record, RECORD};
 use reference::compare::QUARTERS;
-use reference::sheet::SIZE;
 use reference::window::{report, MOST, PUMPS, REPORT};
-use tools::sheets::{random_symbols, sheet_record, worn_sheet};
+use tools::sheets::{five_slots, random_symbols, sheet, sheet_record, worn_sheet};
 use tools::wear::{codeword, slot_of};
 use tools::{refusal, window, Chance};
 use xrs::{Pump, Refusal, Report};
@@ -40,14 +39,6 @@ fn reported(card: &[u8], first: u8, end: u8) -> Report {
     let found = window(card, first, end);
     compare(card, (first, end), &found);
     found.expect("a window")
-}
-
-/// A sheet with these counts, of a day and a pump.
-fn sheet(counts: &[(usize, u8)], [year, month, day]: [u8; 3], pump: u8) -> Vec<u8> {
-    let mut symbols = vec![0; SIZE];
-    counts.iter().for_each(|&(quarter, count)| symbols[quarter] = count);
-    symbols[96..].copy_from_slice(&[year, month, day, pump]);
-    sheet_record(&symbols)
 }
 
 /// Sheets of few pumps and days, worn ones, records that are none, blank slots and short last pieces.
@@ -197,13 +188,7 @@ fn refused_and_blank_records() {
 /// 1,000,000 records are looked at, blank ones included, and a further one, even a piece of one, is only noticed.
 #[test]
 fn cards_at_the_limit() {
-    let turns = [
-        sheet(&[(0, 1), (95, 127)], [24, 2, 29], 0),
-        vec![255; RECORD],
-        sheet(&[(0, 5), (1, 126)], [24, 2, 28], 127),
-        record(3, &[0; 12], &[]),
-        sheet(&[(0, 4)], [23, 12, 31], 0),
-    ];
+    let turns = five_slots();
     let mut card = turns.concat().repeat(MOST / turns.len());
     assert_eq!(card.len(), MOST * RECORD);
     let exact = xrs::window(&card, 0, 96);

@@ -59,7 +59,7 @@ module _ (k j : ℕ) (card : List ℕ) (m : ℕ) where
   unfolding all-asked
   asked-refused h = ap (λ (x : Bool). ask x Length all-asked) (sym h)
 
-  -- n is what `all_passed` says, v what `verdict_of` makes of it
+  -- n is what `see_part` says, v what `verdict_of` makes of it
   pub asked-verdict : lengthsFit k j (length card) m ≡ true → (s : ℕ) → s ≡ sizeOf k → (n : ℕ) → n ≡ cardPasses k card (length card / s)
       → (v : Verdict) → v ≡ verdictAt n → v ≡ cardAsked k j card m (fourAsked k card)
   unfolding all-asked

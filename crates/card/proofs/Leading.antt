@@ -1,9 +1,8 @@
 -- How many of a conversion's questions are passed: of one slot, of slot after slot, and the verdict. Assumes nothing.
-use mathlib.Core.Path.{_≡_, refl, sym, ap, ap₂, _∙_}
+use mathlib.Core.Path.{_≡_, refl, sym, _∙_}
 use mathlib.Core.Bool.{Bool, true, false, _&&_}
 use mathlib.Core.List.{List, [], _∷_}
-use Prim.Native.Nat.{ℕ, suc, _+_, _≤_, _<_, min}
-use native.Mathlib.Numerals.{add-one}
+use Prim.Native.Nat.{ℕ, suc, min}
 use native.Mathlib.Omega.{arith}
 use Rattle.field.specs.Question.{ask}
 use Rattle.field.specs.declared.Question.the-variants.{Width, ErasureCount, Padding, FourErasures}
@@ -46,24 +45,12 @@ module _ (k : ℕ) (card : List ℕ) where
   unfolding cardPasses every
   passed-start = refl
 
-  one-more : (n : ℕ) → cardPasses k card (suc n) ≡ min (cardPasses k card n) (slotPasses k (slotIn k card n))
+  pub one-more : (n : ℕ) → cardPasses k card (suc n) ≡ min (cardPasses k card n) (slotPasses k (slotIn k card n))
   unfolding cardPasses slotPasses every
   one-more n =
       let e : (List ℕ → Bool) → Bool = λ p. every k p card n in
       let o : (List ℕ → Bool) → Bool = λ p. blankOr k p (slotIn k card n) in
       both-pass (e hasWidth) (e (fewIn k)) (e (paddedIn k)) (e atMostFour) (o hasWidth) (o (fewIn k)) (o (paddedIn k)) (o atMostFour)
-
-  -- a is what `passed` says of slot i
-  module _ (i least a : ℕ) (slot : List ℕ) (el : least ≡ cardPasses k card i) (ea : a ≡ slotPasses k slot)
-      (es : slot ≡ slotIn k card i) where
-    on : min least a ≡ cardPasses k card (i + 1)
-    on = rw (add-one i) (ap₂ min el (ea ∙ ap (slotPasses k) es) ∙ sym (one-more i))
-
-    pub passed-fewer : a < least → a ≡ cardPasses k card (i + 1)
-    passed-fewer h = omega (arith, on)
-
-    pub passed-kept : least ≤ a → least ≡ cardPasses k card (i + 1)
-    passed-kept h = omega (arith, on)
 
 -- ---- the verdict
 

@@ -7,10 +7,14 @@ pub mod Blank
 pub mod Numbering
 pub mod Checking
 pub mod Writing
+pub mod Wording
 pub mod Lines
+pub mod Finding
 pub mod Bounds
+pub mod Continuing
 pub mod Slots
 pub mod Leading
 pub mod Converting
 pub mod Editions
 pub mod ThereAndBack
+pub mod Found

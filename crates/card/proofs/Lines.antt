@@ -8,18 +8,19 @@ use Prim.Native.Nat.{ℕ, zero, suc, _+_, _*_, _≤_, _<_}
 use native.Mathlib.Nat.{add-zero, add-suc}
 use native.Mathlib.Numerals.{add-one}
 use native.Mathlib.Omega.{arith}
-use lib.ListN.{length, getD, take, drop, length-append, length-take, length-drop}
-use lib.Seq.{take-all, take-at, take-append-le, drop-append-le, drop-append-add}
+use lib.ListN.{length, getD, length-append, length-take, length-drop}
+use lib.Seq.{take-all, take-at}
 use Rattle.field.specs.Question.{Outcome}
 use Rattle.card.specs.declared.Totals.{Totals}
 use Rattle.card.specs.declared.Progress.{Progress}
 use Rattle.card.specs.declared.text.Listed.{Listed}
-use Rattle.card.specs.Record.{recordSize, recordOf}
+use Rattle.card.specs.Record.{erasureBytes, recordSize, recordOf}
 use Rattle.card.specs.Card.{recordCount, recordAt, isBlank}
 use Rattle.card.specs.Listing.{lineText, refusalOf, changesOf, recordLine, blankLine, slotLine, counted, slotCounted, linesOf, totalsOf, progressAt}
 use Rattle.card.specs.Listing.{partLines, partProgress}
 use Rattle.card.specs.Listing.{totalLine, moreLine, mostRecords, start, listing}
 use Rattle.card.specs.Batch.{further, Lists}
+use Rattle.card.proofs.Slots.{slot-front, slot-behind}
 use Rattle.card.proofs.Writing.{writes-none, writes-on}
 
 -- the progress with this next number and these totals
@@ -55,7 +56,7 @@ module _ (s : Progress) (batch : List ℕ) where
   unfolding linesOf totalsOf
   lists-none out = record { text = writes-none out 0 (omega arith); progress = ap (λ (n : ℕ). at n (s .totals)) (sym (add-zero (s .next))) }
 
-  progress-more : (i : ℕ)
+  pub progress-more : (i : ℕ)
       → further (progressAt s batch i) (slotCounted (totalsOf (s .totals) batch i) (recordAt batch i)) ≡ progressAt s batch (i + 1)
   unfolding totalsOf
   progress-more i =
@@ -80,14 +81,10 @@ module _ (s : Progress) (batch : List ℕ) where
 
 module _ (a b : List ℕ) where
   pub record-front : (i j : ℕ) → i < j → j * recordSize ≤ length a → recordAt (a ++ b) i ≡ recordAt a i
-  record-front i j l h =
-      ap (take recordSize) (drop-append-le (i * recordSize) a b (omega arith))
-      ∙ take-append-le recordSize (drop (i * recordSize) a) b (simp length-drop (omega arith))
+  record-front = slot-front erasureBytes a b
 
   pub record-behind : (i j : ℕ) → length a ≡ j * recordSize → recordAt (a ++ b) (j + i) ≡ recordAt b i
-  record-behind i j h =
-      let place : (j + i) * recordSize ≡ length a + i * recordSize = omega arith in
-      ap (λ (n : ℕ). take recordSize (drop n (a ++ b))) place ∙ ap (take recordSize) (drop-append-add a b (i * recordSize))
+  record-behind = slot-behind erasureBytes a b
 
   -- the first slots stand in the first part alone
   lines-front : (n j : ℕ) → j * recordSize ≤ length a → linesOf n (a ++ b) j ≡ linesOf n a j

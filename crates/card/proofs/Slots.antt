@@ -5,13 +5,13 @@ use mathlib.Core.Bool.{false}
 use mathlib.Core.List.{List, [], _∷_, _++_, append-assoc, append-nil}
 use Prim.Native.Nat.{ℕ, zero, suc, _+_, _-_, _*_, _/_, _%_, _≤_, _<_, min}
 use native.Mathlib.Decide.{ℕ-discrete}
-use native.Mathlib.Nat.{zero-mul, suc-mul, mul-le-mul-right, div-add-mod', mul-div-cancel}
+use native.Mathlib.Nat.{zero-mul, suc-mul, add-mul, mul-le-mul-right, div-add-mod', mul-div-cancel}
 use native.Mathlib.Numerals.{add-one}
 use native.Mathlib.Omega.{arith}
 use borrow.Author.Tests.{eq-eqb, ne-eqb}
 use lib.Dec.{eqb}
 use lib.ListN.{length, take, drop, replicate, length-append, length-take, length-drop, length-replicate, drop-of-length-le}
-use lib.Seq.{take-all, take-at, drop-at, length-take-le, drop-drop}
+use lib.Seq.{take-all, take-at, drop-at, length-take-le, drop-drop, take-append-le, drop-append-le, drop-append-add}
 use Rattle.card.specs.Record.{headerOf, sizeOf, erasureBytes}
 use Rattle.card.specs.Card.{slotIn}
 use Rattle.card.specs.Conversion.{oldErasureBytes, converted, convertedSlots}
@@ -37,21 +37,46 @@ module _ (m s n : ℕ) where
   pub slots-other : 0 < s → (m / s ≡ n → ⊥) → false ≡ eqb m (n * s)
   slots-other p q = sym (ne-eqb m (n * s) (λ e. q (ap (λ (x : ℕ). x / s) e ∙ mul-div-cancel n p)))
 
--- ---- the slots of a card of n slots
+-- ---- a card with n slots and perhaps more
 
+pub slot-cut : (k : ℕ) (card : List ℕ) (i s : ℕ) → s ≡ sizeOf k → take (i * s + s - i * s) (drop (i * s) card) ≡ slotIn k card i
+slot-cut k card i s e = ap (λ (x : ℕ). take x (drop (i * s) card)) back ∙ ap (λ (x : ℕ). take x (drop (i * x) card)) e
+  where
+    back : i * s + s - i * s ≡ s
+    back = omega arith
+
+module _ (k : ℕ) (card : List ℕ) (n : ℕ) (fits : n * sizeOf k ≤ length card) (i : ℕ) (h : i < n) where
+  pub slot-whole : length (slotIn k card i) ≡ sizeOf k
+  slot-whole = simp (length-take, length-drop) (omega (arith, fits, slot-before (sizeOf k) i n h))
+
+  pub slot-inside : (s : ℕ) → s ≡ sizeOf k → i * s + s ≤ length card
+  slot-inside s e = omega (arith, ap (λ (x : ℕ). i * x + x) e, fits, slot-before (sizeOf k) i n h)
+
+-- of n slots
 module _ (k : ℕ) (card : List ℕ) (n : ℕ) (size : length card ≡ n * sizeOf k) (i : ℕ) (h : i < n) where
   pub slot-size : length (slotIn k card i) ≡ sizeOf k
-  slot-size = simp (length-take, length-drop) (omega (arith, size, slot-before (sizeOf k) i n h))
+  slot-size = slot-whole k card n (omega arith) i h
 
   module _ (s : ℕ) (e : s ≡ sizeOf k) where
     pub slot-room : i * s + s ≤ length card
-    slot-room = omega (arith, ap (λ (x : ℕ). i * x + x) e, size, slot-before (sizeOf k) i n h)
+    slot-room = slot-inside k card n (omega arith) i h s e
 
     pub slot-part : take (i * s + s - i * s) (drop (i * s) card) ≡ slotIn k card i
-    slot-part = ap (λ (x : ℕ). take x (drop (i * s) card)) back ∙ ap (λ (x : ℕ). take x (drop (i * x) card)) e
-      where
-        back : i * s + s - i * s ≡ s
-        back = omega arith
+    slot-part = slot-cut k card i s e
+
+-- ---- two parts of a card, the first with j whole slots
+
+module _ (k : ℕ) (a b : List ℕ) where
+  pub slot-front : (i j : ℕ) → i < j → j * sizeOf k ≤ length a → slotIn k (a ++ b) i ≡ slotIn k a i
+  slot-front i j l h =
+      let inside = slot-before (sizeOf k) i j l in
+      ap (take (sizeOf k)) (drop-append-le (i * sizeOf k) a b (omega (arith, inside)))
+      ∙ take-append-le (sizeOf k) (drop (i * sizeOf k) a) b (simp length-drop (omega (arith, inside)))
+
+  pub slot-behind : (i j : ℕ) → length a ≡ j * sizeOf k → slotIn k (a ++ b) (j + i) ≡ slotIn k b i
+  slot-behind i j h =
+      let place : (j + i) * sizeOf k ≡ length a + i * sizeOf k = add-mul j i (sizeOf k) ∙ ap (λ (x : ℕ). x + i * sizeOf k) (sym h) in
+      ap (λ (n : ℕ). take (sizeOf k) (drop n (a ++ b))) place ∙ ap (take (sizeOf k)) (drop-append-add a b (i * sizeOf k))
 
 -- ---- a slot in the other edition
 

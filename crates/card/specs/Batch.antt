@@ -2,7 +2,7 @@
 use mathlib.Core.Path.{_≡_}
 use mathlib.Core.Bool.{Bool, true}
 use mathlib.Core.List.{List}
-use Prim.Native.Nat.{ℕ, _+_, _*_, _≤_}
+use Prim.Native.Nat.{ℕ, _+_, _*_, _^_, _≤_}
 use lib.ListN.{length}
 use Rattle.card.specs.declared.Totals.{Totals}
 use Rattle.card.specs.declared.Progress.{Progress}
@@ -30,6 +30,10 @@ batchRecords = 400
 -- and at most so many bytes
 abbrev pub batchSize : ℕ
 batchSize = batchRecords * recordSize
+
+-- and no card has more batches: a program's loop over them must end
+abbrev pub mostBatches : ℕ
+mostBatches = 2 ^ 46
 
 -- no number of the progress is above b
 pub record Within (b : ℕ) (s : Progress) : Type 0 where

@@ -8,49 +8,15 @@ ghost use lib.ListN.{length, take};
 ghost use Rattle.card.specs.Record.{headerOf, sizeOf, erasureBytes};
 ghost use Rattle.card.specs.Conversion.{oldErasureBytes, converted, convertedSlots, cardAsked, fourAsked, Converts};
 ghost use Rattle.card.specs.Conversion.{toNewAsked, toOldAsked};
-ghost use Rattle.card.specs.Leading.{slotPasses, cardPasses};
-use crate::cards::blank_in;
+use crate::parts::nothing_found;
+use crate::parts::see_part;
 use crate::records::ERASURE_BYTES;
-use crate::records::passed;
+use crate::records::OLD_ERASURE_BYTES;
 use crate::records::size_of;
 use crate::records::verdict_of;
 use code::slice::copy;
 use field::Question;
 use field::Verdict;
-
-// The old edition.
-const OLD_ERASURE_BYTES: usize = 4;
-
-// How many of the questions 1, 3, 4 and 15 a slot passes before the first that it does not: a blank one is asked nothing.
-fn slot_passed(slot: &[u8], k: usize) -> u8
-    requires { ⌜ (k ≤ erasureBytes) × (length (now slot) ≡ sizeOf k) ⌝ }
-    ensures { λ r. ⌜ r ≡ slotPasses k (now (slot .entry)) ⌝ }
-{
-    if blank_in(slot, k) {
-        return 4;
-    }
-    passed(slot, k, OLD_ERASURE_BYTES)
-}
-
-// How many of them all n slots pass before the first that some slot does not: each slot is looked at once.
-fn all_passed(card: &[u8], k: usize, n: usize) -> u8
-    requires { ⌜ (k ≤ erasureBytes) × (length (now card) ≡ n * sizeOf k) ⌝ }
-    ensures { λ r. ⌜ r ≡ cardPasses k (now (card .entry)) n ⌝ }
-{
-    let size = size_of(k);
-    let mut least = 4;
-    let mut i = 0;
-    while i < n {
-        let at = i * size;
-        let end = at + size;
-        let a = slot_passed(&card[at..end], k);
-        if a < least {
-            least = a;
-        }
-        i += 1;
-    }
-    least
-}
 
 // Do m bytes make n slots?
 fn are_slots(m: usize, j: usize, n: usize) -> bool
@@ -72,7 +38,8 @@ fn ask_card(card: &[u8], k: usize, m: usize, j: usize) -> Verdict
     }
     let n = card.len() / size;
     if are_slots(m, j, n) {
-        verdict_of(all_passed(card, k, n))
+        let found = see_part(nothing_found(), card, k);
+        verdict_of(found.passed)
     } else {
         Verdict::Refused(Question::Length)
     }

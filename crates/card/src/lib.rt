@@ -1,8 +1,11 @@
 // Records and cards: restoring a record, checking a card, the text of a listing, and conversion from and to the old edition.
 pub mod cards;
+pub mod checked;
 pub mod conversion;
+pub mod parts;
 pub mod records;
 pub mod text;
+pub mod words;
 
 use code::Repair;
 

@@ -19,7 +19,10 @@ use field::Question;
 use field::Verdict;
 
 // The layout of a record. Functions that conversions use too take the number k of erasure bytes of the edition.
-pub(crate) const ERASURE_BYTES: usize = 5;
+pub const ERASURE_BYTES: usize = 5;
+
+// Those of the old edition.
+pub const OLD_ERASURE_BYTES: usize = 4;
 
 // The symbols start here.
 pub const HEADER: usize = 2 + ERASURE_BYTES;
@@ -27,7 +30,7 @@ pub const HEADER: usize = 2 + ERASURE_BYTES;
 pub const RECORD: usize = HEADER + 132;
 
 // The number of bytes of a record.
-pub(crate) fn size_of(k: usize) -> usize
+pub fn size_of(k: usize) -> usize
     requires { ⌜ k ≤ erasureBytes ⌝ }
     ensures { λ r. ⌜ r ≡ sizeOf k ⌝ }
 {

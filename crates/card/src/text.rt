@@ -26,7 +26,7 @@ pub struct Listed {
 }
 
 // Writes one byte. Each function that puts something answers the place behind it.
-fn put_byte(out: &mut [u8], at: usize, b: u8) -> usize
+pub fn put_byte(out: &mut [u8], at: usize, b: u8) -> usize
     requires { ⌜ at < length (now out) ⌝ }
     ensures { λ r. ⌜ Writes (now (out .entry)) at (b ∷ []) (now (out .exit)) r ⌝ }
 {
@@ -35,7 +35,7 @@ fn put_byte(out: &mut [u8], at: usize, b: u8) -> usize
 }
 
 // Writes the bytes of a text.
-fn put_bytes(out: &mut [u8], at: usize, text: &[u8]) -> usize
+pub fn put_bytes(out: &mut [u8], at: usize, text: &[u8]) -> usize
     requires { ⌜ at + length (now text) ≤ length (now out) ⌝ }
     ensures { λ r. ⌜ Writes (now (out .entry)) at (now (text .entry)) (now (out .exit)) r ⌝ }
 {
@@ -49,7 +49,7 @@ fn put_bytes(out: &mut [u8], at: usize, text: &[u8]) -> usize
 }
 
 // Writes n's decimal digits.
-fn put_decimal(out: &mut [u8], at: usize, n: u64) -> usize
+pub fn put_decimal(out: &mut [u8], at: usize, n: u64) -> usize
     requires { ⌜ at + length (decimal n) ≤ length (now out) ⌝ }
     ensures { λ r. ⌜ Writes (now (out .entry)) at (decimal n) (now (out .exit)) r ⌝ }
 {
@@ -62,7 +62,7 @@ fn put_decimal(out: &mut [u8], at: usize, n: u64) -> usize
 }
 
 // Writes n's decimal digits and the byte that ends the field.
-fn put_field(out: &mut [u8], at: usize, n: u64, end: u8) -> usize
+pub fn put_field(out: &mut [u8], at: usize, n: u64, end: u8) -> usize
     requires { ⌜ at + longestField ≤ length (now out) ⌝ }
     ensures { λ r. ⌜ Writes (now (out .entry)) at (decimal n ++ end ∷ []) (now (out .exit)) r ⌝ }
     ensures { λ r. ⌜ r ≤ at + longestField ⌝ }
@@ -131,7 +131,7 @@ fn changes_of(answer: Repair) -> u8
 }
 
 // One record further: the next number, and the record counted.
-fn advance(s: Progress, answer: Repair) -> Progress
+pub fn advance(s: Progress, answer: Repair) -> Progress
     requires { ⌜ Within (2 ^ 63) s ⌝ }
     ensures { λ r. ⌜ r ≡ further s (counted (s .totals) (repair answer)) ⌝ }
 {

@@ -1,8 +1,6 @@
 // Lists the records of the card on standard input: a line for each, up to 1,000,000, then the totals. The text is the card crate's; here
 // it is read, called and written.
-ghost use mathlib.Core.Path.{_≡_};
-ghost use Prim.Native.Nat.{_*_, _^_, _≤_};
-ghost use lib.ListN.{length};
+ghost use Prim.Native.Nat.{_*_, _^_};
 ghost use Rattle.card.specs.Record.{recordSize};
 ghost use Rattle.card.specs.Listing.{mostRecords, start};
 ghost use Rattle.card.specs.Batch.{batchSize, Within, Continues};
@@ -11,15 +9,10 @@ use card::Totals;
 use card::text::list_records;
 use card::text::put_more;
 use card::text::put_total;
-use libc::STDERR_FILENO;
 use libc::STDIN_FILENO;
 use libc::STDOUT_FILENO;
-
-// How many bytes were read, and whether a read failed.
-pub struct Input {
-    pub count: usize,
-    pub failed: bool,
-}
+use stream::read_batch;
+use stream::say;
 
 // How far the listing has come, whether the card may go on, and whether all of the text was written.
 pub struct Turn {
@@ -28,48 +21,14 @@ pub struct Turn {
     pub written: bool,
 }
 
-// Reads until the buffer is full, the input ends or a read fails.
-fn read_batch(buf: &mut [u8]) -> Input
-    ensures { λ r. ⌜ (r .count ≤ length (now (buf .exit))) × (length (now (buf .exit)) ≡ length (now (buf .entry))) ⌝ }
-{
-    let mut count = 0;
-    while count < buf.len() {
-        let got = libc::read(STDIN_FILENO, &mut buf[count..]);
-        if got < 0 {
-            return Input {
-                count,
-                failed: true,
-            };
-        }
-        let k = io::count(got, &buf[count..]);
-        if k == 0 {
-            return Input {
-                count,
-                failed: false,
-            };
-        }
-        count += k;
-    }
-    Input {
-        count,
-        failed: false,
-    }
-}
-
 // Says that a read failed.
 fn report_read() {
-    io::write_all(
-        STDERR_FILENO,
-        b"cardlist: a read failed; the card is taken to end there\n",
-    );
+    say(b"cardlist: a read failed; the card is taken to end there\n");
 }
 
 // Says that a write failed.
 fn report_write() {
-    io::write_all(
-        STDERR_FILENO,
-        b"cardlist: a write failed; the listing is cut short\n",
-    );
+    say(b"cardlist: a write failed; the listing is cut short\n");
 }
 
 // Lists a batch of at most 400 records, where the listing has come to s before it.
@@ -79,7 +38,7 @@ fn list_batch(s: Progress) -> Turn
 {
     let mut batch = [0u8; 55600];
     let mut out = [0u8; 33600];
-    let input = read_batch(&mut batch);
+    let input = read_batch(STDIN_FILENO, &mut batch);
     let n = input.count;
     let failed = input.failed;
     if failed {
@@ -134,7 +93,7 @@ fn list_batches() -> Turn
 // Can one more byte be read?
 fn is_more() -> bool {
     let mut one = [0u8; 1];
-    let input = read_batch(&mut one);
+    let input = read_batch(STDIN_FILENO, &mut one);
     let n = input.count;
     let failed = input.failed;
     if failed {

@@ -2,7 +2,7 @@
 use mathlib.Core.Path.{_≡_, refl, sym, ap, ap₂, _∙_, subst}
 use mathlib.Core.Bool.{Bool, true, false, cond}
 use mathlib.Core.List.{List, []}
-use Prim.Native.Nat.{ℕ, _+_, _-_, _/_, _≤_}
+use Prim.Native.Nat.{ℕ, _+_, _-_, _≤_}
 use native.Mathlib.Omega.{arith}
 use lib.ListN.{length, take, drop, replicate, length-append, length-replicate, length-drop}
 use lib.Seq.{take-at, take-all, drop-drop}
@@ -18,7 +18,7 @@ use Rattle.code.proofs.Lengths.{length-is, places-most}
 use Rattle.code.proofs.Demands.{accepts}
 use Rattle.card.specs.Record.{headerSize, recordSize, widthOf, wordOf, erasuresOf, recordAsked, reachOf, clearRecord, onAccept, recordOf, copyWritten}
 use Rattle.card.specs.Record.{recordWithinOf, recordWithinWritten, recordWritten}
-use Rattle.card.specs.Card.{recordCount, recordAt}
+use Rattle.card.specs.Card.{recordAt}
 use Rattle.card.proofs.Layouts.{asked}
 use Rattle.card.proofs.Recording.{copy-whole}
 use Rattle.sheet.specs.Sheet.{sheetWidth, sheetSize, symbolsOf}

@@ -7,7 +7,7 @@ use native.Mathlib.Omega.{arith}
 use lib.Dec.{ltb}
 use lib.ListN.{length, take, drop}
 use lib.Seq.{getD-take, getD-drop}
-use Rattle.field.specs.Question.{Outcome, accepted, refused, ask, after}
+use Rattle.field.specs.Question.{Outcome, accepted, ask, after}
 use Rattle.field.specs.declared.Question.the-variants.{RecordNumber, SameDay}
 use Rattle.field.specs.declared.Verdict.{Verdict}
 use Rattle.field.specs.declared.Verdict.the-variants.{Passed}
@@ -21,11 +21,12 @@ use Rattle.report.specs.Day.{hasRecord, slotOf, Day, sheet, noSheet, day
 use Rattle.report.specs.Compare.{signsOf, sheetSigns, sameDay, chosenOf, comparedOf, shownSigns, shownTotal}
 use Rattle.report.specs.Compare.{symbolsAt, numbersAsked, compareOf, compareSigns, compareTotal, partOf}
 use Rattle.report.specs.Demands.{Agreed, CompareAccepts, SignsStand, TotalsCount, TotalsMake, StandsAt, PartStands, RefusedNothing}
-use Rattle.report.specs.Demands.{AllCounted, MeanStands, HighestStands, Ordered, PartsAdded}
+use Rattle.report.specs.Demands.{AllCounted, MeanStands, HighestStands, Ordered, PartsAdded, QuartersRead}
 use Rattle.report.proofs.Days.{slot-some, is-sheet}
 use Rattle.report.proofs.Comparing.{sheet-signs-long, sheet-signs-at}
 use Rattle.report.proofs.Order.{earlier-irreflexive, earlier-transitive, earlier-total}
 use Rattle.report.proofs.Reports.{in-parts}
+use Rattle.report.proofs.Quarters.{stands-for, quarter-texts}
 use Rattle.report.proofs.Starts.{all-looked, row-mean, row-none, row-highest}
 
 -- ---- two day sheets side by side
@@ -175,3 +176,8 @@ ordered = record { irreflexive = earlier-irreflexive; transitive = earlier-trans
 
 pub parts-added : PartsAdded
 parts-added w report a b j whole = in-parts w a b j whole report
+
+-- ---- quarter hours
+
+pub quarters-read : QuartersRead
+quarters-read text n = (stands-for text n, quarter-texts text n)

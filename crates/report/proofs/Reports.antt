@@ -3,7 +3,7 @@ use mathlib.Core.Path.{_≡_, refl, sym, ap, ap₂, _∙_, subst}
 use mathlib.Core.Logic.{_≢_}
 use mathlib.Core.Bool.{Bool, true, false, cond}
 use mathlib.Core.List.{List, [], _∷_, _++_, append-nil}
-use Prim.Native.Nat.{ℕ, zero, suc, _+_, _-_, _*_, _≤_, _<_}
+use Prim.Native.Nat.{ℕ, zero, suc, _+_, _-_, _*_, _^_, _≤_, _<_}
 use native.Mathlib.Nat.{add-zero, add-suc, div-le-self, mod-le}
 use native.Mathlib.Numerals.{add-one}
 use native.Mathlib.Omega.{arith}
@@ -27,7 +27,7 @@ use Rattle.sheet.specs.Sheet.{yearAt, monthAt, dayAt, pumpAt, sheetSize}
 use Rattle.sheet.specs.Demands.{SheetSymbols}
 use Rattle.report.specs.Day.{Day, sheet, noSheet, dayOf}
 use Rattle.report.specs.Window.{isWindow, countsIn, highestOf, countsOf, dateOf, leads, rowWith}
-use Rattle.report.specs.Window.{pumps, rowSize, refusedAt, blankAt, reportSize, rowFrom, rowNumbers, rowOf, withRow, oneMore, noReport}
+use Rattle.report.specs.Window.{pumps, rowSize, refusedAt, blankAt, moreAt, reportSize, rowFrom, rowNumbers, rowOf, withRow, oneMore, noReport}
 use Rattle.report.specs.Window.{dayAdded, slotAdded, slotsAdded, partAdded, finished, goesOn, reportOf, startsAsked, Starts, Within, Countable, Most, dayMost}
 use Rattle.report.specs.declared.window.Window.{Window}
 use Rattle.report.specs.declared.window.Peak.{Peak}
@@ -187,6 +187,9 @@ module _ (b : ℕ) (R : List ℕ) (C : Countable b R) (p : ℕ) (h : p < pumps) 
   pub row-most : Most b (rowOf R p)
   row-most = record { sheets = number-most 0; sum = number-most 1; full = number-most 2 }
 
+  pub year-most : rowOf R p .peak .date .year ≤ b
+  year-most = number-most 4
+
   -- with a further sheet
   module _ (w : Window) (wh : isWindow w ≡ true) (ss : List ℕ) (S : SheetSymbols ss) where
     symbol-small : (i : ℕ) → i < sheetSize → at ss i ≤ b + dayMost
@@ -323,6 +326,25 @@ module _ (w : Window) (a b : List ℕ) where
       let first : recordCount (length a) ≡ j = omega arith in
       let both : recordCount (length (a ++ b)) ≡ j + recordCount (length b) = simp length-append (omega arith) in
       rw (both, first) (slots-two j whole R (recordCount (length b)))
+
+-- the numbers of the report of a card are small
+pub report-countable : (w : Window) → isWindow w ≡ true → (card : List ℕ) → Countable (2 ^ 63) (reportOf w card)
+unfolding reportOf
+report-countable w wh card =
+    let part = listedPart card in
+    let k = recordCount (length part) in
+    let most : length part ≤ mostRecords * recordSize = simp length-take (omega arith) in
+    let R = partAdded w noReport part in
+    let C = countable-more (0 + k * dayMost) (2 ^ 63) (omega arith) R
+    (slots-countable w wh 0 noReport (zeros-countable 0 reportSize refl) part k) in
+    record {
+      size = length-set R moreAt (cond (goesOn card) 1 0) ∙ C .size;
+      within = within-set (2 ^ 63) R moreAt (cond (goesOn card) 1 0) (C .within) (one (goesOn card));
+    }
+  where
+    one : (b : Bool) → cond b 1 0 ≤ 2 ^ 63
+    one true = omega arith
+    one false = omega arith
 
 -- ---- the report of a card; z is the report of nothing, a what the slots have made of it
 

@@ -1,7 +1,7 @@
 -- The demands on day sheets of cards, as statements about the definitions. The calls' contracts say that they answer by these definitions;
 -- proofs/Demands.antt proves each statement under the same name in small letters. Assumes nothing.
 use mathlib.Core.Path.{_≡_}
-use mathlib.Core.Logic.{_↔_}
+use mathlib.Core.Logic.{_↔_, _⊎_}
 use mathlib.Core.Bool.{true, false}
 use mathlib.Core.List.{List, [], _++_}
 use Prim.Native.Nat.{ℕ, zero, suc, _+_, _-_, _*_, _≤_, _<_, min}
@@ -11,11 +11,13 @@ use Rattle.code.specs.Word.{at}
 use Rattle.code.specs.Demands.{occurs}
 use Rattle.card.specs.Record.{recordSize}
 use Rattle.card.specs.Card.{recordCount, recordAt}
-use Rattle.card.specs.Listing.{mostRecords}
+use Rattle.card.specs.Listing.{decimal, mostRecords}
 use Rattle.sheet.specs.Sheet.{quarters, pumpAt}
 use Rattle.report.specs.Day.{hasRecord, slotOf, sheet, dayOf}
 use Rattle.report.specs.Compare.{signOf, sameDay, chosenOf, symbolsAt, compareOf, compareSigns, compareTotal, comparePart}
 use Rattle.report.specs.Window.{isWindow, dateOf, earlier, pumps, rowSize, refusedAt, blankAt, rowFrom, rowOf, partAdded, reportOf}
+use Rattle.report.specs.Quarter.{clockText, quarterOf}
+use Rattle.report.specs.declared.quarter.Time.the-variants.{At}
 use Rattle.report.specs.declared.window.Window.{Window}
 use Rattle.report.specs.declared.window.Date.{Date}
 use Rattle.report.specs.declared.window.Peak.{Peak}
@@ -141,3 +143,9 @@ pub record Ordered : Type 0 where
 abbrev pub PartsAdded : Type 0
 PartsAdded =
     (w : Window) (report a b : List ℕ) (j : ℕ) → length a ≡ j * recordSize → partAdded w report (a ++ b) ≡ partAdded w (partAdded w report a) b
+
+-- ---- quarter hours as people write them
+
+-- a quarter hour of the day has two texts, its number and its time, and nothing else stands for it
+abbrev pub QuartersRead : Type 0
+QuartersRead = (text : List ℕ) (n : ℕ) → (quarterOf text ≡ At n) ↔ ((n ≤ quarters) × ((text ≡ decimal n) ⊎ (text ≡ clockText n)))

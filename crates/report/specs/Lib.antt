@@ -2,4 +2,6 @@
 pub mod Day
 pub mod Compare
 pub mod Window
+pub mod Table
+pub mod Quarter
 pub mod Demands

@@ -28,14 +28,14 @@ use sheet::QUARTERS;
 use sheet::YEAR;
 
 // The numbers of a pump.
-const ROW: usize = 9;
+pub(crate) const ROW: usize = 9;
 
 // Behind the rows of 128 pumps.
-const REFUSED: usize = 1152;
+pub(crate) const REFUSED: usize = 1152;
 
-const BLANK: usize = 1153;
+pub(crate) const BLANK: usize = 1153;
 
-const MORE: usize = 1154;
+pub(crate) const MORE: usize = 1154;
 
 pub const REPORT: usize = 1155;
 
@@ -49,27 +49,27 @@ pub struct Window {
 }
 
 // A date: the year less 2000, the month, the day.
-struct Date {
-    year: u64,
-    month: u64,
-    day: u64,
+pub(crate) struct Date {
+    pub year: u64,
+    pub month: u64,
+    pub day: u64,
 }
 
 // The highest count of one quarter hour, and its earliest date.
-struct Peak {
-    count: u64,
-    date: Date,
+pub(crate) struct Peak {
+    pub count: u64,
+    pub date: Date,
 }
 
 // What is reported of a pump: sheets read; in the window the sum of starts, the number of counts of 127, the highest count; the sum's mean per
 // sheet as quotient and remainder.
-struct Row {
-    sheets: u64,
-    sum: u64,
-    full: u64,
-    peak: Peak,
-    quotient: u64,
-    remainder: u64,
+pub(crate) struct Row {
+    pub sheets: u64,
+    pub sum: u64,
+    pub full: u64,
+    pub peak: Peak,
+    pub quotient: u64,
+    pub remainder: u64,
 }
 
 // Of some counts: their sum, how many are 127, the highest.
@@ -212,7 +212,7 @@ fn with_sheet(row: Row, symbols: &[u8], w: Window) -> Row
 }
 
 // The row that stands in nine numbers.
-fn row_of(xs: &[u64]) -> Row
+pub(crate) fn row_of(xs: &[u64]) -> Row
     requires { ⌜ length (now xs) ≡ rowSize ⌝ }
     ensures { λ r. ⌜ r ≡ rowFrom (now (xs .entry)) ⌝ }
 {

@@ -85,43 +85,51 @@ unfolding restoredFirst
 from-none i card = take-append-drop (i * recordSize) card
 
 -- i records behind the first f, and then m more
-module _ (f i m : ℕ) (card : List ℕ) (h : (f + i) * recordSize ≤ length card) where
-  pub from-on : restoredFrom (f + i) m (restoredFrom f i card) ≡ restoredFrom f (i + m) card
-  from-on =
+module _ (f i : ℕ) (card : List ℕ) (h : (f + i) * recordSize ≤ length card) where
+  before : List ℕ
+  before = take (f * recordSize) card
+
+  bytes : List ℕ
+  bytes = drop (f * recordSize) card
+
+  done : List ℕ
+  done = restoredFirst i (take (i * recordSize) bytes)
+
+  rest : List ℕ
+  rest = drop (i * recordSize) bytes
+
+  head : List ℕ
+  head = before ++ done
+
+  whole : restoredFrom f i card ≡ head ++ rest
+  unfolding before bytes done rest head
+  whole = ap (λ (l : List ℕ). before ++ l) (first-alone i bytes) ∙ sym (append-assoc before done rest)
+
+  size : length head ≡ (f + i) * recordSize
+  unfolding before bytes done rest head
+  size =
+      length-append before done
+      ∙ omega (
+        arith,
+        first-size i (take (i * recordSize) bytes),
+        length-take (f * recordSize) card,
+        length-take (i * recordSize) bytes,
+        length-drop (f * recordSize) card,
+      )
+
+  -- what comes behind them is as it was
+  pub from-rest : drop ((f + i) * recordSize) (restoredFrom f i card) ≡ drop (i * recordSize) (drop (f * recordSize) card)
+  unfolding bytes rest
+  from-rest = ap (drop ((f + i) * recordSize)) whole ∙ drop-at head rest ((f + i) * recordSize) size
+
+  pub from-on : (m : ℕ) → restoredFrom (f + i) m (restoredFrom f i card) ≡ restoredFrom f (i + m) card
+  unfolding before bytes done rest head
+  from-on m =
       ap (restoredFrom (f + i) m) whole
       ∙ ap₂ (λ (a b : List ℕ). a ++ restoredFirst m b)
       (take-at head rest ((f + i) * recordSize) size) (drop-at head rest ((f + i) * recordSize) size)
       ∙ append-assoc before done (restoredFirst m rest)
       ∙ ap (λ (l : List ℕ). before ++ l) (sym (first-split i m bytes))
-    where
-      before : List ℕ
-      before = take (f * recordSize) card
-
-      bytes : List ℕ
-      bytes = drop (f * recordSize) card
-
-      done : List ℕ
-      done = restoredFirst i (take (i * recordSize) bytes)
-
-      rest : List ℕ
-      rest = drop (i * recordSize) bytes
-
-      head : List ℕ
-      head = before ++ done
-
-      whole : restoredFrom f i card ≡ head ++ rest
-      whole = ap (λ (l : List ℕ). before ++ l) (first-alone i bytes) ∙ sym (append-assoc before done rest)
-
-      size : length head ≡ (f + i) * recordSize
-      size =
-          length-append before done
-          ∙ omega (
-            arith,
-            first-size i (take (i * recordSize) bytes),
-            length-take (f * recordSize) card,
-            length-take (i * recordSize) bytes,
-            length-drop (f * recordSize) card,
-          )
 
 -- the loop over them: `card` is the old one with i of the `count` records restored
 module _ (f i count : ℕ) (old card : List ℕ) (e : card ≡ restoredFrom f i old) where
@@ -133,7 +141,7 @@ module _ (f i count : ℕ) (old card : List ℕ) (e : card ≡ restoredFrom f i 
     loop-within l = omega (arith, loop-size)
 
     pub loop-on : i < count → (new : List ℕ) → new ≡ restoredFrom (f + i) 1 card → new ≡ restoredFrom f (i + 1) old
-    loop-on l new en = en ∙ ap (restoredFrom (f + i) 1) e ∙ from-on f i 1 old (omega arith)
+    loop-on l new en = en ∙ ap (restoredFrom (f + i) 1) e ∙ from-on f i old (omega arith) 1
 
     pub loop-end : i ≤ count → count ≤ i → card ≡ restoredFrom f count old
     loop-end a b = e ∙ ap (λ (n : ℕ). restoredFrom f n old) all
@@ -145,7 +153,7 @@ module _ (f i count : ℕ) (old card : List ℕ) (e : card ≡ restoredFrom f i 
 pub first-on : (i m : ℕ) (card : List ℕ) → i * recordSize ≤ length card
     → restoredFrom i m (restoredFirst i card) ≡ restoredFirst (i + m) card
 first-on i m card h =
-    ap (λ (n : ℕ). restoredFrom n m (restoredFirst i card)) (sym (zero-add i)) ∙ from-on 0 i m card (rw zero-add h)
+    ap (λ (n : ℕ). restoredFrom n m (restoredFirst i card)) (sym (zero-add i)) ∙ from-on 0 i card (rw zero-add h) m
 
 -- ---- one record, lent as a part of the card and put back
 
@@ -182,26 +190,41 @@ empty : (l : List ℕ) → length l ≡ 0 → l ≡ []
 empty [] e = refl
 empty (x ∷ l) e = absurd (omega arith)
 
-first-record : (m : ℕ) (bytes : List ℕ) → take recordSize (restoredFirst (suc m) bytes) ≡ recordWritten (take recordSize bytes)
-unfolding restoredFirst
-first-record m bytes = go (decLt (length bytes) recordSize)
-  where
-    one : List ℕ
-    one = recordWritten (take recordSize bytes)
+module _ (m : ℕ) (bytes : List ℕ) where
+  one : List ℕ
+  one = recordWritten (take recordSize bytes)
 
-    rest : List ℕ
-    rest = restoredFirst m (drop recordSize bytes)
+  others : List ℕ
+  others = restoredFirst m (drop recordSize bytes)
 
-    size : length one ≡ min recordSize (length bytes)
-    size = written-size (take recordSize bytes) ∙ length-take recordSize bytes
+  one-size : length one ≡ min recordSize (length bytes)
+  unfolding one
+  one-size = written-size (take recordSize bytes) ∙ length-take recordSize bytes
 
-    go : Dec (length bytes < recordSize) → take recordSize (one ++ rest) ≡ one
-    go (no n) = take-at one rest recordSize (size ∙ omega arith)
-    go (yes h) =
-        let none : rest ≡ [] = empty rest (first-size m (drop recordSize bytes) ∙ length-drop recordSize bytes ∙ omega arith) in
-        ap (λ (l : List ℕ). take recordSize (one ++ l)) none
-        ∙ ap (take recordSize) (append-nil one)
-        ∙ take-all recordSize one (omega (arith, size))
+  no-others : length bytes < recordSize → others ≡ []
+  unfolding others
+  no-others h = empty others (first-size m (drop recordSize bytes) ∙ length-drop recordSize bytes ∙ omega arith)
+
+  pub first-record : take recordSize (restoredFirst (suc m) bytes) ≡ recordWritten (take recordSize bytes)
+  unfolding restoredFirst one others
+  first-record = go (decLt (length bytes) recordSize)
+    where
+      go : Dec (length bytes < recordSize) → take recordSize (one ++ others) ≡ one
+      go (no n) = take-at one others recordSize (one-size ∙ omega arith)
+      go (yes h) =
+          ap (λ (l : List ℕ). take recordSize (one ++ l)) (no-others h)
+          ∙ ap (take recordSize) (append-nil one)
+          ∙ take-all recordSize one (omega (arith, one-size))
+
+  pub first-rest : drop recordSize (restoredFirst (suc m) bytes) ≡ restoredFirst m (drop recordSize bytes)
+  unfolding restoredFirst one others
+  first-rest = go (decLt (length bytes) recordSize)
+    where
+      go : Dec (length bytes < recordSize) → drop recordSize (one ++ others) ≡ others
+      go (no n) = drop-at one others recordSize (one-size ∙ omega arith)
+      go (yes h) =
+          let none = no-others h in
+          drop-of-length-le (one ++ others) {i = recordSize} (omega (arith, length-append one others, one-size, ap length none)) ∙ sym none
 
 module _ (k i : ℕ) (card : List ℕ) (h : i * recordSize < length card) where
   front-size : (j : ℕ) → j ≤ i → length (restoredFirst j (take (j * recordSize) card)) ≡ j * recordSize

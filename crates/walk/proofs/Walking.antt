@@ -49,7 +49,7 @@ step-passed w n e l h = asked-passed w n e (recordCount n) refl true (sym (numbe
 
 -- what they tell where they were answered yes
 module _ (w : Walk) (n : ℕ) (v : Verdict) (e : v ≡ stepAsked w n) (p : v ≡ Passed) where
-  going-length : n ≡ w .length
+  pub going-length : n ≡ w .length
   unfolding stepAsked
   going-length = eqb-true n (w .length) (ask-yes (eqb n (w .length)) Length _ (sym e ∙ p))
 
@@ -70,17 +70,17 @@ module _ (w : Walk) (n : ℕ) (v : Verdict) (e : v ≡ stepAsked w n) (p : v ≡
       pub going-within : w .next - 1 + count ≤ recordCount n
       going-within = omega (arith, going-high)
 
-      going-count : count ≡ stepCount w n
+      pub going-count : count ≡ stepCount w n
       going-count = omega (arith, going-low)
 
 -- ---- one step, by the verdict of its questions
 
 module _ (w : Walk) (card : List ℕ) (v : Verdict) (p : v ≡ stepAsked w (length card)) where
-  state-by : stateAfter v w (walkAt (w .length) (w .next + stepCount w (length card))) ≡ stepState w card
+  pub state-by : stateAfter v w (walkAt (w .length) (w .next + stepCount w (length card))) ≡ stepState w card
   unfolding stepState
   state-by = ap (λ (u : Verdict). stateAfter u w (walkAt (w .length) (w .next + stepCount w (length card)))) p
 
-  card-by : written v card (restoredFrom (w .next - 1) (stepCount w (length card)) card) ≡ stepWritten w card
+  pub card-by : written v card (restoredFrom (w .next - 1) (stepCount w (length card)) card) ≡ stepWritten w card
   unfolding stepWritten
   card-by = ap (λ (u : Verdict). written u card (restoredFrom (w .next - 1) (stepCount w (length card)) card)) p
 

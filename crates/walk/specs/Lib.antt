@@ -2,4 +2,5 @@
 pub mod Restored
 pub mod Walk
 pub mod Look
+pub mod Counting
 pub mod Demands

@@ -1,4 +1,6 @@
 // Restoring a card as a walk of steps, and a look at a record in between.
+pub mod counting;
+
 ghost use mathlib.Core.Path.{_≡_};
 ghost use Prim.Native.Nat.{_+_, _≤_, _<_, min};
 ghost use lib.ListN.{length};
@@ -68,14 +70,14 @@ fn restore_from(card: &mut [u8], first: usize, count: usize)
 }
 
 // The number of records of a step where so many are left: fewer than 16 only at the end.
-fn step_count(left: usize) -> usize
+pub(crate) fn step_count(left: usize) -> usize
     ensures { λ r. ⌜ r ≡ min stepRecords left ⌝ }
 {
     if left < STEP { left } else { STEP }
 }
 
 // Has the card, of n bytes, the length that the walk began with, and is the next record 1 to N + 1?
-fn ask_step(walk: Walk, n: usize) -> Verdict
+pub(crate) fn ask_step(walk: Walk, n: usize) -> Verdict
     ensures { λ r. ⌜ r ≡ stepAsked walk n ⌝ }
 {
     if n != walk.length {

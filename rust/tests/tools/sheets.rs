@@ -2,7 +2,7 @@
 
 use super::wear::{spoiled, with_any_bytes};
 use super::Chance;
-use crate::reference::card::record;
+use crate::reference::card::{record, RECORD};
 use crate::reference::sheet::{write, SIZE};
 
 /// Random symbols with a date that exists.
@@ -18,7 +18,26 @@ pub fn sheet_record(symbols: &[u8]) -> Vec<u8> {
     record(7, &write(7, symbols, 132).expect("symbols of a sheet"), &[])
 }
 
-/// The same with so many wrong symbols, and so many marks at which any bytes stand.
+/// The record of a sheet with these counts, of a day and a pump.
+pub fn sheet(counts: &[(usize, u8)], [year, month, day]: [u8; 3], pump: u8) -> Vec<u8> {
+    let mut symbols = vec![0; SIZE];
+    counts.iter().for_each(|&(quarter, count)| symbols[quarter] = count);
+    symbols[96..].copy_from_slice(&[year, month, day, pump]);
+    sheet_record(&symbols)
+}
+
+/// Slots for a card of any length: sheets of two pumps, a blank slot, and a record that is no sheet.
+pub fn five_slots() -> [Vec<u8>; 5] {
+    [
+        sheet(&[(0, 1), (95, 127)], [24, 2, 29], 0),
+        vec![255; RECORD],
+        sheet(&[(0, 5), (1, 126)], [24, 2, 28], 127),
+        record(3, &[0; 12], &[]),
+        sheet(&[(0, 4)], [23, 12, 31], 0),
+    ]
+}
+
+/// The record of these symbols with so many wrong symbols, and so many marks at which any bytes stand.
 pub fn worn_sheet(chance: &mut Chance, symbols: &[u8], wrong: usize, marked: usize) -> Vec<u8> {
     let word = write(7, symbols, 132).expect("symbols of a sheet");
     let chosen = chance.places(wrong + marked, 132);

@@ -5,7 +5,7 @@ use native.Mathlib.Omega.{arith}
 use lib.ListN.{take}
 use lib.Seq.{length-take-le}
 use Rattle.card.proofs.Writing.{writes-fits}
-use Rattle.cardlist.proofs.Batches.{continues-batch}
+use Rattle.card.proofs.Continuing.{continues-batch}
 use Rattle.cardlist.proofs.list_batch.Statement.{statement}
 use Rattle.cardlist.proofs.list_batch.Tie as tie
 
@@ -24,7 +24,7 @@ array-share-prefix-batch c = search needs
 slice-aggregate-list-records : tie.Need-slice-aggregate-list-records
 slice-aggregate-list-records c =
     let x = c .before .before .before .read-batch in
-    sym (length-take-le (x .result .count) (x .last .0) (x .ensures .0))
+    sym (length-take-le (x .result .count) (x .last .1 .0) (x .ensures .0))
 
 slice-aggregate-list-records-2 : tie.Need-slice-aggregate-list-records-2
 slice-aggregate-list-records-2 c = search needs
@@ -33,7 +33,7 @@ list-records-requires : tie.Need-list-records-requires
 list-records-requires c κs =
     let x = c .before .before .before .before .read-batch in
     let s = c .before .before .before .before .before .before in
-    let l = length-take-le (x .result .count) (x .last .0) (x .ensures .0) in
+    let l = length-take-le (x .result .count) (x .last .1 .0) (x .ensures .0) in
     (omega (arith, l, x .ensures .0, x .ensures .1), search needs, s .pre)
 
 array-share-prefix-out : tie.Need-array-share-prefix-out
@@ -52,8 +52,8 @@ returns c =
     let y = c .before .before .before .before .list-records in
     let x = c .before .before .before .before .before .before .before .before .before .read-batch in
     let s = c .before .before .before .before .before .before .before .before .before .before .before in
-    let l = length-take-le (x .result .count) (x .last .0) (x .ensures .0) in
-    continues-batch (s .args .s) (y .result .progress) (take (x .result .count) (x .last .0)) (x .result .count) (y .ensures .progress) l
+    let l = length-take-le (x .result .count) (x .last .1 .0) (x .ensures .0) in
+    continues-batch (s .args .s) (y .result .progress) (take (x .result .count) (x .last .1 .0)) (x .result .count) (y .ensures .progress) l
     (omega (arith, x .ensures .0, x .ensures .1))
 
 pub list-batch-spec : {M : Type 1} → statement M

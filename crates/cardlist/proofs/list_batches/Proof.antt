@@ -6,7 +6,7 @@ use Prim.Native.Nat.{ℕ, _-_, _*_, _≤_}
 use native.Mathlib.Omega.{arith}
 use Rattle.card.specs.Listing.{start}
 use Rattle.card.specs.Batch.{batchSize, Continues}
-use Rattle.cardlist.proofs.Batches.{continues-start, continues-within, continues-on, continues-end}
+use Rattle.card.proofs.Continuing.{continues-start, continues-within, continues-on, continues-end}
 use Rattle.cardlist.proofs.list_batches.Statement.{statement}
 use Rattle.cardlist.proofs.list_batches.Tie as tie
 
@@ -22,13 +22,13 @@ loop-holds c = (search needs, continues-start)
 list-batch-requires : tie.Need-list-batch-requires Inv-loop μ-loop
 list-batch-requires c κs =
     let turn = c .before .loop in
-    continues-within (turn .i) (turn .s) (turn .inv .1) (turn .inv .0)
+    continues-within (turn .i) (turn .s) (turn .inv .1) (omega arith)
 
 returns : tie.Need-returns Inv-loop μ-loop
 returns c =
     let called = c .before .before in
     let turn = called .before .before .loop in
-    continues-end (turn .i) (turn .s) (turn .inv .1) _ _ (called .list-batch .ensures) (called .before .loop-test .taken)
+    continues-end (turn .i) (turn .s) (turn .inv .1) _ _ (called .list-batch .ensures) 2500 (called .before .loop-test .taken)
 
 add-i : tie.Need-add-i Inv-loop μ-loop
 add-i c = search needs

@@ -1,8 +1,12 @@
 -- `card::conversion::ask_card` meets its contract. Assumes nothing.
 use borrow.Author.Needs.{needs}
-use mathlib.Core.Path.{_∙_}
+use mathlib.Core.Path.{refl, ap, _∙_}
+use native.Mathlib.Omega.{arith}
 use lib.ListN.{length}
-use Rattle.card.proofs.Converting.{card-whole, lengths-whole, lengths-are, asked-refused, asked-verdict}
+use Rattle.card.specs.declared.parts.Findings.{Findings}
+use Rattle.card.specs.Record.{sizeOf}
+use Rattle.card.proofs.Found.{found-card}
+use Rattle.card.proofs.Converting.{lengths-whole, lengths-are, asked-refused, asked-verdict}
 use Rattle.card.proofs.conversion.ask_card.Statement.{statement}
 use Rattle.card.proofs.conversion.ask_card.Tie as tie
 
@@ -25,28 +29,33 @@ div-n c = search needs
 are-slots-requires : tie.Need-are-slots-requires
 are-slots-requires c κs = search needs
 
-all-passed-requires : tie.Need-all-passed-requires
-all-passed-requires c κs =
-    let w = c .before .before in
-    let x = w .before .size-of in
-    let s = w .before .before .before in
-    (s .pre .0, card-whole (s .args .k) (length (s .args .card .now)) (x .result) (x .ensures) (w .if1 .left))
+nothing-found-requires : tie.Need-nothing-found-requires
+nothing-found-requires c κs = search needs
+
+see-part-requires : tie.Need-see-part-requires
+see-part-requires c κs =
+    let none = ap (λ (u : Findings). u .slots) (c .nothing-found .ensures) in
+    (c .before .before .before .before .before .before .pre .0, omega (arith, none))
 
 verdict-of-requires : tie.Need-verdict-of-requires
 verdict-of-requires c κs = search needs
 
 returns-2 : tie.Need-returns-2
 returns-2 c =
-    let f = c .before .before .before in
+    let found = c .before in
+    let start = found .before in
+    let f = start .before .before in
     let w = f .before in
     let x = w .before .size-of in
     let a = w .before .before .before .args in
     let n = length (a .card .now) in
     asked-verdict (a .k) (a .j) (a .card .now) (a .m)
     (lengths-are (a .k) n (x .result) (x .ensures) (a .j) (a .m) (f .are-slots .result) (w .if1 .left) (f .are-slots .ensures)
-    ∙ c .before .before .if2 .taken)
-    (x .result) (x .ensures) (c .before .all-passed .result) (c .before .all-passed .ensures) (c .verdict-of .result)
-    (c .verdict-of .ensures)
+    ∙ start .before .if2 .taken)
+    (sizeOf (a .k)) refl (found .see-part .result .passed)
+    (found-card (a .k) (a .card .now) (start .nothing-found .result) (found .see-part .result) (start .nothing-found .ensures)
+    (found .see-part .ensures))
+    (c .verdict-of .result) (c .verdict-of .ensures)
 
 returns-3 : tie.Need-returns-3
 returns-3 c =
@@ -68,7 +77,8 @@ ask-card-spec =
     returns
     div-n
     are-slots-requires
-    all-passed-requires
+    nothing-found-requires
+    see-part-requires
     verdict-of-requires
     returns-2
     returns-3)

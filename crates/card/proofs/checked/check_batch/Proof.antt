@@ -1,0 +1,64 @@
+-- `card::checked::check_batch` meets its contract. Assumes nothing.
+use borrow.Author.Needs.{needs}
+use Prim.Native.Nat.{_≤_}
+use native.Mathlib.Omega.{arith}
+use lib.ListN.{length}
+use Rattle.card.specs.Card.{recordCount}
+use Rattle.card.proofs.Finding.{named-low, named-high, finds-none, finds-some}
+use Rattle.card.proofs.checked.check_batch.Statement.{statement}
+use Rattle.card.proofs.checked.check_batch.Tie as tie
+
+check-requires : tie.Need-check-requires
+check-requires c κs = search needs
+
+enum-told : tie.Need-enum-told
+enum-told c = search needs
+
+enum-known-k : tie.Need-enum-known-k
+enum-known-k c = search needs
+
+sub-record-from : tie.Need-sub-record-from
+sub-record-from c = search (needs, named-low)
+
+mul-record-from : tie.Need-mul-record-from
+mul-record-from c =
+    let high : c .before .k .given .0 .0 ≤ recordCount (length (c .before .before .before .before .before .before .args .batch .now)) = search (needs, named-high) in
+    omega arith
+
+record-from-requires : tie.Need-record-from-requires
+record-from-requires c κs =
+    let high : c .before .k .given .0 .0 ≤ recordCount (length (c .before .before .before .before .before .before .args .batch .now)) = search (needs, named-high) in
+    omega arith
+
+add-put-outcome : tie.Need-add-put-outcome
+add-put-outcome c =
+    let high : c .before .before .k .given .0 .0 ≤ recordCount (length (c .before .before .before .before .before .before .before .args .batch .now)) = search (needs, named-high) in
+    omega arith
+
+put-outcome-requires : tie.Need-put-outcome-requires
+put-outcome-requires c κs = search needs
+
+returns : tie.Need-returns
+returns c = search (needs, finds-none)
+
+same-length : tie.Need-same-length
+same-length c = search needs
+
+returns-2 : tie.Need-returns-2
+returns-2 c = search (needs, finds-some)
+
+pub check-batch-spec : {M : Type 1} → statement M
+check-batch-spec =
+    tie.close
+    (tie.spec
+    check-requires
+    enum-told
+    enum-known-k
+    sub-record-from
+    mul-record-from
+    record-from-requires
+    add-put-outcome
+    put-outcome-requires
+    returns
+    same-length
+    returns-2)

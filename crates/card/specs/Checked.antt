@@ -1,0 +1,84 @@
+-- The card check as a line of text, of a card that comes in batches. Assumes nothing.
+use mathlib.Core.Path.{_≡_}
+use mathlib.Core.Bool.{Bool, true, false}
+use mathlib.Core.List.{List, [], _++_}
+use Prim.Native.Nat.{ℕ, _+_, _*_, _≤_}
+use lib.ListN.{length}
+use Rattle.field.specs.Question.{Outcome, accepted, refused}
+use Rattle.card.specs.Record.{recordSize, recordOf}
+use Rattle.card.specs.Card.{recordNumbered, firstRefused}
+use Rattle.card.specs.Placed.{Writes}
+use Rattle.card.specs.Batch.{batchSize}
+use Rattle.card.specs.Words.{bytesOf, refusalLine}
+use Rattle.card.specs.declared.CardCheck.{CardCheck}
+use Rattle.card.specs.declared.CardCheck.the-variants.{AllAccepted, Refused}
+use Rattle.card.specs.declared.checked.Found.{Found}
+
+-- the line of a record that would be refused
+abbrev pub outcomeLine : ℕ → Outcome → List ℕ
+outcomeLine n (accepted k) = []
+outcomeLine n (refused r) = refusalLine n r
+
+-- the line of the record that the check of a part names, where so many slots stand before the part; none where it names none
+abbrev pub foundLine : ℕ → List ℕ → CardCheck → List ℕ
+foundLine before part AllAccepted = []
+foundLine before part (Refused k) = outcomeLine (before + k) (recordOf (recordNumbered part k))
+
+-- the line of a card whose records would all be accepted
+abbrev pub okLine : List ℕ
+okLine = bytesOf "ok\n"
+
+-- the line of a card, by the answer of its check
+abbrev pub lineOf : List ℕ → CardCheck → List ℕ
+lineOf card AllAccepted = okLine
+lineOf card (Refused k) = foundLine 0 card (Refused k)
+
+-- what a check of the card says
+unfoldable pub checkText : List ℕ → List ℕ
+checkText card = lineOf card (firstRefused card)
+
+-- does the check name a record?
+abbrev pub names : CardCheck → Bool
+names AllAccepted = false
+names (Refused k) = true
+
+-- the check of a part, where so many slots stand before it: whether it names a record, whose line is then written
+pub record Finds (before : ℕ) (part old : List ℕ) (r : Found) (new : List ℕ) : Type 0 where
+  pub any : r .any ≡ names (firstRefused part)
+  pub text : Writes old 0 (foundLine before part (firstRefused part)) new (r .used)
+
+-- ---- a card in parts; proofs/Finding.antt proves it
+
+-- the answer of one check behind j slots
+abbrev pub behind : ℕ → CardCheck → CardCheck
+behind j AllAccepted = AllAccepted
+behind j (Refused k) = Refused (j + k)
+
+-- the first of two answers that names a record
+abbrev pub orElse : CardCheck → CardCheck → CardCheck
+orElse (Refused k) next = Refused k
+orElse AllAccepted next = next
+
+-- the first refused record of a card is that of its first part, of j whole slots, or that of the second part, with the number running on
+abbrev pub FirstInParts : Type 0
+FirstInParts =
+    (a b : List ℕ) (j : ℕ) → length a ≡ j * recordSize → firstRefused (a ++ b) ≡ orElse (firstRefused a) (behind j (firstRefused b))
+
+-- ---- for a program that reads batch after batch
+
+-- some bytes were checked, those of one batch
+pub record FindsBatch (before : ℕ) (old : List ℕ) (r : Found) (going : Bool) (new : List ℕ) : Type 0 where
+  pub bytes : List ℕ
+  pub found : Finds before bytes old r new
+  pub most : length bytes ≤ batchSize
+  pub full : going ≡ true → length bytes ≡ batchSize
+
+-- some bytes were checked, from the card's first slot on
+pub record FindsSome (old : List ℕ) (r : Found) (new : List ℕ) : Type 0 where
+  pub bytes : List ℕ
+  pub found : Finds 0 bytes old r new
+
+-- and what is written says so
+pub record Says (old : List ℕ) (used : ℕ) (new : List ℕ) : Type 0 where
+  pub bytes : List ℕ
+  pub text : Writes old 0 (checkText bytes) new used

@@ -1,0 +1,63 @@
+-- `cardrestore::restore_batches` meets its contract. Before turn i the counting has come over i whole batches. Assumes nothing.
+use borrow.Author.Needs.{needs}
+use mathlib.Core.Path.{_≡_, subst}
+use mathlib.Core.Bool.{true}
+use Prim.Native.Nat.{ℕ, _-_, _*_, _≤_}
+use native.Mathlib.Omega.{arith}
+use Rattle.card.specs.Listing.{start}
+use Rattle.card.specs.Batch.{batchSize, mostBatches, Continues}
+use Rattle.card.proofs.Continuing.{continues-start, continues-within, continues-on, continues-end}
+use Rattle.cardrestore.proofs.restore_batches.Statement.{statement}
+use Rattle.cardrestore.proofs.restore_batches.Tie as tie
+
+abbrev Inv-loop : tie.InvT-loop
+Inv-loop s₀ i₀ s i = (i ≤ mostBatches) × Continues (i * batchSize) start s true
+
+abbrev μ-loop : tie.MeasureT-loop
+μ-loop s₀ i₀ s i = mostBatches - i
+
+loop-holds : tie.Need-loop-holds Inv-loop μ-loop
+loop-holds c = (search needs, continues-start)
+
+restore-batch-requires : tie.Need-restore-batch-requires Inv-loop μ-loop
+restore-batch-requires c κs =
+    let turn = c .before .loop in
+    continues-within (turn .i) (turn .s) (turn .inv .1) (omega arith)
+
+returns : tie.Need-returns Inv-loop μ-loop
+returns c =
+    let called = c .before .before in
+    let turn = called .before .before .loop in
+    continues-end (turn .i) (turn .s) (turn .inv .1) _ _ (called .restore-batch .ensures) mostBatches (called .before .loop-test .taken)
+
+add-i : tie.Need-add-i Inv-loop μ-loop
+add-i c = search needs
+
+loop-less : tie.Need-loop-less Inv-loop μ-loop
+loop-less c = search needs
+
+loop-again : tie.Need-loop-again Inv-loop μ-loop
+loop-again c =
+    let called = c .before .before .before in
+    let turn = called .before .before .loop in
+    (omega arith, continues-on (turn .i) (turn .s) (turn .inv .1) _ _ (called .restore-batch .ensures) (c .before .if1 .left))
+
+returns-2 : tie.Need-returns-2 Inv-loop μ-loop
+returns-2 c =
+    let turn = c .before .loop in
+    let all : turn .i ≡ mostBatches = omega arith in
+    subst (λ (i : ℕ). Continues (i * batchSize) start (turn .s) true) all (turn .inv .1)
+
+pub restore-batches-spec : {M : Type 1} → statement M
+restore-batches-spec =
+    tie.close
+    (tie.spec
+    Inv-loop
+    μ-loop
+    loop-holds
+    restore-batch-requires
+    returns
+    add-i
+    loop-less
+    loop-again
+    returns-2)

@@ -1,0 +1,2 @@
+-- The definitions that the program's contracts cite. Assumes nothing.
+pub mod Batches

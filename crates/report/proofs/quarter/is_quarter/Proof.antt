@@ -1,0 +1,28 @@
+-- `report::quarter::is_quarter` meets its contract. Assumes nothing.
+use borrow.Author.Needs.{needs}
+use Rattle.report.proofs.Quarters.{by-number, by-clock}
+use Rattle.report.proofs.quarter.is_quarter.Statement.{statement}
+use Rattle.report.proofs.quarter.is_quarter.Tie as tie
+
+is-number-requires : tie.Need-is-number-requires
+is-number-requires c κs = search needs
+
+returns : tie.Need-returns
+returns c =
+    let x = c .before .is-number in
+    let s = c .before .before .before in
+    by-number (s .args .text .now) (s .args .n) (x .result) (x .ensures) (c .if1 .taken)
+
+is-clock-requires : tie.Need-is-clock-requires
+is-clock-requires c κs = search needs
+
+returns-2 : tie.Need-returns-2
+returns-2 c =
+    let told = c .before in
+    let x = told .before .is-number in
+    let y = c .is-clock in
+    let s = told .before .before .before in
+    by-clock (s .args .text .now) (s .args .n) (x .result) (y .result) (x .ensures) (told .if1 .left) (y .ensures)
+
+pub is-quarter-spec : {M : Type 1} → statement M
+is-quarter-spec = tie.close (tie.spec is-number-requires returns is-clock-requires returns-2)

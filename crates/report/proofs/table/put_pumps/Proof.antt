@@ -1,0 +1,61 @@
+-- `report::table::put_pumps` meets its contract. Before turn p the lines of the pumps below p are written. Assumes nothing.
+use borrow.Author.Needs.{needs}
+use mathlib.Core.Path.{_≡_, refl}
+use Prim.Native.Nat.{_-_, _≤_}
+use lib.ListN.{length}
+use Rattle.card.specs.Placed.{Writes}
+use Rattle.report.specs.Window.{pumps}
+use Rattle.report.specs.Table.{pumpLines}
+use Rattle.report.proofs.Tables.{lines-short, lines-none, lines-more}
+use native.Mathlib.Omega.{arith}
+use Rattle.report.proofs.table.put_pumps.Statement.{statement}
+use Rattle.report.proofs.table.put_pumps.Tie as tie
+
+abbrev Inv-loop : tie.InvT-loop
+Inv-loop out₀ at report next₀ p₀ out next p = (p ≤ pumps) × (length out ≡ length out₀) × Writes out₀ at (pumpLines report p) out next
+
+abbrev μ-loop : tie.MeasureT-loop
+μ-loop out₀ at report next₀ p₀ out next p = pumps - p
+
+loop-holds : tie.Need-loop-holds Inv-loop μ-loop
+loop-holds c = (omega arith, refl, lines-none _ _ _ (omega arith))
+
+put-pump-requires : tie.Need-put-pump-requires Inv-loop μ-loop
+put-pump-requires c κs =
+    let turn = c .before .before in
+    let s = c .before .before .before .before .before in
+    (omega (arith, turn .loop .inv .2 .behind, lines-short (s .args .report .now) (turn .loop .p)), omega arith, s .pre .1)
+
+add-p : tie.Need-add-p Inv-loop μ-loop
+add-p c = search needs
+
+loop-less : tie.Need-loop-less Inv-loop μ-loop
+loop-less c = search needs
+
+loop-again : tie.Need-loop-again Inv-loop μ-loop
+loop-again c =
+    let turn = c .before .before .before .before .before in
+    let report = turn .before .before .before .args .report .now in
+    (omega arith, omega arith, lines-more report (turn .loop .p) (turn .loop .inv .2) (c .before .before .put-pump .ensures))
+
+same-length : tie.Need-same-length Inv-loop μ-loop
+same-length c = search needs
+
+returns : tie.Need-returns Inv-loop μ-loop
+returns c =
+    let all : c .before .loop .p ≡ pumps = omega arith in
+    rw all at (c .before .loop .inv .2)
+
+pub put-pumps-spec : {M : Type 1} → statement M
+put-pumps-spec =
+    tie.close
+    (tie.spec
+    Inv-loop
+    μ-loop
+    loop-holds
+    put-pump-requires
+    add-p
+    loop-less
+    loop-again
+    same-length
+    returns)

@@ -1,0 +1,49 @@
+-- `report::table::put_table` meets its contract: header, lines of the pumps and last lines stand one behind the other. Assumes nothing.
+use borrow.Author.Needs.{needs}
+use mathlib.Core.List.{append-assoc}
+use Rattle.card.proofs.Writing.{writes-on}
+use Rattle.report.specs.Window.{pumps}
+use Rattle.report.specs.Table.{tableText}
+use Rattle.report.proofs.Tables.{lines-short}
+use native.Mathlib.Omega.{arith}
+use Rattle.report.proofs.table.put_table.Statement.{statement}
+use Rattle.report.proofs.table.put_table.Tie as tie
+
+slice-aggregate-put-bytes : tie.Need-slice-aggregate-put-bytes
+slice-aggregate-put-bytes c = search needs
+
+put-bytes-requires : tie.Need-put-bytes-requires
+put-bytes-requires c κs = search needs
+
+put-pumps-requires : tie.Need-put-pumps-requires
+put-pumps-requires c κs = search needs
+
+put-last-requires : tie.Need-put-last-requires
+put-last-requires c κs =
+    let second = c .before .before .before in
+    let first = second .before .before .before .before in
+    let s = first .before .before .before .before .before in
+    let short = lines-short (s .args .report .now) pumps in
+    (omega (arith, second .put-pumps .ensures .behind, first .put-bytes .ensures .behind, short), s .pre .1)
+
+same-length : tie.Need-same-length
+same-length c = search needs
+
+returns : tie.Need-returns
+unfolding tableText
+returns c =
+    let third = c .before .before in
+    let second = third .before .before .before .before in
+    let two = writes-on (second .before .before .before .before .put-bytes .ensures) (second .put-pumps .ensures) in
+    simp append-assoc at (writes-on two (third .put-last .ensures))
+
+pub put-table-spec : {M : Type 1} → statement M
+put-table-spec =
+    tie.close
+    (tie.spec
+    slice-aggregate-put-bytes
+    put-bytes-requires
+    put-pumps-requires
+    put-last-requires
+    same-length
+    returns)

@@ -1,0 +1,109 @@
+-- The text of a report as a table, for people and for awk. Assumes nothing.
+use mathlib.Core.Bool.{cond}
+use mathlib.Core.List.{List, [], _∷_, _++_}
+use Prim.Native.Nat.{ℕ, zero, suc, _+_, _*_}
+use lib.Dec.{eqb, ltb}
+use Rattle.code.specs.Word.{at}
+use Rattle.card.specs.Listing.{decimal, space, newline, blankWord, moreLine}
+use Rattle.card.specs.Batch.{longestField}
+use Rattle.report.specs.declared.window.Date.{Date}
+use Rattle.report.specs.declared.window.Row.{Row}
+use Rattle.report.specs.Window.{pumps, refusedAt, blankAt, moreAt, rowOf}
+
+-- ---- numbers and dates
+
+-- the digits of n, with a zero before a single one
+unfoldable pub twoDigits : ℕ → List ℕ
+twoDigits n = cond (ltb n 10) (48 ∷ decimal n) (decimal n)
+
+abbrev pub hyphen : ℕ
+hyphen = 45
+
+-- YYYY-MM-DD: a report counts years from 2000
+unfoldable pub dateText : Date → List ℕ
+dateText d = decimal (d .year + 2000) ++ (hyphen ∷ twoDigits (d .month) ++ (hyphen ∷ twoDigits (d .day)))
+
+-- ---- lines
+
+-- the names of the columns: pump sheets starts full highest date quotient remainder
+abbrev pub headerLine : List ℕ
+headerLine =
+    112 ∷ 117 ∷ 109 ∷ 112 ∷ space
+    ∷ 115 ∷ 104 ∷ 101 ∷ 101 ∷ 116 ∷ 115 ∷ space
+    ∷ 115 ∷ 116 ∷ 97 ∷ 114 ∷ 116 ∷ 115 ∷ space
+    ∷ 102 ∷ 117 ∷ 108 ∷ 108 ∷ space
+    ∷ 104 ∷ 105 ∷ 103 ∷ 104 ∷ 101 ∷ 115 ∷ 116 ∷ space
+    ∷ 100 ∷ 97 ∷ 116 ∷ 101 ∷ space
+    ∷ 113 ∷ 117 ∷ 111 ∷ 116 ∷ 105 ∷ 101 ∷ 110 ∷ 116 ∷ space
+    ∷ 114 ∷ 101 ∷ 109 ∷ 97 ∷ 105 ∷ 110 ∷ 100 ∷ 101 ∷ 114 ∷ newline ∷ []
+
+-- the first five columns of pump p: its number and its sheets; in the window the starts, the counts of 127, the highest count
+unfoldable pub countFields : ℕ → Row → List ℕ
+countFields p r =
+    decimal p
+    ++ (space ∷ decimal (r .sheets)
+    ++ (space ∷ decimal (r .sum)
+    ++ (space ∷ decimal (r .full)
+    ++ (space ∷ decimal (r .peak .count)
+    ++ (space ∷ [])))))
+
+-- the line of pump p: these, the earliest date of the highest count, and the mean of starts per sheet as quotient and remainder
+unfoldable pub rowLine : ℕ → Row → List ℕ
+rowLine p r =
+    countFields p r
+    ++ (dateText (r .peak .date)
+    ++ (space ∷ decimal (r .quotient)
+    ++ (space ∷ decimal (r .remainder)
+    ++ (newline ∷ []))))
+
+-- a pump without sheets has no line
+abbrev pub pumpLine : List ℕ → ℕ → List ℕ
+pumpLine report p = cond (eqb (rowOf report p .sheets) 0) [] (rowLine p (rowOf report p))
+
+-- the lines of the pumps below p, in rising order
+unfoldable pub pumpLines : List ℕ → ℕ → List ℕ
+pumpLines report zero = []
+pumpLines report (suc p) = pumpLines report p ++ pumpLine report p
+
+-- the word refused
+abbrev pub refusedWord : List ℕ
+refusedWord = 114 ∷ 101 ∷ 102 ∷ 117 ∷ 115 ∷ 101 ∷ 100 ∷ []
+
+-- the refused records and the blank slots, always, and the line "more" where the card goes on
+unfoldable pub lastLines : List ℕ → List ℕ
+lastLines report =
+    refusedWord
+    ++ (space ∷ decimal (at report refusedAt)
+    ++ (newline ∷ blankWord
+    ++ (space ∷ decimal (at report blankAt)
+    ++ (newline ∷ cond (eqb (at report moreAt) 0) [] moreLine))))
+
+-- the whole table
+unfoldable pub tableText : List ℕ → List ℕ
+tableText report = headerLine ++ (pumpLines report pumps ++ lastLines report)
+
+-- ---- how long they are
+
+-- a number, which has at most 20 digits
+abbrev pub longestNumber : ℕ
+longestNumber = 20
+
+-- a date is three numbers with two hyphens
+abbrev pub longestDate : ℕ
+longestDate = 2 + 3 * longestNumber
+
+-- the first five columns of a line
+abbrev pub longestCounts : ℕ
+longestCounts = 5 * longestField
+
+-- a line: these, a date with a space, and two fields
+abbrev pub longestRow : ℕ
+longestRow = longestCounts + (longestDate + 1) + 2 * longestField
+
+-- two words with their fields, and the line "more"
+abbrev pub longestLast : ℕ
+longestLast = (8 + longestField) + (6 + longestField) + 5
+
+-- the whole table
+abbrev pub longestTable : ℕ
+longestTable = 56 + pumps * longestRow + longestLast

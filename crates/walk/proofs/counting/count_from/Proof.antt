@@ -1,0 +1,62 @@
+-- `walk::counting::count_from` meets its contract. Assumes nothing.
+use borrow.Author.Needs.{needs}
+use mathlib.Core.Path.{_≡_, refl}
+use Prim.Native.Nat.{_-_, _*_, _^_, _≤_}
+use native.Mathlib.Omega.{arith}
+use lib.ListN.{length}
+use Rattle.walk.specs.Counting.{CountsFrom}
+use Rattle.walk.proofs.Tallying.{counts-none, loop-within-bound, counts-on, counts-end}
+use Rattle.walk.proofs.counting.count_from.Statement.{statement}
+use Rattle.walk.proofs.counting.count_from.Tie as tie
+
+abbrev Inv-loop : tie.InvT-loop
+Inv-loop card₀ first count progress₀ i₀ card progress i =
+    (i ≤ count) × (length card ≡ length card₀) × CountsFrom first i progress₀ card₀ progress card
+
+abbrev μ-loop : tie.MeasureT-loop
+μ-loop card₀ first count progress₀ i₀ card progress i = count - i
+
+loop-holds : tie.Need-loop-holds Inv-loop μ-loop
+loop-holds c = (omega arith, refl, counts-none _ _ _)
+
+add-count-at : tie.Need-add-count-at Inv-loop μ-loop
+add-count-at c = search needs
+
+count-at-requires : tie.Need-count-at-requires Inv-loop μ-loop
+count-at-requires c κs =
+    let turn = c .before .before .loop in
+    let start = c .before .before .before .before in (
+      omega arith,
+      loop-within-bound _ (turn .i) (start .args .count) (start .args .s) (turn .progress) _ _ (turn .inv .2) (3 * 2 ^ 61) (2 ^ 63) (start .pre .2)
+          (omega arith),
+    )
+
+add-i : tie.Need-add-i Inv-loop μ-loop
+add-i c = search needs
+
+loop-less : tie.Need-loop-less Inv-loop μ-loop
+loop-less c = omega arith
+
+loop-again : tie.Need-loop-again Inv-loop μ-loop
+loop-again c = (omega arith, search needs, search (needs, counts-on))
+
+same-length : tie.Need-same-length Inv-loop μ-loop
+same-length c = search needs
+
+returns : tie.Need-returns Inv-loop μ-loop
+returns c = search (needs, counts-end)
+
+pub count-from-spec : {M : Type 1} → statement M
+count-from-spec =
+    tie.close
+    (tie.spec
+    Inv-loop
+    μ-loop
+    loop-holds
+    add-count-at
+    count-at-requires
+    add-i
+    loop-less
+    loop-again
+    same-length
+    returns)
