@@ -5,6 +5,7 @@ use mathlib.Core.List.{List}
 use Prim.Native.Nat.{ℕ, zero, suc, _+_, _-_, _*_, _/_, _≤_, _<_}
 use lib.Dec.{eqb, leb}
 use lib.ListN.{length, take, drop}
+use denote.Ref.{RefT, now}
 use Rattle.field.specs.Question.{Outcome, accepted, refused}
 use Rattle.card.specs.Record.{sizeOf, erasureBytes, recordSize, allAre, recordOf}
 use Rattle.card.specs.declared.CardCheck.{CardCheck}
@@ -17,6 +18,16 @@ recordCount n = (n + (recordSize - 1)) / recordSize
 -- slot i of a card, counted from 0, where records have k erasure bytes: its record, or blank; the last may be shorter
 abbrev pub slotIn : ℕ → List ℕ → ℕ → List ℕ
 slotIn k card i = take (sizeOf k) (drop (i * sizeOf k) card)
+
+-- the part r lies in the lent card itself, from its byte a on: in the card's own memory, not in a copy of it
+pub record LiesAt (card : RefT (List ℕ)) (a : ℕ) (r : RefT (List ℕ)) : Type 0 where
+  pub block : r .ptr .0 ≡ card .ptr .0
+  pub place : r .ptr .1 ≡ card .ptr .1 + a
+
+-- the slot of today's edition that begins at byte a of the lent card: its bytes, where they lie
+pub record SlotFrom (card : RefT (List ℕ)) (a : ℕ) (r : RefT (List ℕ)) : Type 0 where
+  pub bytes : now r ≡ take recordSize (drop a (now card))
+  pub lies : LiesAt card a r
 
 -- is the slot blank, never written? Only a whole slot can be
 unfoldable pub blankIn : ℕ → List ℕ → Bool

@@ -1,9 +1,9 @@
 // Slots of a card, and the card check.
 ghost use mathlib.Core.Path.{_≡_};
 ghost use Prim.Native.Nat.{_≤_};
-ghost use lib.ListN.{length, take, drop};
-ghost use Rattle.card.specs.Record.{erasureBytes, recordSize};
-ghost use Rattle.card.specs.Card.{recordCount, isNumber, blankIn, isBlank, passes, fine, firstRefused};
+ghost use lib.ListN.{length};
+ghost use Rattle.card.specs.Record.{erasureBytes};
+ghost use Rattle.card.specs.Card.{recordCount, SlotFrom, isNumber, blankIn, isBlank, passes, fine, firstRefused};
 use crate::CardCheck;
 use crate::records::ERASURE_BYTES;
 use crate::records::RECORD;
@@ -33,7 +33,7 @@ pub fn is_number(number: usize, n: usize) -> bool
 // The slot of the card that begins at byte `at`; the last may be shorter.
 pub fn record_from(card: &[u8], at: usize) -> &[u8]
     requires { ⌜ at ≤ length (now card) ⌝ }
-    ensures { λ r. ⌜ now r ≡ take recordSize (drop at (now (card .entry))) ⌝ }
+    ensures { λ r. ⌜ SlotFrom (card .entry) at r ⌝ }
 {
     if card.len() - at < RECORD {
         return &card[at..];

@@ -9,22 +9,24 @@ use borrow.Author.Tests.{eq-eqb, ne-eqb, eqb-true, not-true, not-false}
 use lib.Dec.{eqb}
 use lib.ListN.{length, getD, take, drop, replicate, drop-of-length-le}
 use lib.Seq.{drop-cons, getD-take, length-take-le}
+use denote.Ref.{RefT, now}
 use Rattle.field.specs.Question.{Outcome, accepted, refused, refusal, ask, after}
 use Rattle.field.specs.declared.Question.{Question}
 use Rattle.field.specs.declared.Question.the-variants.{Length, RecordNumber, SameDay}
 use Rattle.field.specs.declared.Verdict.{Verdict}
 use Rattle.field.specs.declared.Verdict.the-variants.{Passed, Refused as RefusedBy}
 use Rattle.code.specs.Word.{at}
-use Rattle.field.proofs.Ask.{ask-yes}
+use Rattle.field.proofs.Ask.{ask-yes, and-true-left, and-true-right}
 use Rattle.code.specs.Call.{followed}
 use Rattle.code.specs.Demands.{occurs}
 use Rattle.code.specs.declared.Repair.{Repair}
 use Rattle.code.specs.declared.Repair.the-variants.{Restored, Refused as RefusedRepair}
 use Rattle.card.specs.Record.{onAccept}
 use Rattle.sheet.specs.Sheet.{quarters, yearAt, monthAt, dayAt, pumpAt, sheetSize}
-use Rattle.report.specs.Day.{hasRecord, slotOf, sheet, dayOf, answered, dayIn, daySymbols, Tells}
+use Rattle.sheet.proofs.Asking.{after-accepted}
+use Rattle.report.specs.Day.{hasRecord, slotOf, SlotPart, sheet, dayOf, answered, dayIn, daySymbols, Tells}
 use Rattle.report.specs.Compare.{signOf, signsOf, sheetSigns, sameDay, chosenOf, comparedOf, choice, refusedComparison, Shows}
-use Rattle.report.specs.Compare.{numbersAsked, symbolsAt, compareOf, Compares, partOf, intoAsked, intoOf, ComparesInto}
+use Rattle.report.specs.Compare.{numbersAsked, symbolsAt, compareOf, Compares, partOf, PartFrom, HandsBack, intoAsked, intoOf, ComparesInto}
 use Rattle.report.specs.declared.day.Reading.{Reading}
 use Rattle.report.specs.declared.compare.Choice.{Choice}
 use Rattle.report.specs.declared.compare.Choice.the-variants.{Controller, Cupboard, Refused}
@@ -234,12 +236,41 @@ module _ (c : List ℕ) (i : ℕ) (d : List ℕ) (j : ℕ) (old : List ℕ) (v :
 
 -- ---- the chosen part; p is the slot that was found
 
-module _ (a b : List ℕ) (w : Choice) where
-  pub part-controller : w ≡ Controller → (p : List ℕ) → p ≡ a → p ≡ partOf (choice w) a b
-  part-controller e p f = f ∙ sym (ap (λ (x : Choice). partOf (choice x) a b) e)
+module _ (x : RefT (List ℕ)) (i : ℕ) (y : RefT (List ℕ)) (j : ℕ) (w : Choice) where
+  pub part-controller : w ≡ Controller → (p : RefT (List ℕ)) → SlotPart x i p → PartFrom (choice w) x i y j p
+  part-controller e p S =
+      rw e (record { bytes = S .bytes; controller = λ h. S .lies; cupboard = λ h. let z : _≡_ {A = ℕ} 1 2 = cc in absurd (omega arith) })
 
-  pub part-cupboard : w ≡ Cupboard → (p : List ℕ) → p ≡ b → p ≡ partOf (choice w) a b
-  part-cupboard e p f = f ∙ sym (ap (λ (x : Choice). partOf (choice x) a b) e)
+  pub part-cupboard : w ≡ Cupboard → (p : RefT (List ℕ)) → SlotPart y j p → PartFrom (choice w) x i y j p
+  part-cupboard e p S =
+      rw e (record { bytes = S .bytes; controller = λ h. let z : _≡_ {A = ℕ} 1 2 = cc in absurd (omega arith); cupboard = λ h. S .lies })
 
-  pub part-none : (q : Question) → w ≡ Refused q → [] ≡ partOf (choice w) a b
-  part-none q e = sym (ap (λ (x : Choice). partOf (choice x) a b) e)
+  pub part-none : (q : Question) → w ≡ Refused q → (p : RefT (List ℕ)) → now p ≡ [] → PartFrom (choice w) x i y j p
+  part-none q e p n =
+      rw e (record {
+        bytes = n;
+        controller = λ h. let z : _≡_ {A = ℕ} 1 2 = cc in absurd (omega arith);
+        cupboard = λ h. let z : _≡_ {A = ℕ} 1 2 = cc in absurd (omega arith);
+      })
+
+-- what was compared are records of their cards
+module _ (c : List ℕ) (i : ℕ) (d : List ℕ) (j w : ℕ) (e : compareOf c i d j ≡ accepted w) where
+  numbers : (hasRecord c i && hasRecord d j) ≡ true
+  unfolding compareOf numbersAsked
+  numbers =
+      ask-yes (hasRecord c i && hasRecord d j) RecordNumber Passed
+      (after-accepted (numbersAsked c i d j) (comparedOf (dayOf (slotOf c i)) (dayOf (slotOf d j))) w (sym e))
+
+  pub compared-number : hasRecord c i ≡ true
+  compared-number = and-true-left (hasRecord c i) (hasRecord d j) numbers
+
+  pub compared-other : hasRecord d j ≡ true
+  compared-other = and-true-right (hasRecord c i) (hasRecord d j) numbers
+
+pub handed-back : (x : RefT (List ℕ)) (i : ℕ) (y : RefT (List ℕ)) (j : ℕ) (o : Outcome) → o ≡ compareOf (now x) i (now y) j
+    → (p : RefT (List ℕ)) → PartFrom o x i y j p → HandsBack x i y j p
+handed-back x i y j o e p P = record {
+  bytes = P .bytes ∙ ap (λ (u : Outcome). partOf u (slotOf (now x) i) (slotOf (now y) j)) e;
+  controller = λ h. P .controller (e ∙ h) (compared-number (now x) i (now y) j 1 h);
+  cupboard = λ h. P .cupboard (e ∙ h) (compared-other (now x) i (now y) j 2 h);
+}

@@ -11,7 +11,7 @@ use Rattle.field.specs.Question.{Outcome, accepted, ask, after}
 use Rattle.field.specs.declared.Question.the-variants.{RecordNumber, SameDay}
 use Rattle.field.specs.declared.Verdict.{Verdict}
 use Rattle.field.specs.declared.Verdict.the-variants.{Passed}
-use Rattle.field.proofs.Ask.{ask-yes, and-true-left, and-true-right}
+use Rattle.field.proofs.Ask.{ask-yes}
 use Rattle.code.specs.Word.{at}
 use Rattle.code.specs.Demands.{occurs}
 use Rattle.card.specs.Record.{recordSize}
@@ -23,7 +23,7 @@ use Rattle.report.specs.Compare.{symbolsAt, numbersAsked, compareOf, com
 use Rattle.report.specs.Demands.{Agreed, CompareAccepts, SignsStand, TotalsCount, TotalsMake, StandsAt, PartStands, RefusedNothing}
 use Rattle.report.specs.Demands.{AllCounted, MeanStands, HighestStands, Ordered, PartsAdded, QuartersRead}
 use Rattle.report.proofs.Days.{slot-some, is-sheet}
-use Rattle.report.proofs.Comparing.{sheet-signs-long, sheet-signs-at}
+use Rattle.report.proofs.Comparing.{sheet-signs-long, sheet-signs-at, compared-number, compared-other}
 use Rattle.report.proofs.Order.{earlier-irreflexive, earlier-transitive, earlier-total}
 use Rattle.report.proofs.Reports.{in-parts}
 use Rattle.report.proofs.Quarters.{stands-for, quarter-texts}
@@ -32,10 +32,6 @@ use Rattle.report.proofs.Starts.{all-looked, row-mean, row-none, row-hi
 -- ---- two day sheets side by side
 
 module _ (c : List ℕ) (i : ℕ) (d : List ℕ) (j : ℕ) where
-  numbers : numbersAsked c i d j ≡ Passed → (hasRecord c i && hasRecord d j) ≡ true
-  unfolding numbersAsked
-  numbers e = ask-yes (hasRecord c i && hasRecord d j) RecordNumber Passed e
-
   agreed : (w : ℕ) → compareOf c i d j ≡ accepted w → Agreed c i d j w
   unfolding compareOf
   agreed w e = days (dayOf (slotOf c i)) (dayOf (slotOf d j)) refl refl (sym (ap (λ (v : Verdict). after v both) passed) ∙ e)
@@ -57,8 +53,8 @@ module _ (c : List ℕ) (i : ℕ) (d : List ℕ) (j : ℕ) where
             l = l;
             ss = ss;
             ts = ts;
-            number = and-true-left (hasRecord c i) (hasRecord d j) (numbers passed);
-            other-number = and-true-right (hasRecord c i) (hasRecord d j) (numbers passed);
+            number = compared-number c i d j w e;
+            other-number = compared-other c i d j w e;
             controller = ex;
             cupboard = ey;
             same = ask-yes (sameDay ss ts) SameDay Passed p;

@@ -1,10 +1,11 @@
 -- Two day sheets set side by side, the controller's and the meter cupboard's. Assumes nothing.
 use mathlib.Core.Path.{_≡_}
-use mathlib.Core.Bool.{Bool, cond, _&&_}
+use mathlib.Core.Bool.{Bool, true, cond, _&&_}
 use mathlib.Core.List.{List, [], _∷_}
-use Prim.Native.Nat.{ℕ}
+use Prim.Native.Nat.{ℕ, _-_, _*_}
 use lib.Dec.{eqb, leb, ltb}
 use lib.ListN.{length, take, replicate}
+use denote.Ref.{RefT, now}
 use Rattle.field.specs.Question.{Outcome, accepted, refused, refusal, ask, after}
 use Rattle.field.specs.declared.Question.{Question}
 use Rattle.field.specs.declared.Question.the-variants.{Length, RecordNumber, SameDay}
@@ -13,7 +14,8 @@ use Rattle.field.specs.declared.Verdict.the-variants.{Passed}
 use Rattle.code.specs.Word.{at}
 use Rattle.code.specs.Call.{followed}
 use Rattle.code.specs.Demands.{occurs}
-use Rattle.card.specs.Record.{onAccept}
+use Rattle.card.specs.Record.{recordSize, onAccept}
+use Rattle.card.specs.Card.{LiesAt}
 use Rattle.sheet.specs.Sheet.{quarters, yearAt, monthAt, dayAt, pumpAt}
 use Rattle.report.specs.Day.{hasRecord, slotOf, Day, sheet, noSheet, dayOf, daySymbols}
 use Rattle.report.specs.declared.compare.Choice.{Choice}
@@ -119,6 +121,18 @@ partOf (refused n) a b = []
 -- the chosen record's slot, as it stands on its card
 abbrev pub comparePart : List ℕ → ℕ → List ℕ → ℕ → List ℕ
 comparePart c i d j = partOf (compareOf c i d j) (slotOf c i) (slotOf d j)
+
+-- the part r of the outcome o is a slot of the lent cards x and y: its bytes, and where they lie on the card that was chosen
+pub record PartFrom (o : Outcome) (x : RefT (List ℕ)) (i : ℕ) (y : RefT (List ℕ)) (j : ℕ) (r : RefT (List ℕ)) : Type 0 where
+  pub bytes : now r ≡ partOf o (slotOf (now x) i) (slotOf (now y) j)
+  pub controller : o ≡ accepted 1 → hasRecord (now x) i ≡ true → LiesAt x ((i - 1) * recordSize) r
+  pub cupboard : o ≡ accepted 2 → hasRecord (now y) j ≡ true → LiesAt y ((j - 1) * recordSize) r
+
+-- the promise of compare_sheets: the part handed back has the chosen slot's bytes, and lies where the slot lies on its card
+pub record HandsBack (x : RefT (List ℕ)) (i : ℕ) (y : RefT (List ℕ)) (j : ℕ) (r : RefT (List ℕ)) : Type 0 where
+  pub bytes : now r ≡ comparePart (now x) i (now y) j
+  pub controller : compareOf (now x) i (now y) j ≡ accepted 1 → LiesAt x ((i - 1) * recordSize) r
+  pub cupboard : compareOf (now x) i (now y) j ≡ accepted 2 → LiesAt y ((j - 1) * recordSize) r
 
 -- ---- with lent signs, whose length is asked for after the numbers
 

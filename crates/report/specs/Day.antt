@@ -2,8 +2,9 @@
 use mathlib.Core.Path.{_≡_}
 use mathlib.Core.Bool.{Bool, true, cond}
 use mathlib.Core.List.{List, []}
-use Prim.Native.Nat.{ℕ, _-_}
+use Prim.Native.Nat.{ℕ, _-_, _*_}
 use lib.ListN.{length, replicate}
+use denote.Ref.{RefT, now}
 use Rattle.field.specs.Question.{Outcome, accepted, refused, refusal, isWidth}
 use Rattle.field.specs.declared.Verdict.{Verdict}
 use Rattle.field.specs.declared.Verdict.the-variants.{Passed, Refused}
@@ -11,7 +12,7 @@ use Rattle.code.specs.Word.{Codeword}
 use Rattle.code.specs.declared.Repair.{Repair}
 use Rattle.code.specs.declared.Repair.the-variants.{Restored, Refused as RefusedRepair}
 use Rattle.card.specs.Record.{recordSize, widthOf, wordOf, recordOf, copyWritten}
-use Rattle.card.specs.Card.{recordCount, isNumber, recordAt}
+use Rattle.card.specs.Card.{recordCount, isNumber, recordAt, LiesAt}
 use Rattle.sheet.specs.Sheet.{sheetSize, symbolsOf}
 use Rattle.sheet.specs.Call.{readSheetAsked}
 use Rattle.report.specs.declared.day.Reading.{Reading}
@@ -25,6 +26,11 @@ hasRecord card n = isNumber (recordCount (length card)) n
 -- the slot with the number n, as it stands on the card; nothing where the card has none
 abbrev pub slotOf : List ℕ → ℕ → List ℕ
 slotOf card n = cond (hasRecord card n) (recordAt card (n - 1)) []
+
+-- the part r is the slot with the number n of the lent card: its bytes, and where they lie on it
+pub record SlotPart (card : RefT (List ℕ)) (n : ℕ) (r : RefT (List ℕ)) : Type 0 where
+  pub bytes : now r ≡ slotOf (now card) n
+  pub lies : hasRecord (now card) n ≡ true → LiesAt card ((n - 1) * recordSize) r
 
 -- ---- a record, restored in a copy and read as a day sheet
 

@@ -5,10 +5,10 @@ ghost use lib.ListN.{length};
 ghost use Rattle.field.specs.Question.{accepted};
 ghost use Rattle.code.specs.Demands.{occurs};
 ghost use Rattle.sheet.specs.Sheet.{quarters, sheetSize};
-ghost use Rattle.report.specs.Day.{slotOf, sheet, dayIn};
+ghost use Rattle.report.specs.Day.{sheet, dayIn};
 ghost use Rattle.report.specs.Compare.{signOf, sheetSigns, sameDay, chosenOf, comparedOf, choice, refusedComparison, Shows};
 ghost use Rattle.card.specs.Record.{onAccept};
-ghost use Rattle.report.specs.Compare.{numbersAsked, Compares, partOf, comparePart, intoAsked, ComparesInto};
+ghost use Rattle.report.specs.Compare.{numbersAsked, Compares, PartFrom, HandsBack, intoAsked, ComparesInto};
 use crate::day::Reading;
 use crate::day::has_record;
 use crate::day::read_day;
@@ -202,7 +202,7 @@ pub fn chosen_part<'a>(
     j: usize,
     c: Comparison,
 ) -> &'a [u8]
-    ensures { λ r. ⌜ now r ≡ partOf (choice (c .choice)) (slotOf (now (controller .entry)) i) (slotOf (now (cupboard .entry)) j) ⌝ }
+    ensures { λ r. ⌜ PartFrom (choice (c .choice)) (controller .entry) i (cupboard .entry) j r ⌝ }
 {
     let choice = c.choice;
     match choice {
@@ -222,7 +222,7 @@ pub fn compare_sheets<'a>(
     ensures { λ r.
         ⌜
         Compares (now (controller .entry)) i (now (cupboard .entry)) j (r .comparison)
-        × (now (r .part) ≡ comparePart (now (controller .entry)) i (now (cupboard .entry)) j)
+        × HandsBack (controller .entry) i (cupboard .entry) j (r .part)
         ⌝ }
 {
     let c = compare(controller, i, cupboard, j);

@@ -1,6 +1,6 @@
 // The slots of a card by their numbers, and a record read as a day sheet.
 ghost use mathlib.Core.Path.{_≡_};
-ghost use Rattle.report.specs.Day.{hasRecord, slotOf, Whole, restoredDay, dayOf, Tells};
+ghost use Rattle.report.specs.Day.{hasRecord, SlotPart, Whole, restoredDay, dayOf, Tells};
 use card::cards::is_number;
 use card::cards::record_count;
 use card::cards::record_from;
@@ -31,7 +31,7 @@ pub(crate) fn has_record(card: &[u8], number: usize) -> bool
 
 // The slot with this number, as it stands on the card, or nothing where the card has none.
 pub(crate) fn slot(card: &[u8], number: usize) -> &[u8]
-    ensures { λ r. ⌜ now r ≡ slotOf (now (card .entry)) number ⌝ }
+    ensures { λ r. ⌜ SlotPart (card .entry) number r ⌝ }
 {
     if has_record(card, number) {
         record_from(card, (number - 1) * RECORD)

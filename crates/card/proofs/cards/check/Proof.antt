@@ -29,7 +29,7 @@ returns c =
     let turn = c .before .before .before .before in
     let called = c .before .is-fine in
     checks-refused (turn .before .before .args .card .now) (turn .loop .at) (turn .loop .i) (turn .loop .inv) (called .result) _
-    (called .ensures) (c .before .before .record-from .ensures) (c .before .before .before .loop-test .taken) (c .if1 .taken)
+    (called .ensures) (c .before .before .record-from .ensures .bytes) (c .before .before .before .loop-test .taken) (c .if1 .taken)
 
 sub-if2 : tie.Need-sub-if2 Inv-loop μ-loop
 sub-if2 c = search needs
@@ -39,7 +39,7 @@ returns-2 c =
     let turn = c .before .before .before .before .before in
     let called = c .before .before .is-fine in
     checks-last (turn .before .before .args .card .now) (turn .loop .at) (turn .loop .i) (turn .loop .inv) (called .result) _
-    (called .ensures) (c .before .before .before .record-from .ensures) (c .before .before .before .before .loop-test .taken)
+    (called .ensures) (c .before .before .before .record-from .ensures .bytes) (c .before .before .before .before .loop-test .taken)
     (c .if2 .taken) (c .before .if1 .left)
 
 add-at : tie.Need-add-at Inv-loop μ-loop
@@ -56,7 +56,7 @@ loop-again c =
     let turn = c .before .before .before .before .before in
     let called = c .before .before .is-fine in
     walked-on (turn .before .before .args .card .now) (turn .loop .at) (turn .loop .i) (turn .loop .inv) (called .result) _
-    (called .ensures) (c .before .before .before .record-from .ensures) (c .before .if1 .left)
+    (called .ensures) (c .before .before .before .record-from .ensures .bytes) (c .before .if1 .left)
 
 returns-3 : tie.Need-returns-3 Inv-loop μ-loop
 returns-3 c =

@@ -41,7 +41,7 @@ list-slot-requires c κs =
     let batch = s .args .batch .now in
     let i = turn .loop .i in
     let done = turn .loop .inv .2 in (
-      piece-some batch _ i (c .before .record-from .ensures) (omega arith),
+      piece-some batch _ i (c .before .record-from .ensures .bytes) (omega arith),
       omega (arith, done .text .behind, lines-short (s .args .s .next) batch i),
       progress-within (2 ^ 62) (2 ^ 63) (s .args .s) _ batch i (done .progress) (s .pre .2) (omega arith),
     )
@@ -58,7 +58,7 @@ loop-again c =
     let s = turn .before .before .before .before in (
       omega arith,
       omega arith,
-      lists-more (s .args .s) (s .args .batch .now) (turn .loop .i) _ (c .before .before .before .before .record-from .ensures)
+      lists-more (s .args .s) (s .args .batch .now) (turn .loop .i) _ (c .before .before .before .before .record-from .ensures .bytes)
           (turn .loop .inv .2) (c .before .before .list-slot .ensures),
     )
 

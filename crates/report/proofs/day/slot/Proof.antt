@@ -1,6 +1,7 @@
 -- `report::day::slot` meets its contract. Assumes nothing.
 use borrow.Author.Needs.{needs}
 use mathlib.Core.Path.{sym, _∙_}
+use mathlib.Core.Bool.{false≢true}
 use Prim.Native.Nat.{_≤_}
 use native.Mathlib.Omega.{arith}
 use lib.ListN.{length}
@@ -46,13 +47,21 @@ returns : tie.Need-returns
 returns c =
     let s = c .before .before in
     let a = s .before .before .args in
-    c .record-from .ensures ∙ slot-some (a .card .now) (a .number) (s .has-record .result) (s .has-record .ensures) (c .before .if1 .taken)
+    record {
+      bytes = c .record-from .ensures .bytes
+          ∙ slot-some (a .card .now) (a .number) (s .has-record .result) (s .has-record .ensures) (c .before .if1 .taken);
+      lies = λ h. c .record-from .ensures .lies;
+    }
 
 returns-2 : tie.Need-returns-2
 returns-2 c =
     let s = c .before .before in
     let a = s .before .before .args in
-    slot-none (a .card .now) (a .number) (s .has-record .result) (s .has-record .ensures) (c .before .if1 .left)
+    let none = s .has-record .ensures in
+    record {
+      bytes = slot-none (a .card .now) (a .number) (s .has-record .result) none (c .before .if1 .left);
+      lies = λ h. absurd (false≢true (sym (c .before .if1 .left) ∙ none ∙ h));
+    }
 
 pub slot-spec : {M : Type 1} → statement M
 slot-spec =

@@ -57,7 +57,7 @@ loop-again c =
     let a = l .before .before .before .args in (
       omega arith,
       omega arith,
-      slots-on (a .w) (a .report .now) (a .part .now) (l .loop .i) _ _ _ (l .loop .inv .2) (found .record-from .ensures) (added .add-slot .ensures),
+      slots-on (a .w) (a .report .now) (a .part .now) (l .loop .i) _ _ _ (l .loop .inv .2) (found .record-from .ensures .bytes) (added .add-slot .ensures),
     )
 
 same-length : tie.Need-same-length Inv-loop μ-loop
