@@ -1,6 +1,6 @@
 -- The demands of specs/Demands.antt, each under its name in small letters. Assumes nothing.
 use Rattle.card.proofs.Again as Again
-use Rattle.walk.specs.Demands.{RestoredAgain, WalkDone, EachAlone, AfterEnd, OtherLength, RefusedStep, LookBetween}
+use Rattle.walk.specs.Demands.{RestoredAgain, WalkDone, WalkThrough, EachAlone, AfterEnd, OtherLength, RefusedStep, LookBetween, LookAmong}
 use Rattle.walk.proofs.Restoring as Restoring
 use Rattle.walk.proofs.Walking as Walking
 use Rattle.walk.proofs.Looking as Looking
@@ -10,6 +10,9 @@ restored-again = Again.restored-again
 
 pub walk-done : WalkDone
 walk-done = Walking.walk-done
+
+pub walk-through : WalkThrough
+walk-through = Walking.walk-through
 
 pub each-alone : EachAlone
 each-alone = Restoring.each-alone
@@ -25,3 +28,6 @@ refused-step = Walking.refused-step
 
 pub look-between : LookBetween
 look-between = Looking.look-between
+
+pub look-among : LookAmong
+look-among = Looking.look-among

@@ -2,7 +2,7 @@
 use borrow.Author.Tests.{eq-eqb, ne-eqb, eqb-true}
 use mathlib.Core.Path.{_≡_, refl, sym, ap, ap₂, _∙_}
 use mathlib.Core.Bool.{Bool, true, false}
-use mathlib.Core.List.{List}
+use mathlib.Core.List.{List, [], _∷_}
 use Prim.Native.Nat.{ℕ, _+_, _-_, _*_, _≤_, _<_}
 use native.Mathlib.Decide.{decLt}
 use native.Mathlib.Omega.{arith}
@@ -23,13 +23,14 @@ use Rattle.card.specs.Record.{headerSize, recordSize, wordOf, recordOf, onAccep
 use Rattle.card.specs.Card.{recordCount, recordAt, isNumber, recordNumbered}
 use Rattle.card.proofs.Recording.{copy-whole}
 use Rattle.card.proofs.Again.{refused-stays, accepted-whole, restored-again, restored-symbols, written-size, written-again}
-use Rattle.walk.specs.Restored.{restoredFirst}
-use Rattle.walk.specs.Walk.{afterSteps}
+use Rattle.walk.specs.declared.Walk.{Walk}
+use Rattle.walk.specs.Restored.{restoredFirst, restoredFrom}
+use Rattle.walk.specs.Walk.{stepAsked, stepCount, stepWritten, afterSteps, afterStates}
 use Rattle.walk.specs.Look.{rowSize, inRow, symbolsOf, uncounted, Shows, lookAsked, lookOf, lookWritten, Looks}
-use Rattle.walk.specs.Demands.{Tells, LookBetween}
+use Rattle.walk.specs.Demands.{Tells, LookBetween, LookAmong}
 use Rattle.card.proofs.Numbering.{number-yes, number-low, number-high}
-use Rattle.walk.proofs.Restoring.{first-size, record-restored, record-untouched}
-use Rattle.walk.proofs.Walking.{reached, at-moment}
+use Rattle.walk.proofs.Restoring.{first-size, from-size, from-none, record-restored, record-untouched, record-before, record-behind, record-there}
+use Rattle.walk.proofs.Walking.{going-low, card-by, reached, at-moment}
 
 -- ---- at one record
 
@@ -157,37 +158,87 @@ first-shown k i card h = go (decLt i k)
     go (yes l) = rw (record-restored k i card h l) (restored-shown (recordAt card i))
     go (no n) = rw (record-untouched k i card h (omega arith)) (record { answer = refl; symbols = refl })
 
+-- the same with k records behind the first f restored
+from-shown : (f k i : ℕ) (card : List ℕ) → f * recordSize ≤ length card → i * recordSize < length card
+    → SameShown (recordAt card i) (recordAt (restoredFrom f k card) i)
+from-shown f k i card hf h = go (decLt i f)
+  where
+    go : Dec (i < f) → SameShown (recordAt card i) (recordAt (restoredFrom f k card) i)
+    go (yes l) = rw (record-before f k i card hf l) (record { answer = refl; symbols = refl })
+    go (no n) =
+        let l : f ≤ i = omega arith in
+        let rest : (i - f) * recordSize < length (drop (f * recordSize) card) = simp length-drop (omega arith) in
+        rw (record-behind f k i card hf l, ← record-there f k i card hf l) (first-shown k (i - f) (drop (f * recordSize) card) rest)
+
 -- a look at any number, range or not, gives the same on both cards
 pub record SameLook (old new : List ℕ) (number : ℕ) (row : List ℕ) : Type 0 where
   pub answer : lookOf new number row ≡ lookOf old number row
   pub symbols : lookWritten new number row ≡ lookWritten old number row
 
+-- cards of one length, each record of which shows the same
+module _ (card new : List ℕ) (size : length new ≡ length card) (number : ℕ) (row : List ℕ)
+    (shown : (i : ℕ) → i * recordSize < length card → SameShown (recordAt card i) (recordAt new i)) where
+  same-look : SameLook card new number row
+  same-look = go (lookAsked (length card) number (length row)) refl
+    where
+      same-asked : lookAsked (length card) number (length row) ≡ lookAsked (length new) number (length row)
+      same-asked = ap (λ (n : ℕ). lookAsked n number (length row)) (sym size)
+
+      go : (v : Verdict) → v ≡ lookAsked (length card) number (length row) → SameLook card new number row
+      go (Refused q) e =
+          record {
+            answer = sym (answer-by new number row (Refused q) (e ∙ same-asked)) ∙ answer-by card number row (Refused q) e;
+            symbols = sym (written-by new number row (Refused q) (e ∙ same-asked)) ∙ written-by card number row (Refused q) e;
+          }
+      go Passed e =
+          let s = shown (number - 1) (looked-at (length card) number (length row) Passed e refl) in
+          record {
+            answer = sym (answer-by new number row Passed (e ∙ same-asked)) ∙ s .answer ∙ answer-by card number row Passed e;
+            symbols = sym (written-by new number row Passed (e ∙ same-asked))
+                ∙ ap₂ (λ (o : Outcome) (x : List ℕ). onAccept o row x) (s .answer) (s .symbols)
+                ∙ written-by card number row Passed e;
+          }
+
 pub first-look : (card : List ℕ) (k number : ℕ) (row : List ℕ) → SameLook card (restoredFirst k card) number row
-first-look card k number row = go (lookAsked (length card) number (length row)) refl
-  where
-    treated : List ℕ
-    treated = restoredFirst k card
-
-    same : lookAsked (length card) number (length row) ≡ lookAsked (length treated) number (length row)
-    same = ap (λ (n : ℕ). lookAsked n number (length row)) (sym (first-size k card))
-
-    go : (v : Verdict) → v ≡ lookAsked (length card) number (length row) → SameLook card treated number row
-    go (Refused q) e =
-        record {
-          answer = sym (answer-by treated number row (Refused q) (e ∙ same)) ∙ answer-by card number row (Refused q) e;
-          symbols = sym (written-by treated number row (Refused q) (e ∙ same)) ∙ written-by card number row (Refused q) e;
-        }
-    go Passed e =
-        let s = first-shown k (number - 1) card (looked-at (length card) number (length row) Passed e refl) in
-        record {
-          answer = sym (answer-by treated number row Passed (e ∙ same)) ∙ s .answer ∙ answer-by card number row Passed e;
-          symbols = sym (written-by treated number row Passed (e ∙ same))
-              ∙ ap₂ (λ (o : Outcome) (x : List ℕ). onAccept o row x) (s .answer) (s .symbols)
-              ∙ written-by card number row Passed e;
-        }
+first-look card k number row = same-look card (restoredFirst k card) (first-size k card) number row (λ i h. first-shown k i card h)
 
 pub look-same : (card : List ℕ) (k number : ℕ) (row : List ℕ) → SameLook card (afterSteps k card .card) number row
 look-same card k number row = rw (at-moment k card) (first-look card (reached k card) number row)
+
+-- after one step in any state
+step-look : (w : Walk) (card : List ℕ) (number : ℕ) (row : List ℕ) → SameLook card (stepWritten w card) number row
+step-look w card number row = go (stepAsked w (length card)) refl
+  where
+    unchanged : SameLook card card number row
+    unchanged = record { answer = refl; symbols = refl }
+
+    f : ℕ
+    f = w .next - 1
+
+    count : ℕ
+    count = stepCount w (length card)
+
+    treated : 1 ≤ w .next → Dec (f < recordCount (length card)) → SameLook card (restoredFrom f count card) number row
+    treated l (yes h) =
+        same-look card (restoredFrom f count card) (from-size f count card) number row (λ i hi. from-shown f count i card (omega arith) hi)
+    treated l (no n) =
+        let none : count ≡ 0 = omega arith in
+        rw (none, from-none f card) unchanged
+
+    go : (v : Verdict) → v ≡ stepAsked w (length card) → SameLook card (stepWritten w card) number row
+    go (Refused q) e = rw (← card-by w card (Refused q) e) unchanged
+    go Passed e =
+        rw (← card-by w card Passed e)
+        (treated (going-low w (length card) Passed e refl) (decLt f (recordCount (length card))))
+
+-- after steps in any states
+among-same : (ws : List Walk) (card : List ℕ) (number : ℕ) (row : List ℕ) → SameLook card (afterStates ws card) number row
+unfolding afterStates
+among-same [] card number row = record { answer = refl; symbols = refl }
+among-same (w ∷ ws) card number row =
+    let first = step-look w card number row in
+    let others = among-same ws (stepWritten w card) number row in
+    record { answer = others .answer ∙ first .answer; symbols = others .symbols ∙ first .symbols }
 
 -- a look at record i of a card that shows the same
 look-tells : (card now : List ℕ) (i : ℕ) (row : List ℕ) → i < recordCount (length card) → length row ≡ rowSize
@@ -210,3 +261,6 @@ look-tells card now i row h s same =
 
 pub look-between : LookBetween
 look-between card k i row h s = look-tells card (afterSteps k card .card) i row h s (look-same card k (i + 1) row)
+
+pub look-among : LookAmong
+look-among card ws i row h s = look-tells card (afterStates ws card) i row h s (among-same ws card (i + 1) row)

@@ -6,7 +6,7 @@ use native.Mathlib.Decide.{decLt}
 use native.Mathlib.Nat.{zero-add}
 use native.Mathlib.Omega.{arith}
 use lib.ListN.{length, take, drop, length-append, length-take, length-drop, take-append-drop, drop-of-length-le}
-use lib.Seq.{take-at, drop-at, take-take, take-all, drop-drop, drop-append-add}
+use lib.Seq.{take-at, drop-at, take-take, take-all, take-append-le, drop-drop, drop-append-le, drop-append-add}
 use Rattle.card.specs.Record.{recordSize, recordWritten}
 use Rattle.card.specs.Card.{recordCount, recordAt}
 use Rattle.card.proofs.Again.{written-size}
@@ -258,6 +258,41 @@ module _ (k i : ℕ) (card : List ℕ) (h : i * recordSize < length card) where
       place = omega (arith, front-size k l)
 
       same : k * recordSize + (i - k) * recordSize ≡ i * recordSize
+      same = omega arith
+
+-- ---- record i of a card of which k records behind the first f are restored
+
+module _ (f k i : ℕ) (card : List ℕ) (h : f * recordSize ≤ length card) where
+  before-size : length (take (f * recordSize) card) ≡ f * recordSize
+  before-size = length-take (f * recordSize) card ∙ omega arith
+
+  pub record-before : i < f → recordAt (restoredFrom f k card) i ≡ recordAt card i
+  record-before l =
+      ap (take recordSize) (drop-append-le (i * recordSize) (take (f * recordSize) card) _ (omega (arith, before-size)))
+      ∙ take-append-le recordSize (drop (i * recordSize) (take (f * recordSize) card)) _ room
+      ∙ ap (λ (n : ℕ). take recordSize (drop (i * recordSize) (take n card))) more
+      ∙ ap (take recordSize) (drop-take (i * recordSize) ((f - i) * recordSize) card)
+      ∙ take-take recordSize ((f - i) * recordSize) (drop (i * recordSize) card) (omega arith)
+    where
+      room : recordSize ≤ length (drop (i * recordSize) (take (f * recordSize) card))
+      room = omega (arith, length-drop (i * recordSize) (take (f * recordSize) card), before-size)
+
+      more : f * recordSize ≡ i * recordSize + (f - i) * recordSize
+      more = omega arith
+
+  -- behind them it is a record of what stands there
+  pub record-behind : f ≤ i → recordAt (restoredFrom f k card) i ≡ recordAt (restoredFirst k (drop (f * recordSize) card)) (i - f)
+  record-behind l =
+      ap (λ (n : ℕ). take recordSize (drop n (restoredFrom f k card))) place
+      ∙ ap (take recordSize) (drop-append-add (take (f * recordSize) card) _ ((i - f) * recordSize))
+    where
+      place : i * recordSize ≡ length (take (f * recordSize) card) + (i - f) * recordSize
+      place = omega (arith, before-size)
+
+  pub record-there : f ≤ i → recordAt (drop (f * recordSize) card) (i - f) ≡ recordAt card i
+  record-there l = ap (take recordSize) (drop-drop ((i - f) * recordSize) (f * recordSize) card ∙ ap (λ (n : ℕ). drop n card) same)
+    where
+      same : f * recordSize + (i - f) * recordSize ≡ i * recordSize
       same = omega arith
 
 pub each-alone : EachAlone

@@ -19,8 +19,8 @@ use Rattle.card.specs.Card.{recordCount, isNumber}
 use Rattle.walk.specs.declared.Walk.{Walk}
 use Rattle.walk.specs.Restored.{restoredFirst, restoredFrom}
 use Rattle.walk.specs.Walk.{stepRecords, walkAt, stepAsked, stepCount, stateAfter, stepState, stepWritten, Steps}
-use Rattle.walk.specs.Walk.{Moment, stepped, afterSteps, stepsOf}
-use Rattle.walk.specs.Demands.{WalkDone, AfterEnd, OtherLength, RefusedStep, Unmoved}
+use Rattle.walk.specs.Walk.{Moment, stepped, afterSteps, stepsOf, stateOver}
+use Rattle.walk.specs.Demands.{WalkDone, WalkThrough, AfterEnd, OtherLength, RefusedStep, Unmoved}
 use Rattle.card.proofs.Numbering.{number-yes, number-low, number-high}
 use Rattle.walk.proofs.Restoring.{first-size, first-on, from-none}
 
@@ -130,14 +130,48 @@ after-end w card e n =
       },
     )
 
--- ---- the moment after k steps
+-- ---- the state after k steps over cards of n bytes
 
 -- so many records are treated in k steps
+abbrev reachedIn : ℕ → ℕ → ℕ
+reachedIn k n = min (k * stepRecords) (recordCount n)
+
+abbrev stateIn : ℕ → ℕ → Walk
+stateIn k n = walkAt n (reachedIn k n + 1)
+
+module _ (k n : ℕ) (card : List ℕ) (size : length card ≡ n) where
+  asked-in : Passed ≡ stepAsked (stateIn k n) (length card)
+  asked-in = step-passed (stateIn k n) (length card) size (omega arith) (omega (arith, size))
+
+  state-in : stepState (stateIn k n) card ≡ stateIn (suc k) n
+  state-in = sym (state-by (stateIn k n) card Passed asked-in) ∙ ap (walkAt n) more
+    where
+      more : reachedIn k n + 1 + stepCount (stateIn k n) (length card) ≡ reachedIn (suc k) n + 1
+      more = omega (arith, size)
+
+module _ (n : ℕ) (cards : ℕ → List ℕ) (sizes : (j : ℕ) → length (cards j) ≡ n) where
+  state-over : (k : ℕ) → stateOver n cards k ≡ stateIn k n
+  unfolding stateOver
+  state-over zero = let none : 1 ≡ reachedIn 0 n + 1 = omega arith in ap (walkAt n) none
+  state-over (suc k) = ap (λ (w : Walk). stepState w (cards k)) (state-over k) ∙ state-in k n (cards k) (sizes k)
+
+pub walk-through : WalkThrough
+walk-through n cards sizes =
+    let steps = stepsOf (recordCount n) in
+    let all : reachedIn steps n + 1 ≡ recordCount n + 1 = omega arith in
+    record {
+      passed = λ j. rw (state-over n cards sizes j) (sym (ap done (asked-in j n (cards j) (sizes j))));
+      not-before = λ j h. rw (state-over n cards sizes j) (omega arith);
+      next = rw (state-over n cards sizes steps) all;
+    }
+
+-- ---- the moment after k steps
+
 abbrev pub reached : ℕ → List ℕ → ℕ
-reached k card = min (k * stepRecords) (recordCount (length card))
+reached k card = reachedIn k (length card)
 
 abbrev stateAt : ℕ → List ℕ → Walk
-stateAt k card = walkAt (length card) (reached k card + 1)
+stateAt k card = stateIn k (length card)
 
 abbrev cardAt : ℕ → List ℕ → List ℕ
 cardAt k card = restoredFirst (reached k card) card
@@ -147,13 +181,10 @@ module _ (k : ℕ) (card : List ℕ) where
   size = first-size (reached k card) card
 
   asked-at : Passed ≡ stepAsked (stateAt k card) (length (cardAt k card))
-  asked-at = step-passed (stateAt k card) (length (cardAt k card)) size (omega arith) (omega (arith, size))
+  asked-at = asked-in k (length card) (cardAt k card) size
 
   state-on : stepState (stateAt k card) (cardAt k card) ≡ stateAt (suc k) card
-  state-on = sym (state-by (stateAt k card) (cardAt k card) Passed asked-at) ∙ ap (walkAt (length card)) more
-    where
-      more : reached k card + 1 + stepCount (stateAt k card) (length (cardAt k card)) ≡ reached (suc k) card + 1
-      more = omega (arith, size)
+  state-on = state-in k (length card) (cardAt k card) size
 
   card-on : stepWritten (stateAt k card) (cardAt k card) ≡ cardAt (suc k) card
   card-on =

@@ -10,7 +10,7 @@ use Rattle.card.specs.Record.{recordOf, recordWritten}
 use Rattle.card.specs.Card.{recordCount, recordAt}
 use Rattle.walk.specs.declared.Walk.{Walk}
 use Rattle.walk.specs.Restored.{restoredCard}
-use Rattle.walk.specs.Walk.{stepOf, stepState, stepWritten, afterSteps, stepsOf}
+use Rattle.walk.specs.Walk.{stepOf, stepState, stepWritten, afterSteps, stepsOf, stateOver, afterStates}
 use Rattle.walk.specs.Look.{rowSize, symbolsOf, lookOf, lookWritten}
 
 -- ---- restoring again
@@ -33,6 +33,16 @@ pub record Done (k : ℕ) (card : List ℕ) : Type 0 where
 -- after N / 16 steps, rounded up, it is done
 abbrev pub WalkDone : Type 0
 WalkDone = (card : List ℕ) → Done (stepsOf (recordCount (length card))) card
+
+-- the cards that are lent, each of n bytes, may hold anything: no step is ever refused, and the next record is N + 1 after N / 16 steps,
+-- rounded up, and not before
+pub record Through (n : ℕ) (cards : ℕ → List ℕ) : Type 0 where
+  pub passed : (j : ℕ) → stepOf (stateOver n cards j) (cards j) ≡ accepted 0
+  pub not-before : (j : ℕ) → j < stepsOf (recordCount n) → stateOver n cards j .next ≤ recordCount n
+  pub next : stateOver n cards (stepsOf (recordCount n)) .next ≡ recordCount n + 1
+
+abbrev pub WalkThrough : Type 0
+WalkThrough = (n : ℕ) (cards : ℕ → List ℕ) → ((j : ℕ) → length (cards j) ≡ n) → Through n cards
 
 -- the card then has its length, and each record is as if it had been restored alone
 pub record Alone (old new : List ℕ) : Type 0 where
@@ -75,3 +85,9 @@ abbrev pub LookBetween : Type 0
 LookBetween =
     (card : List ℕ) (k i : ℕ) (row : List ℕ) → i < recordCount (length card) → length row ≡ rowSize
     → Tells card (afterSteps k card .card) i row
+
+-- the same after steps of any walks over the card, in whatever states they were handed, refused ones among them
+abbrev pub LookAmong : Type 0
+LookAmong =
+    (card : List ℕ) (ws : List Walk) (i : ℕ) (row : List ℕ) → i < recordCount (length card) → length row ≡ rowSize
+    → Tells card (afterStates ws card) i row

@@ -1,6 +1,6 @@
 -- A walk over a card: one step restores up to 16 records, in card order. N is the number of records of the card. Assumes nothing.
 use mathlib.Core.Path.{_≡_}
-use mathlib.Core.List.{List}
+use mathlib.Core.List.{List, [], _∷_}
 use Prim.Native.Nat.{ℕ, zero, suc, _+_, _-_, _/_, min}
 use lib.Dec.{eqb}
 use lib.ListN.{length}
@@ -73,3 +73,16 @@ afterSteps (suc k) card = stepped (afterSteps k card)
 -- the number of steps of a whole walk over N records: N / 16, rounded up
 abbrev pub stepsOf : ℕ → ℕ
 stepsOf N = (N + (stepRecords - 1)) / stepRecords
+
+-- ---- the same, each step lent a card of its own; only the lengths of the cards enter
+
+-- the state after k steps of a walk that began with a card of n bytes; step j, counted from 0, is lent the card `cards j`
+unfoldable pub stateOver : ℕ → (ℕ → List ℕ) → ℕ → Walk
+stateOver n cards zero = begun n
+stateOver n cards (suc k) = stepState (stateOver n cards k) (cards k)
+
+-- ---- steps of any walks, one after the other, all lent the same card: the card after a step in each of these states, refused steps too
+
+unfoldable pub afterStates : List Walk → List ℕ → List ℕ
+afterStates [] card = card
+afterStates (w ∷ ws) card = afterStates ws (stepWritten w card)
