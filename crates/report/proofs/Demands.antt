@@ -21,13 +21,13 @@ use Rattle.report.specs.Day.{hasRecord, slotOf, Day, sheet, noSheet, day
 use Rattle.report.specs.Compare.{signsOf, sheetSigns, sameDay, chosenOf, comparedOf, shownSigns, shownTotal}
 use Rattle.report.specs.Compare.{symbolsAt, numbersAsked, compareOf, compareSigns, compareTotal, partOf}
 use Rattle.report.specs.Demands.{Agreed, CompareAccepts, SignsStand, TotalsCount, TotalsMake, StandsAt, PartStands, RefusedNothing}
-use Rattle.report.specs.Demands.{AllCounted, MeanStands, HighestStands, Ordered, PartsAdded, QuartersRead}
+use Rattle.report.specs.Demands.{AllCounted, TotalsStand, KindsCounted, MoreSaid, MeanStands, HighestStands, Ordered, PartsAdded, QuartersRead}
 use Rattle.report.proofs.Days.{slot-some, is-sheet}
 use Rattle.report.proofs.Comparing.{sheet-signs-long, sheet-signs-at, compared-number, compared-other}
 use Rattle.report.proofs.Order.{earlier-irreflexive, earlier-transitive, earlier-total}
 use Rattle.report.proofs.Reports.{in-parts}
 use Rattle.report.proofs.Quarters.{stands-for, quarter-texts}
-use Rattle.report.proofs.Starts.{all-looked, row-mean, row-none, row-highest}
+use Rattle.report.proofs.Starts.{all-looked, row-totals, refused-total, blank-total, goes-on, goes-not-on, row-mean, row-none, row-highest}
 
 -- ---- two day sheets side by side
 
@@ -160,6 +160,15 @@ refused-nothing c i d j n e = (
 
 pub all-counted : AllCounted
 all-counted w card h = (all-looked w h card, omega arith)
+
+pub totals-stand : TotalsStand
+totals-stand w card p h l = row-totals w h card p l
+
+pub kinds-counted : KindsCounted
+kinds-counted w card h = (refused-total w h card, blank-total w h card)
+
+pub more-said : MoreSaid
+more-said w card h = (goes-on w h card, goes-not-on w h card)
 
 pub mean-stands : MeanStands
 mean-stands w card p h l = (row-mean w h card p l, row-none w h card p l)

@@ -7,12 +7,13 @@ use Prim.Native.Nat.{ℕ, zero, suc, _+_, _-_, _*_, _≤_, _<_}
 use native.Mathlib.Decide.{ℕ-discrete}
 use native.Mathlib.Nat.{div-add-mod', mod-lt}
 use native.Mathlib.Omega.{arith}
-use borrow.Author.Tests.{eqb-true, eqb-false, leb-true, leb-false}
+use borrow.Author.Tests.{eq-eqb, ne-eqb, eqb-true, eqb-false, leb-true, leb-false, lt-ltb, le-ltb}
 use lib.Dec.{eqb, leb}
 use lib.ListN.{length, getD, set, take, drop, replicate, take-append-drop, length-take, length-drop, length-replicate, getD-replicate}
 use lib.Seq.{take-all, getD-take, getD-drop, getD-set-same, getD-set-other, ext-getD, length-take-le}
 use Rattle.field.specs.Question.{accepted, refused}
 use Rattle.code.specs.Word.{at}
+use Rattle.code.specs.Demands.{occurs}
 use Rattle.card.specs.Record.{recordSize}
 use Rattle.card.specs.Card.{recordCount, recordAt, isBlank}
 use Rattle.card.specs.Listing.{mostRecords, listedPart}
@@ -20,10 +21,10 @@ use Rattle.card.proofs.Blank.{blank-refused}
 use Rattle.card.proofs.Lines.{record-front}
 use Rattle.sheet.specs.Sheet.{pumpAt}
 use Rattle.report.specs.Day.{Day, sheet, noSheet, dayOf}
-use Rattle.report.specs.Window.{isWindow, countsIn, highestOf, countsOf, dateOf, below, earlier, leads, peakOf, rowWith}
+use Rattle.report.specs.Window.{isWindow, countsIn, sumOf, fullCount, highestOf, countsOf, dateOf, below, earlier, leads, peakOf, rowWith}
 use Rattle.report.specs.Window.{pumps, rowSize, refusedAt, blankAt, moreAt, reportSize, rowFrom, rowOf, withRow, oneMore, noReport}
 use Rattle.report.specs.Window.{dayAdded, slotAdded, slotsAdded, partAdded, goesOn, reportOf, Countable}
-use Rattle.report.specs.Demands.{looked, sheetsBelow, noRow, CountAt, Highest}
+use Rattle.report.specs.Demands.{looked, sheetsBelow, overSlots, ofSheet, ofPump, Totals, oneBlank, oneUnread, oneRefused, noRow, CountAt, Highest}
 use Rattle.report.specs.declared.window.Window.{Window}
 use Rattle.report.specs.declared.window.Date.{Date}
 use Rattle.report.specs.declared.window.Peak.{Peak}
@@ -230,6 +231,14 @@ one-sheet : (w : Window) (r : Row) (ss : List ℕ) → rowWith w r ss .sheets �
 unfolding rowWith
 one-sheet w r ss = refl
 
+sum-more : (w : Window) (r : Row) (ss : List ℕ) → rowWith w r ss .sum ≡ r .sum + sumOf (countsIn w ss)
+unfolding rowWith countsOf
+sum-more w r ss = refl
+
+full-more : (w : Window) (r : Row) (ss : List ℕ) → rowWith w r ss .full ≡ r .full + occurs fullCount (countsIn w ss)
+unfolding rowWith countsOf
+full-more w r ss = refl
+
 -- ---- slot by slot
 
 -- a blank slot is no day sheet
@@ -238,6 +247,13 @@ blank-no-sheet slot n ss b e =
     let f : refused 1 ≡ accepted n = sym (blank-refused slot b .0) ∙ is-sheet slot n ss e .restored in
     let z : _≡_ {A = ℕ} 0 1 = cc in
     omega arith
+
+blank-nothing : (slot : List ℕ) → isBlank slot ≡ true → (p : ℕ) (f : List ℕ → ℕ) → ofPump p f slot ≡ 0
+blank-nothing slot b p f = go (dayOf slot) refl
+  where
+    go : (d : Day) → dayOf slot ≡ d → ofSheet p f d ≡ 0
+    go (sheet n ss) e = absurd (blank-no-sheet slot n ss b e)
+    go (noSheet n) e = refl
 
 module _ (w : Window) (wh : isWindow w ≡ true) (part : List ℕ) where
   -- the report behind the first k slots
@@ -250,8 +266,8 @@ module _ (w : Window) (wh : isWindow w ≡ true) (part : List ℕ) where
   -- the next slot is blank, refused or a day sheet
   data Slot (k : ℕ) : Type 0 where
     blank : isBlank (recordAt part k) ≡ true → R (suc k) ≡ oneMore blankAt (R k) → Slot k
-    none : (n : ℕ) → dayOf (recordAt part k) ≡ noSheet n → R (suc k) ≡ oneMore refusedAt (R k) → Slot k
-    some : (n : ℕ) (ss : List ℕ) → dayOf (recordAt part k) ≡ sheet n ss
+    none : (n : ℕ) → isBlank (recordAt part k) ≡ false → dayOf (recordAt part k) ≡ noSheet n → R (suc k) ≡ oneMore refusedAt (R k) → Slot k
+    some : (n : ℕ) (ss : List ℕ) → isBlank (recordAt part k) ≡ false → dayOf (recordAt part k) ≡ sheet n ss
         → R (suc k) ≡ withRow (R k) (at ss pumpAt) (rowWith w (rowOf (R k) (at ss pumpAt)) ss) → Slot k
 
   slot : (k : ℕ) → Slot k
@@ -264,8 +280,8 @@ module _ (w : Window) (wh : isWindow w ≡ true) (part : List ℕ) where
 
       go : (b : Bool) (d : Day) → isBlank (recordAt part k) ≡ b → dayOf (recordAt part k) ≡ d → Slot k
       go true d eb ed = blank eb (added true d eb ed)
-      go false (noSheet n) eb ed = none n ed (added false (noSheet n) eb ed)
-      go false (sheet n ss) eb ed = some n ss ed (added false (sheet n ss) eb ed)
+      go false (noSheet n) eb ed = none n eb ed (added false (noSheet n) eb ed)
+      go false (sheet n ss) eb ed = some n ss eb ed (added false (sheet n ss) eb ed)
 
   -- the row of each pump
   module _ (p : ℕ) (h : p < pumps) where
@@ -278,11 +294,11 @@ module _ (w : Window) (wh : isWindow w ≡ true) (part : List ℕ) where
         go (blank b e) Z =
             subst (Seen w part (suc k) p) (sym (ap (λ (x : List ℕ). rowOf x p) e ∙ row-kept (R k) blankAt _ p h (omega arith)))
             (seen-other w part k p (rowOf (R k) p) Z (λ n ss I. blank-no-sheet (recordAt part k) n ss b (I .day)))
-        go (none n d e) Z =
+        go (none n b d e) Z =
             subst (Seen w part (suc k) p) (sym (ap (λ (x : List ℕ). rowOf x p) e ∙ row-kept (R k) refusedAt _ p h (omega arith)))
             (seen-other w part k p (rowOf (R k) p) Z
             (λ m ss I. let f : noSheet n ≡ sheet m ss = sym d ∙ I .day in let z : _≡_ {A = ℕ} 0 1 = cc in omega arith))
-        go (some n ss d e) Z = here (ℕ-discrete p (at ss pumpAt))
+        go (some n ss b d e) Z = here (ℕ-discrete p (at ss pumpAt))
           where
             fits : at ss pumpAt * rowSize + rowSize ≤ length (R k)
             fits = row-fits _ (R k) (countable k) (at ss pumpAt) (pump-small ss (is-sheet (recordAt part k) n ss d .symbols))
@@ -299,6 +315,85 @@ module _ (w : Window) (wh : isWindow w ≡ true) (part : List ℕ) where
                 (sym (ap (λ (y : List ℕ). rowOf y p) e ∙ other-row (R k) (at ss pumpAt) (rowWith w (rowOf (R k) (at ss pumpAt)) ss) fits p f))
                 (seen-other w part k p (rowOf (R k) p) Z
                 (λ m ts I. f (sym (I .pump) ∙ sym (ap (λ (us : List ℕ). at us pumpAt) (same-sheet (dayOf (recordAt part k)) n m ss ts d (I .day))))))
+
+    -- a number of the row to which each sheet adds f of its symbols
+    module _ (g : Row → ℕ) (f : List ℕ → ℕ) (start : g noRow ≡ 0) (further : (r : Row) (ss : List ℕ) → g (rowWith w r ss) ≡ g r + f ss) where
+      total : (k : ℕ) → g (rowOf (R k) p) ≡ overSlots (ofPump p f) part k
+      unfolding slotsAdded overSlots
+      total zero = ap g (zero-row reportSize p (omega arith)) ∙ start
+      total (suc k) = go (slot k) (total k)
+        where
+          kept : rowOf (R (suc k)) p ≡ rowOf (R k) p → ofPump p f (recordAt part k) ≡ 0 → g (rowOf (R k) p) ≡ overSlots (ofPump p f) part k
+              → g (rowOf (R (suc k)) p) ≡ overSlots (ofPump p f) part k + ofPump p f (recordAt part k)
+          kept e z c = ap g e ∙ omega (arith, c, z)
+
+          go : Slot k → g (rowOf (R k) p) ≡ overSlots (ofPump p f) part k
+              → g (rowOf (R (suc k)) p) ≡ overSlots (ofPump p f) part k + ofPump p f (recordAt part k)
+          go (blank b e) c =
+              kept (ap (λ (x : List ℕ). rowOf x p) e ∙ row-kept (R k) blankAt _ p h (omega arith)) (blank-nothing (recordAt part k) b p f) c
+          go (none n b d e) c = kept (ap (λ (x : List ℕ). rowOf x p) e ∙ row-kept (R k) refusedAt _ p h (omega arith)) (ap (ofSheet p f) d) c
+          go (some n ss b d e) c = here (ℕ-discrete p (at ss pumpAt))
+            where
+              fits : at ss pumpAt * rowSize + rowSize ≤ length (R k)
+              fits = row-fits _ (R k) (countable k) (at ss pumpAt) (pump-small ss (is-sheet (recordAt part k) n ss d .symbols))
+
+              here : Dec (p ≡ at ss pumpAt) → g (rowOf (R (suc k)) p) ≡ overSlots (ofPump p f) part k + ofPump p f (recordAt part k)
+              here (yes q) =
+                  let same : rowOf (R (suc k)) p ≡ rowWith w (rowOf (R k) p) ss
+                  = ap (λ (y : List ℕ). rowOf y p) e
+                  ∙ subst (λ (s : ℕ). rowOf (withRow (R k) (at ss pumpAt) (rowWith w (rowOf (R k) (at ss pumpAt)) ss)) s ≡ rowWith w (rowOf (R k) s) ss) (sym q)
+                  (same-row (R k) (at ss pumpAt) (rowWith w (rowOf (R k) (at ss pumpAt)) ss) fits) in
+                  let mine : ofPump p f (recordAt part k) ≡ f ss
+                  = ap (ofSheet p f) d ∙ ap (λ (y : Bool). cond y (f ss) 0) (eq-eqb (at ss pumpAt) p (sym q)) in
+                  ap g same ∙ further (rowOf (R k) p) ss ∙ omega (arith, c, mine)
+              here (no q) =
+                  kept (ap (λ (y : List ℕ). rowOf y p) e ∙ other-row (R k) (at ss pumpAt) (rowWith w (rowOf (R k) (at ss pumpAt)) ss) fits p q)
+                  (ap (ofSheet p f) d ∙ ap (λ (y : Bool). cond y (f ss) 0) (ne-eqb (at ss pumpAt) p (λ z. q (sym z)))) c
+
+  -- the refused records and the blank slots
+  kinds : (k : ℕ) → (at (R k) refusedAt ≡ overSlots oneRefused part k) × (at (R k) blankAt ≡ overSlots oneBlank part k)
+  unfolding slotsAdded overSlots
+  kinds zero = (zero-at reportSize refusedAt (omega arith), zero-at reportSize blankAt (omega arith))
+  kinds (suc k) = go (slot k) (kinds k)
+    where
+      long : length (R k) ≡ reportSize
+      long = countable k .size
+
+      refusals : (b : Bool) (d : Day) → isBlank (recordAt part k) ≡ b → dayOf (recordAt part k) ≡ d → oneRefused (recordAt part k) ≡ cond b 0 (oneUnread d)
+      refusals b d eb ed = ap₂ (λ (x : Bool) (y : Day). cond x 0 (oneUnread y)) eb ed
+
+      blanks : (b : Bool) → isBlank (recordAt part k) ≡ b → oneBlank (recordAt part k) ≡ cond b 1 0
+      blanks b eb = ap (λ (x : Bool). cond x 1 0) eb
+
+      go : Slot k → (at (R k) refusedAt ≡ overSlots oneRefused part k) × (at (R k) blankAt ≡ overSlots oneBlank part k)
+          → (at (R (suc k)) refusedAt ≡ overSlots oneRefused part k + oneRefused (recordAt part k))
+          × (at (R (suc k)) blankAt ≡ overSlots oneBlank part k + oneBlank (recordAt part k))
+      go (blank b e) c = (
+        ap (λ (X : List ℕ). at X refusedAt) e
+            ∙ getD-set-other (R k) blankAt refusedAt (at (R k) blankAt + 1) 0 (λ z. omega arith)
+            ∙ omega (arith, c .0, refusals true _ b refl),
+        ap (λ (X : List ℕ). at X blankAt) e
+            ∙ getD-set-same (R k) blankAt (at (R k) blankAt + 1) 0 (omega (arith, long))
+            ∙ omega (arith, c .1, blanks true b),
+      )
+      go (none n b d e) c = (
+        ap (λ (X : List ℕ). at X refusedAt) e
+            ∙ getD-set-same (R k) refusedAt (at (R k) refusedAt + 1) 0 (omega (arith, long))
+            ∙ omega (arith, c .0, refusals false (noSheet n) b d),
+        ap (λ (X : List ℕ). at X blankAt) e
+            ∙ getD-set-other (R k) refusedAt blankAt (at (R k) refusedAt + 1) 0 (λ z. omega arith)
+            ∙ omega (arith, c .1, blanks false b),
+      )
+      go (some n ss b d e) c =
+          let q = at ss pumpAt in
+          let x = rowWith w (rowOf (R k) (at ss pumpAt)) ss in
+          let small : at ss pumpAt < pumps = pump-small ss (is-sheet (recordAt part k) n ss d .symbols) in
+          let fits = row-fits _ (R k) (countable k) (at ss pumpAt) small in (
+            ap (λ (X : List ℕ). at X refusedAt) e
+                ∙ last-kept (R k) q x fits refusedAt (omega arith)
+                ∙ omega (arith, c .0, refusals false (sheet n ss) b d),
+            ap (λ (X : List ℕ). at X blankAt) e ∙ last-kept (R k) q x fits blankAt (omega arith) ∙ omega (arith, c .1, blanks false b),
+          )
 
   -- every slot is counted once
   counted : (k : ℕ) → sheetsBelow pumps (R k) + at (R k) refusedAt + at (R k) blankAt ≡ k
@@ -328,7 +423,7 @@ module _ (w : Window) (wh : isWindow w ≡ true) (part : List ℕ) where
             getD-set-other (R k) blankAt refusedAt (at (R k) blankAt + 1) 0 (λ z. omega arith),
             getD-set-same (R k) blankAt (at (R k) blankAt + 1) 0 (omega (arith, long)),
           )
-      go (none n d e) c =
+      go (none n b d e) c =
           ap total e
           ∙ omega (
             arith,
@@ -337,7 +432,7 @@ module _ (w : Window) (wh : isWindow w ≡ true) (part : List ℕ) where
             getD-set-other (R k) refusedAt blankAt (at (R k) refusedAt + 1) 0 (λ z. omega arith),
             getD-set-same (R k) refusedAt (at (R k) refusedAt + 1) 0 (omega (arith, long)),
           )
-      go (some n ss d e) c =
+      go (some n ss b d e) c =
           let q = at ss pumpAt in
           let x = rowWith w (rowOf (R k) (at ss pumpAt)) ss in
           let small : at ss pumpAt < pumps = pump-small ss (is-sheet (recordAt part k) n ss d .symbols) in
@@ -371,6 +466,15 @@ module _ (card : List ℕ) where
   looked-count : recordCount (length (listedPart card)) ≡ looked card
   looked-count = simp length-take (omega arith)
 
+  -- a total over them is one over the slots of the card
+  looked-total : (f : List ℕ → ℕ) (k : ℕ) → k ≤ looked card → overSlots f (listedPart card) k ≡ overSlots f card k
+  unfolding overSlots
+  looked-total f zero h = refl
+  looked-total f (suc k) h = ap₂ _+_ (looked-total f k (omega arith)) (ap f (looked-slot k (omega arith)))
+
+  looked-over : (f : List ℕ → ℕ) → overSlots f (listedPart card) (recordCount (length (listedPart card))) ≡ overSlots f card (looked card)
+  looked-over f = ap (overSlots f (listedPart card)) looked-count ∙ looked-total f (looked card) (omega arith)
+
 -- ---- the report of a card
 
 module _ (w : Window) (wh : isWindow w ≡ true) (card : List ℕ) where
@@ -395,7 +499,48 @@ module _ (w : Window) (wh : isWindow w ≡ true) (card : List ℕ) where
         getD-set-other X moreAt blankAt v 0 (λ z. omega arith),
       )
 
+  pub refused-total : at (reportOf w card) refusedAt ≡ overSlots oneRefused card (looked card)
+  unfolding reportOf
+  refused-total =
+      getD-set-other (partAdded w noReport (listedPart card)) moreAt refusedAt (cond (goesOn card) 1 0) 0 (λ z. omega arith)
+      ∙ kinds w wh (listedPart card) (recordCount (length (listedPart card))) .0
+      ∙ looked-over card oneRefused
+
+  pub blank-total : at (reportOf w card) blankAt ≡ overSlots oneBlank card (looked card)
+  unfolding reportOf
+  blank-total =
+      getD-set-other (partAdded w noReport (listedPart card)) moreAt blankAt (cond (goesOn card) 1 0) 0 (λ z. omega arith)
+      ∙ kinds w wh (listedPart card) (recordCount (length (listedPart card))) .1
+      ∙ looked-over card oneBlank
+
+  -- the last number
+  said : at (reportOf w card) moreAt ≡ cond (goesOn card) 1 0
+  unfolding reportOf
+  said =
+      getD-set-same (partAdded w noReport (listedPart card)) moreAt (cond (goesOn card) 1 0) 0
+      (omega (arith, countable w wh (listedPart card) (recordCount (length (listedPart card))) .size))
+
+  pub goes-on : mostRecords < recordCount (length card) → at (reportOf w card) moreAt ≡ 1
+  goes-on h = said ∙ ap (λ (b : Bool). cond b 1 0) (lt-ltb (mostRecords * recordSize) (length card) (omega arith))
+
+  pub goes-not-on : recordCount (length card) ≤ mostRecords → at (reportOf w card) moreAt ≡ 0
+  goes-not-on h = said ∙ ap (λ (b : Bool). cond b 1 0) (le-ltb (mostRecords * recordSize) (length card) (omega arith))
+
   module _ (p : ℕ) (h : p < pumps) where
+    row-total : (g : Row → ℕ) (f : List ℕ → ℕ) → g noRow ≡ 0 → ((r : Row) (ss : List ℕ) → g (rowWith w r ss) ≡ g r + f ss)
+        → g (rowOf (reportOf w card) p) ≡ overSlots (ofPump p f) card (looked card)
+    row-total g f start further =
+        ap g (report-row p h)
+        ∙ total w wh (listedPart card) p h g f start further (recordCount (length (listedPart card)))
+        ∙ looked-over card (ofPump p f)
+
+    pub row-totals : Totals w card p (rowOf (reportOf w card) p)
+    row-totals = record {
+      sheets = row-total (λ r. r .sheets) (λ ss. 1) refl (one-sheet w);
+      sum = row-total (λ r. r .sum) (λ ss. sumOf (countsIn w ss)) refl (sum-more w);
+      full = row-total (λ r. r .full) (λ ss. occurs fullCount (countsIn w ss)) refl (full-more w);
+    }
+
     whole : Seen w (listedPart card) (looked card) p (rowOf (reportOf w card) p)
     whole =
         subst (λ (n : ℕ). Seen w (listedPart card) n p (rowOf (reportOf w card) p)) (looked-count card)

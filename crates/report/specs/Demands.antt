@@ -2,20 +2,22 @@
 -- proofs/Demands.antt proves each statement under the same name in small letters. Assumes nothing.
 use mathlib.Core.Path.{_≡_}
 use mathlib.Core.Logic.{_↔_, _⊎_}
-use mathlib.Core.Bool.{true, false}
+use mathlib.Core.Bool.{true, false, cond}
 use mathlib.Core.List.{List, [], _++_}
 use Prim.Native.Nat.{ℕ, zero, suc, _+_, _-_, _*_, _≤_, _<_, min}
+use lib.Dec.{eqb}
 use lib.ListN.{length, replicate}
 use Rattle.field.specs.Question.{accepted, refused}
 use Rattle.code.specs.Word.{at}
 use Rattle.code.specs.Demands.{occurs}
 use Rattle.card.specs.Record.{recordSize}
-use Rattle.card.specs.Card.{recordCount, recordAt}
+use Rattle.card.specs.Card.{recordCount, recordAt, isBlank}
 use Rattle.card.specs.Listing.{decimal, mostRecords}
 use Rattle.sheet.specs.Sheet.{quarters, pumpAt}
-use Rattle.report.specs.Day.{hasRecord, slotOf, sheet, dayOf}
+use Rattle.report.specs.Day.{hasRecord, slotOf, Day, sheet, noSheet, dayOf}
 use Rattle.report.specs.Compare.{signOf, sameDay, chosenOf, symbolsAt, compareOf, compareSigns, compareTotal, comparePart}
-use Rattle.report.specs.Window.{isWindow, dateOf, earlier, pumps, rowSize, refusedAt, blankAt, rowFrom, rowOf, partAdded, reportOf}
+use Rattle.report.specs.Window.{isWindow, countsIn, sumOf, fullCount, dateOf, earlier, pumps, rowSize, refusedAt, blankAt, moreAt}
+use Rattle.report.specs.Window.{rowFrom, rowOf, partAdded, reportOf}
 use Rattle.report.specs.Quarter.{clockText, quarterOf}
 use Rattle.report.specs.declared.quarter.Time.the-variants.{At}
 use Rattle.report.specs.declared.window.Window.{Window}
@@ -95,6 +97,54 @@ abbrev pub AllCounted : Type 0
 AllCounted =
     (w : Window) (card : List ℕ) → isWindow w ≡ true
     → (sheetsBelow pumps (reportOf w card) + at (reportOf w card) refusedAt + at (reportOf w card) blankAt ≡ looked card) × (looked card ≤ mostRecords)
+
+-- a number of each slot, added up over the first k slots of the card
+unfoldable pub overSlots : (List ℕ → ℕ) → List ℕ → ℕ → ℕ
+overSlots f card zero = 0
+overSlots f card (suc k) = overSlots f card k + f (recordAt card k)
+
+-- a number of the symbols of a day sheet of pump p, and 0 of every other slot
+abbrev pub ofSheet : ℕ → (List ℕ → ℕ) → Day → ℕ
+ofSheet p f (sheet k ss) = cond (eqb (at ss pumpAt) p) (f ss) 0
+ofSheet p f (noSheet n) = 0
+
+abbrev pub ofPump : ℕ → (List ℕ → ℕ) → List ℕ → ℕ
+ofPump p f slot = ofSheet p f (dayOf slot)
+
+-- the report's numbers of a pump are totals over its sheets: their number, the sum of their counts in the window, and how many of these are 127
+pub record Totals (w : Window) (card : List ℕ) (p : ℕ) (r : Row) : Type 0 where
+  pub sheets : r .sheets ≡ overSlots (ofPump p (λ ss. 1)) card (looked card)
+  pub sum : r .sum ≡ overSlots (ofPump p (λ ss. sumOf (countsIn w ss))) card (looked card)
+  pub full : r .full ≡ overSlots (ofPump p (λ ss. occurs fullCount (countsIn w ss))) card (looked card)
+
+abbrev pub TotalsStand : Type 0
+TotalsStand = (w : Window) (card : List ℕ) (p : ℕ) → isWindow w ≡ true → p < pumps → Totals w card p (rowOf (reportOf w card) p)
+
+-- 1 for a blank slot
+abbrev pub oneBlank : List ℕ → ℕ
+oneBlank slot = cond (isBlank slot) 1 0
+
+-- 1 for a record that is no day sheet
+abbrev pub oneUnread : Day → ℕ
+oneUnread (sheet k ss) = 0
+oneUnread (noSheet n) = 1
+
+abbrev pub oneRefused : List ℕ → ℕ
+oneRefused slot = cond (isBlank slot) 0 (oneUnread (dayOf slot))
+
+-- refused records and blank slots are counted, each kind by itself
+abbrev pub KindsCounted : Type 0
+KindsCounted =
+    (w : Window) (card : List ℕ) → isWindow w ≡ true
+    → (at (reportOf w card) refusedAt ≡ overSlots oneRefused card (looked card))
+    × (at (reportOf w card) blankAt ≡ overSlots oneBlank card (looked card))
+
+-- the last number is 1 where the card has more than 1,000,000 records, else 0
+abbrev pub MoreSaid : Type 0
+MoreSaid =
+    (w : Window) (card : List ℕ) → isWindow w ≡ true
+    → (mostRecords < recordCount (length card) → at (reportOf w card) moreAt ≡ 1)
+    × (recordCount (length card) ≤ mostRecords → at (reportOf w card) moreAt ≡ 0)
 
 -- the row of a pump without sheets
 abbrev pub noRow : Row
