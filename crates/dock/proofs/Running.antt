@@ -1,7 +1,8 @@
 -- Runs of calls: what is used and what is left. Assumes nothing.
 use borrow.Author.Tests.{eqb-true, eqb-false}
-use mathlib.Core.Path.{_≡_, refl, sym, ap, _∙_}
-use mathlib.Core.Bool.{Bool, true, false, cond}
+use mathlib.Core.Path.{_≡_, refl, sym, ap, _∙_, subst}
+use mathlib.Core.Logic.{_≢_}
+use mathlib.Core.Bool.{Bool, true, false, cond, false≢true}
 use mathlib.Core.List.{List, [], _∷_}
 use Prim.Native.Nat.{ℕ, zero, suc, _+_, _-_, _<_}
 use native.Mathlib.Omega.{arith}
@@ -10,9 +11,9 @@ use lib.ListN.{length}
 use Rattle.dock.specs.declared.Rewrites.{Rewrites}
 use Rattle.dock.specs.Dock.{bays, ownCharge, charged, ownOf, spent, Call, same, callWritten, callLeft}
 use Rattle.dock.specs.Run.{leftAfter, history, used, usedBy, allLeft}
-use Rattle.dock.specs.Demands.{Thousand, NotDenied}
-use Rattle.dock.proofs.Spending.{own-left, spent-size, spent-mine, spent-other, spent-all}
-use Rattle.dock.proofs.Serving.{as-without, Cost, free, paid, cost}
+use Rattle.dock.specs.Demands.{Thousand, NotDenied, OneLess, Costs, CallCosts}
+use Rattle.dock.proofs.Spending.{own-left, spent-size, spent-mine, spent-other, spent-all, one-less, not-less}
+use Rattle.dock.proofs.Serving.{same-refl, same-eq, as-without, Cost, free, paid, cost}
 
 -- ---- one call
 
@@ -51,6 +52,28 @@ module _ (left : Rewrites) (c : Call) where
         go false d (free s e) = ap (λ (l : Rewrites). ownOf l b) e ∙ omega arith
         go false d (paid s e h some) =
             ap (λ (l : Rewrites). ownOf l b) e ∙ spent-other left (c .bay) b (λ x. eqb-false (c .bay) b d (sym x)) ∙ omega arith
+
+-- what it costs, and where
+pub call-costs : CallCosts
+call-costs left c four = go (cost left c)
+  where
+    Less : Rewrites → Type 0
+    Less = λ new. OneLess left new (c .bay)
+
+    go : Cost left c → Costs left c
+    go (free s e) =
+        let stays : callWritten left c ≡ c .lent = sym (same-eq (c .lent) (callWritten left c) s) in
+        record {
+          changed = (λ d. absurd (d stays), λ O. absurd (not-less left (c .bay) (subst Less e O)));
+          unchanged = (λ d. e, λ d. stays);
+        }
+    go (paid s e h some) =
+        let O : Less (callLeft left c) = subst Less (sym e) (one-less left (c .bay) (omega arith) some) in
+        let moves : callWritten left c ≢ c .lent = λ d. false≢true (sym s ∙ ap (same (c .lent)) d ∙ same-refl (c .lent)) in
+        record {
+          changed = (λ d. O, λ d. moves);
+          unchanged = (λ d. absurd (moves d), λ d. absurd (not-less left (c .bay) (subst Less d O)));
+        }
 
 -- ---- any run
 

@@ -28,7 +28,7 @@ use Rattle.dock.specs.declared.Reach.the-variants.{Longest, Named}
 use Rattle.dock.specs.Dock.{bays, anyLeft, spent, answerAt, contentAt, RestoresAt, Call, callOn, answerOf, contentOf}
 use Rattle.dock.specs.Dock.{same, allowed, remaining, granted, leftOn}
 use Rattle.dock.specs.Dock.{callOf, callWritten, callLeft, Serves, Settles}
-use Rattle.dock.specs.Demands.{AsWithout, RefusedStays}
+use Rattle.dock.specs.Demands.{AsWithout, RefusedStays, UnlessDenied}
 
 -- ---- the same bytes
 
@@ -178,12 +178,30 @@ granted-yes : (o : Outcome) → granted o true ≡ o
 granted-yes (accepted k) = refl
 granted-yes (refused n) = refl
 
+-- the record after a call that answers as without bays
+content-is : (left : Rewrites) (c : Call) → answerOf c ≡ callOf left c → callWritten left c ≡ contentOf c
+content-is left c e = sym (written-by left c (answerOf c) e) ∙ go (answerOf c) refl
+  where
+    go : (o : Outcome) → o ≡ answerOf c → onAccept o (c .lent) (contentOf c) ≡ contentOf c
+    go (accepted k) f = refl
+    go (refused n) f = sym (stays-at (c .reach) (c .lent) n (sym f))
+
+pub unless-denied : UnlessDenied
+unless-denied left c h d =
+    let e = go (answerOf c) (allowed left (c .bay) (c .lent) (contentOf c)) refl refl in
+    (sym e, content-is left c e)
+  where
+    go : (o : Outcome) (b : Bool) → answerOf c ≡ o → allowed left (c .bay) (c .lent) (contentOf c) ≡ b → answerOf c ≡ callOf left c
+    go o true eo eb = sym (ap (granted (answerOf c)) eb ∙ granted-yes (answerOf c)) ∙ passed left c h
+    go (refused n) false eo eb = eo ∙ sym (ap₂ granted eo eb) ∙ passed left c h
+    go (accepted k) false eo eb = absurd (d (sym (passed left c h) ∙ ap₂ granted eo eb))
+
 -- with a rewrite left to the bay, its call restores as without bays
 pub as-without : (left : Rewrites) (c : Call) → c .bay < bays → anyLeft left (c .bay) ≡ true → AsWithout left c
 as-without left c h some =
     record {
       answer = sym answer;
-      content = sym (written-by left c (answerOf c) answer) ∙ go (answerOf c) refl;
+      content = content-is left c answer;
       not-denied = λ e. late-at (c .reach) (c .lent) (answer ∙ e);
     }
   where
@@ -192,10 +210,6 @@ as-without left c h some =
 
     answer : answerOf c ≡ callOf left c
     answer = sym (ap (granted (answerOf c)) yes ∙ granted-yes (answerOf c)) ∙ passed left c h
-
-    go : (o : Outcome) → o ≡ answerOf c → onAccept o (c .lent) (contentOf c) ≡ contentOf c
-    go (accepted k) e = refl
-    go (refused n) e = sym (stays-at (c .reach) (c .lent) n (sym e))
 
 -- ---- the cost of a call
 

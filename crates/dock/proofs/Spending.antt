@@ -13,6 +13,7 @@ use lib.Seq.{getD-set-same, getD-set-other}
 use Rattle.dock.specs.declared.Rewrites.{Rewrites}
 use Rattle.dock.specs.Dock.{ownOf, anyLeft, spent}
 use Rattle.dock.specs.Run.{sumOf, allLeft}
+use Rattle.dock.specs.Demands.{OneLess}
 
 -- the sum of a list of which one number is replaced
 sum-set : (xs : List ℕ) (i v : ℕ) → i < length xs → sumOf (set xs i v) + getD xs i 0 ≡ sumOf xs + v
@@ -79,3 +80,21 @@ module _ (left : Rewrites) (bay : ℕ) where
       go : Dec (0 < ownOf left bay) → allLeft (spent left bay) + 1 ≡ allLeft left
       go (yes h) = rw (sym (spent-own h)) (omega (arith, sum-set (left .own) bay (ownOf left bay - 1) l))
       go (no n) = rw (sym (spent-common (omega arith))) (omega (arith, common-some some (omega arith)))
+
+  -- and nothing else changes
+  pub one-less : bay < length (left .own) → anyLeft left bay ≡ true → OneLess left (spent left bay) bay
+  one-less l some = record {
+    size = spent-size;
+    others = spent-other;
+    from-own = λ h. (omega (arith, spent-mine l), rw (sym (spent-own h)) refl);
+    from-common = λ z.
+        (omega (arith, spent-mine l), rw (sym (spent-common (omega arith))) (omega (arith, common-some some (omega arith))));
+  }
+
+  -- one less is not as many
+  pub not-less : OneLess left left bay → ⊥
+  not-less O = go (decLt 0 (ownOf left bay))
+    where
+      go : Dec (0 < ownOf left bay) → ⊥
+      go (yes h) = omega (arith, O .from-own h .0)
+      go (no n) = omega (arith, O .from-common (omega arith) .1)

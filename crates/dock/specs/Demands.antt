@@ -4,6 +4,7 @@ use mathlib.Core.Path.{_≡_}
 use mathlib.Core.Logic.{_↔_, _≢_}
 use mathlib.Core.List.{List}
 use Prim.Native.Nat.{ℕ, _+_, _<_}
+use lib.ListN.{length}
 use Rattle.field.specs.Question.{accepted, refused}
 use Rattle.dock.specs.declared.Rewrites.{Rewrites}
 use Rattle.dock.specs.Dock.{bays, ownCharge, charged, ownOf, Call, answerOf, contentOf, callOf, callWritten, callLeft}
@@ -42,3 +43,24 @@ Denied = (left : Rewrites) (c : Call) → (callOf left c ≡ refused 19) ↔ Mis
 abbrev pub RefusedStays : Type 0
 RefusedStays =
     (left : Rewrites) (c : Call) (n : ℕ) → callOf left c ≡ refused n → (callWritten left c ≡ c .lent) × (callLeft left c ≡ left)
+
+-- a call of a bay below 4 that is not refused with 19 answers and leaves the record as without bays, whatever the counts are
+abbrev pub UnlessDenied : Type 0
+UnlessDenied =
+    (left : Rewrites) (c : Call) → c .bay < bays → callOf left c ≢ refused 19
+    → (callOf left c ≡ answerOf c) × (callWritten left c ≡ contentOf c)
+
+-- the counts have one rewrite less and are else as they were: the bay's own where it had one left, else a common one
+pub record OneLess (old new : Rewrites) (bay : ℕ) : Type 0 where
+  pub size : length (new .own) ≡ length (old .own)
+  pub others : (b : ℕ) → b ≢ bay → ownOf new b ≡ ownOf old b
+  pub from-own : 0 < ownOf old bay → (ownOf new bay + 1 ≡ ownOf old bay) × (new .common ≡ old .common)
+  pub from-common : ownOf old bay ≡ 0 → (ownOf new bay ≡ 0) × (new .common + 1 ≡ old .common)
+
+-- a call costs one rewrite exactly where it changes a byte of the record, and none exactly where it does not
+pub record Costs (left : Rewrites) (c : Call) : Type 0 where
+  pub changed : (callWritten left c ≢ c .lent) ↔ OneLess left (callLeft left c) (c .bay)
+  pub unchanged : (callWritten left c ≡ c .lent) ↔ (callLeft left c ≡ left)
+
+abbrev pub CallCosts : Type 0
+CallCosts = (left : Rewrites) (c : Call) → length (left .own) ≡ bays → Costs left c
