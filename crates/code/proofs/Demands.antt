@@ -14,7 +14,7 @@ use Rattle.code.specs.Word.{places, at, syndrome, Codeword, encode, data
 use Rattle.code.specs.Erasure.{syndromesOf}
 use Rattle.code.specs.Call.{written, done, withinWritten, shown, allZero, zeroSyndromes, encodeOf, encodeWritten, testOf}
 use Rattle.code.specs.Demands.{Data, EncoderMakes, EncoderMade, ReadBack, TestsCodeword, NeverTwo, Accepts, RefusesSeven, RefusesFourteen, FewErasures}
-use Rattle.code.specs.Demands.{LongerReach, ShorterReach, RefusedUnchanged, FewChanged, SameRestored, MethodsAgree, DisplaysPlain, DisplaysZero, SameDisplayed}
+use Rattle.code.specs.Demands.{AsEarlier, LongerReach, ShorterReach, RefusedUnchanged, FewChanged, SameRestored, MethodsAgree, DisplaysPlain, DisplaysZero, SameDisplayed}
 use Rattle.code.proofs.Encoding.{encode-codeword, encode-data, codeword-data, codeword-encode}
 use Rattle.code.proofs.Passing.{encode-passes, read-passes, test-codeword, zero-syndromes, five-zero, given, within-passes}
 use Rattle.code.proofs.Restoring as Restoring
@@ -76,6 +76,9 @@ refuses-fourteen = Restoring.refuses-fourteen
 
 pub few-erasures : FewErasures
 few-erasures = Restoring.few-erasures
+
+pub as-earlier : AsEarlier
+as-earlier = Restoring.as-earlier
 
 pub longer-reach : LongerReach
 longer-reach = Restoring.longer-reach

@@ -3,8 +3,8 @@
 use mathlib.Core.Path.{_≡_, refl, sym, ap, ap₂, _∙_, subst}
 use mathlib.Core.Logic.{_↔_, _≢_, _⊎_, inl, inr}
 use mathlib.Core.Bool.{Bool, true, false, cond}
-use mathlib.Core.List.{List}
-use Prim.Native.Nat.{ℕ, _+_, _≤_, _<_}
+use mathlib.Core.List.{List, [], _∷_}
+use Prim.Native.Nat.{ℕ, _+_, _%_, _≤_, _<_}
 use native.Mathlib.Nat.{le-refl, le-trans}
 use native.Mathlib.Decide.{decLt}
 use native.Mathlib.Omega.{arith}
@@ -24,16 +24,16 @@ use Rattle.sums.proofs.Evaluation.{five-cong}
 use Rattle.code.specs.Word.{places, at}
 use Rattle.code.specs.Erasure.{member, distinct, symbolsFrom, differ, changes, masked, syndromesOf}
 use Rattle.code.specs.Near.{distance, radius, codewords, Near, nearby, Restoration, none, one, several, found, restoration}
-use Rattle.code.specs.Call.{maxErasures, written, done, shown, decided, restored, restoreAsked, followed, withinAsked, withinOf, withinWritten}
+use Rattle.code.specs.Call.{maxErasures, written, done, wordAsked, shown, decided, restored, restoreAsked, followed, withinAsked, withinOf, withinWritten}
 use Rattle.code.specs.Demands.{Passes, PassesWithin, NeverTwo, Nearest, Accepts, RefusesSeven, TwoNear, RefusesFourteen, FewErasures, RefusedUnchanged}
-use Rattle.code.specs.Demands.{LongerReach, ShorterReach}
+use Rattle.code.specs.Demands.{earlierAsked, earlierDecided, earlierRestored, AsEarlier, LongerReach, ShorterReach}
 use Rattle.code.specs.Demands.{SameErasures, AgreeOutside, SameRestored, SameDisplayed}
 use Rattle.code.proofs.Sums.{total-cong, syndrome-cong}
 use Rattle.code.proofs.Questions.{bool-eq, member-means, member-at, symbols-means, symbols-holds}
 use Rattle.code.proofs.Members.{distinct-once, once-distinct, same-member, same-length}
 use Rattle.code.proofs.DistanceLaw.{distance-of}
 use Rattle.code.proofs.Unique.{same-near, radius-few}
-use Rattle.code.proofs.Passing.{Given, given, asksReach, within-passes}
+use Rattle.code.proofs.Passing.{Given, given, asksReach, within-passes, passes-radius}
 use Rattle.code.proofs.Codewords.{keep-cong, restoration-none, restoration-far, restoration-near, restoration-only, restoration-one}
 use Rattle.code.proofs.Codewords.{restoration-several, restoration-two}
 
@@ -200,6 +200,41 @@ few-erasures m w es reach h = (
       let t = refuses-fourteen m w es reach .0 e in
       t .1 .different (never-two m w es reach (t .0) h (t .1 .first) (t .1 .second) (t .1 .first-near) (t .1 .second-near)),
 )
+
+-- ---- as it was with four erasures at most
+
+module _ (m : ℕ) (w es : List ℕ) (odd : m % 2 ≡ 1) (h : length es ≤ 4) where
+  -- the number of erasures passes question 3, then and now
+  earlier-asked : withinAsked m w es (radius m (length es)) ≡ earlierAsked m w es
+  unfolding restoreAsked
+  earlier-asked = passes-radius m w es ∙ ap count (le-leb (length es) (maxErasures m) (omega arith) ∙ sym (le-leb (length es) 4 h))
+    where
+      count : Bool → Verdict
+      count = λ b.
+          wordAsked m (length w)
+          (ask b ErasureCount
+          (ask (allBelow (places m) es) ErasurePlace (ask (distinct es) ErasureDistinct (ask (symbolsFrom (order m) es 0 w) Symbol Passed))))
+
+  -- by the verdict and the near codewords, of which there are no two
+  earlier-by : (v : Verdict) (cs : List (List ℕ)) → withinAsked m w es (radius m (length es)) ≡ v → nearby m es w (radius m (length es)) ≡ cs
+      → (after v (decided m w es (found cs)) ≡ after v (earlierDecided m w es cs)) × (written v w (restored w (found cs)) ≡ written v w (earlierRestored w cs))
+  unfolding restoration
+  earlier-by (Refused q) cs e f = (refl, refl)
+  earlier-by Passed [] e f = (refl, refl)
+  earlier-by Passed (c ∷ []) e f = (refl, refl)
+  earlier-by Passed (c ∷ d ∷ cs) e f =
+      absurd (few-erasures m w es (radius m (length es)) (omega arith) .1
+      (ap₂ (λ (v : Verdict) (xs : List (List ℕ)). after v (decided m w es (found xs))) e f))
+
+pub as-earlier : AsEarlier
+unfolding restoration
+as-earlier m w es odd h =
+    let r = radius m (length es) in
+    let same = earlier-by m w es odd h (withinAsked m w es r) (nearby m es w r) refl refl in
+    let asked = earlier-asked m w es odd h in (
+      same .0 ∙ ap (λ (v : Verdict). after v (earlierDecided m w es (nearby m es w r))) asked,
+      same .1 ∙ ap (λ (v : Verdict). written v w (earlierRestored w (nearby m es w r))) asked,
+    )
 
 -- ---- a shorter reach
 

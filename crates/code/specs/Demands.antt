@@ -4,18 +4,20 @@ use mathlib.Core.Path.{_≡_}
 use mathlib.Core.Logic.{_↔_, _≢_, _⊎_}
 use mathlib.Core.Bool.{true, false, cond}
 use mathlib.Core.List.{List, [], _∷_}
-use Prim.Native.Nat.{ℕ, _+_, _≤_, _<_}
+use Prim.Native.Nat.{ℕ, _+_, _%_, _≤_, _<_}
 use lib.Dec.{eqb, leb}
 use lib.ListN.{length, replicate}
 use Rattle.field.specs.Field.{order}
-use Rattle.field.specs.Question.{accepted, refused, isWidth}
+use Rattle.field.specs.Question.{Outcome, accepted, refused, ask, after, isWidth, allBelow}
+use Rattle.field.specs.declared.Question.the-variants.{ErasureCount, ErasurePlace, ErasureDistinct, Symbol}
+use Rattle.field.specs.declared.Verdict.{Verdict}
 use Rattle.field.specs.declared.Verdict.the-variants.{Passed}
 use Rattle.code.specs.declared.Repair.{Repair}
 use Rattle.code.specs.Word.{checks, five, places, items, at, syndrome, Codeword, dataOf}
-use Rattle.code.specs.Erasure.{member, changes}
-use Rattle.code.specs.Near.{distance, Near}
+use Rattle.code.specs.Erasure.{member, distinct, symbolsFrom, changes}
+use Rattle.code.specs.Near.{distance, radius, Near, nearby}
 use Rattle.code.specs.Call.{maxErasures, encodeOf, encodeWritten, testAsked, testOf, readOf, readWritten, restoreAsked, displayOf, displayed, withinAsked, withinOf, withinWritten}
-use Rattle.code.specs.Call.{repair, RestoresWithin}
+use Rattle.code.specs.Call.{written, wordAsked, restoreOf, restoreWritten, repair, RestoresWithin}
 
 -- ---- demand 2
 
@@ -103,6 +105,37 @@ abbrev pub FewErasures : Type 0
 FewErasures =
     (m : ℕ) (w es : List ℕ) (reach : ℕ) → length es < distance m
     → (leb (length es) (maxErasures m) ≡ true) × (withinOf m w es reach ≡ refused 14 → ⊥)
+
+-- the questions before question 8 as they were then: question 3 said four
+abbrev pub earlierAsked : ℕ → List ℕ → List ℕ → Verdict
+earlierAsked m word es =
+    wordAsked m (length word)
+    (ask (leb (length es) 4) ErasureCount
+    (ask (allBelow (places m) es) ErasurePlace
+    (ask (distinct es) ErasureDistinct
+    (ask (symbolsFrom (order m) es 0 word) Symbol Passed))))
+
+-- question 8 as it was, which knew of no several: a near codeword is taken where there is one
+abbrev pub earlierDecided : ℕ → List ℕ → List ℕ → List (List ℕ) → Outcome
+earlierDecided m word es [] = refused 7
+earlierDecided m word es (c ∷ cs) = accepted (changes m es word c)
+
+abbrev pub earlierRestored : List ℕ → List (List ℕ) → List ℕ
+earlierRestored word [] = word
+earlierRestored word (c ∷ cs) = c
+
+-- what the restorer answered, and the word after the call
+abbrev pub earlierOf : ℕ → List ℕ → List ℕ → Outcome
+earlierOf m word es = after (earlierAsked m word es) (earlierDecided m word es (nearby m es word (radius m (length es))))
+
+abbrev pub earlierWritten : ℕ → List ℕ → List ℕ → List ℕ
+earlierWritten m word es = written (earlierAsked m word es) word (earlierRestored word (nearby m es word (radius m (length es))))
+
+-- words of an odd width lent with up to four erasures get what they got, answer and word, whether they pass or not
+abbrev pub AsEarlier : Type 0
+AsEarlier =
+    (m : ℕ) (w es : List ℕ) → m % 2 ≡ 1 → length es ≤ 4
+    → (restoreOf m w es ≡ earlierOf m w es) × (restoreWritten m w es ≡ earlierWritten m w es)
 
 -- what is refused stays as it was
 abbrev pub RefusedUnchanged : Type 0
