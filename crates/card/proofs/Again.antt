@@ -30,7 +30,7 @@ use Rattle.card.specs.Record.{erasureBytes, headerSize, recordSize, widt
 use Rattle.card.specs.Record.{recordAsked, clearRecord, onAccept, recordWithinOf, recordWithinWritten, reachOf, recordOf, recordWritten}
 use Rattle.card.specs.Record.{copyWritten, RestoresCopy}
 use Rattle.card.proofs.Layouts.{Asked, asked}
-use Rattle.card.proofs.Recording.{copy-short, copy-whole}
+use Rattle.card.proofs.Recording.{copy-accepted, copy-refused}
 
 -- ---- a codeword without erasures is its own near codeword, and the only one
 
@@ -208,8 +208,8 @@ written-again r = go (recordOf r) refl
 -- ---- a copy
 
 pub copy-size : (r : List ℕ) (x : RestoredCopy) → RestoresCopy r x → length (x .bytes) ≡ recordSize
-copy-size r x R = ap length (R .content) ∙ go (ℕ-discrete (length r) recordSize)
+copy-size r x R = ap length (R .content) ∙ go (recordOf r) refl
   where
-    go : Dec (length r ≡ recordSize) → length (copyWritten r) ≡ recordSize
-    go (yes e) = ap length (sym (copy-whole r e)) ∙ written-size r ∙ e
-    go (no n) = ap length (sym (copy-short r n)) ∙ length-replicate {A = ℕ} recordSize 0
+    go : (o : Outcome) → o ≡ recordOf r → length (copyWritten r) ≡ recordSize
+    go (accepted k) e = ap length (sym (copy-accepted r k e)) ∙ written-size r ∙ accepted-whole r k (sym e)
+    go (refused n) e = ap length (sym (copy-refused r n e)) ∙ length-replicate {A = ℕ} recordSize 0

@@ -15,9 +15,7 @@ use Rattle.code.specs.Call.{repair}
 use Rattle.code.specs.declared.Repair.{Repair}
 use Rattle.code.specs.declared.Repair.the-variants.{Restored, Refused}
 use Rattle.card.specs.Record.{recordSize, recordOf}
-use Rattle.card.specs.Card.{recordCount, recordAt, isAccepted, passes, fine, firstFrom, firstRefused, FirstBad, NoneBad, Checks}
-use Rattle.card.specs.declared.CardCheck.{CardCheck}
-use Rattle.card.specs.declared.CardCheck.the-variants.{AllAccepted, Refused as RefusedRecord}
+use Rattle.card.specs.Card.{recordCount, recordAt, isAccepted, passes, fine, Check, noBad, bad, firstFrom, firstRefused, FirstBad, NoneBad, Checks}
 
 -- a shorter last piece
 pub last-piece : (card : List ℕ) (at : ℕ) → length card - at < recordSize
@@ -47,19 +45,19 @@ module _ (card : List ℕ) where
   AllFine : ℕ → ℕ → Type 0
   AllFine i m = (j : ℕ) → i ≤ j → j < m → fine (recordAt card j) ≡ true
 
-  from-none : (i k : ℕ) → AllFine i (i + k) → firstFrom card i k ≡ AllAccepted
+  from-none : (i k : ℕ) → AllFine i (i + k) → firstFrom card i k ≡ noBad
   unfolding firstFrom AllFine
   from-none i zero h = refl
   from-none i (suc k) h = rw (h i (omega arith) (omega arith)) (from-none (suc i) k (λ j l m. h j (omega arith) (omega arith)))
 
-  from-some : (i k m : ℕ) → i ≤ m → m < i + k → AllFine i m → fine (recordAt card m) ≡ false → firstFrom card i k ≡ RefusedRecord (suc m)
+  from-some : (i k m : ℕ) → i ≤ m → m < i + k → AllFine i m → fine (recordAt card m) ≡ false → firstFrom card i k ≡ bad (suc m)
   unfolding firstFrom AllFine
   from-some i zero m l u h t = absurd (omega arith)
   from-some i (suc k) m l u h t = go (ℕ-discrete i m) (λ a b. from-some (suc i) k m a b (λ j x y. h j (omega arith) y) t)
     where
-      go : Dec (i ≡ m) → (suc i ≤ m → m < suc i + k → firstFrom card (suc i) k ≡ RefusedRecord (suc m))
-          → firstFrom card i (suc k) ≡ RefusedRecord (suc m)
-      go (yes e) next = rw (ap (λ (n : ℕ). fine (recordAt card n)) e ∙ t) (ap (λ (n : ℕ). RefusedRecord (suc n)) e)
+      go : Dec (i ≡ m) → (suc i ≤ m → m < suc i + k → firstFrom card (suc i) k ≡ bad (suc m))
+          → firstFrom card i (suc k) ≡ bad (suc m)
+      go (yes e) next = rw (ap (λ (n : ℕ). fine (recordAt card n)) e ∙ t) (ap (λ (n : ℕ). bad (suc n)) e)
       go (no n) next = rw (h i (omega arith) (omega arith)) (next (omega arith) (omega arith))
 
   fine-more : (i m : ℕ) → fine (recordAt card i) ≡ true → AllFine (suc i) m → AllFine i m
@@ -71,24 +69,24 @@ module _ (card : List ℕ) where
       go (no n) = h j (omega arith) u
 
   -- what an answer says
-  From : ℕ → ℕ → CardCheck → Type 0
-  From i k AllAccepted = AllFine i (i + k)
-  From i k (RefusedRecord n) = (i < n) × (n ≤ i + k) × (fine (recordAt card (n - 1)) ≡ false) × AllFine i (n - 1)
+  From : ℕ → ℕ → Check → Type 0
+  From i k noBad = AllFine i (i + k)
+  From i k (bad n) = (i < n) × (n ≤ i + k) × (fine (recordAt card (n - 1)) ≡ false) × AllFine i (n - 1)
 
   from-means : (i k : ℕ) → From i k (firstFrom card i k)
   unfolding firstFrom AllFine From
   from-means i zero = λ j l m. absurd (omega arith)
   from-means i (suc k) = go (fine (recordAt card i)) refl (firstFrom card (suc i) k) (from-means (suc i) k)
     where
-      go : (b : Bool) → fine (recordAt card i) ≡ b → (r : CardCheck) → From (suc i) k r → From i (suc k) (cond b r (RefusedRecord (suc i)))
-      go true t AllAccepted F = fine-more i (i + suc k) t (λ j l u. F j l (omega arith))
-      go true t (RefusedRecord n) F = (omega (arith, F .0), omega (arith, F .1), F .2, fine-more i (n - 1) t (F .3))
+      go : (b : Bool) → fine (recordAt card i) ≡ b → (r : Check) → From (suc i) k r → From i (suc k) (cond b r (bad (suc i)))
+      go true t noBad F = fine-more i (i + suc k) t (λ j l u. F j l (omega arith))
+      go true t (bad n) F = (omega (arith, F .0), omega (arith, F .1), F .2, fine-more i (n - 1) t (F .3))
       go false t r F =
           let less : suc i - 1 ≡ i = omega arith in
           (omega arith, omega arith, ap (λ (n : ℕ). fine (recordAt card n)) less ∙ t, λ j l u. absurd (omega arith))
 
 -- the card check gives the number k exactly when record k would be refused and every record before it would be accepted or is blank
-pub first-some : (card : List ℕ) (k : ℕ) → firstRefused card ≡ RefusedRecord k ↔ FirstBad card k
+pub first-some : (card : List ℕ) (k : ℕ) → firstRefused card ≡ bad k ↔ FirstBad card k
 unfolding AllFine From
 first-some card k = (
   λ e.
@@ -97,11 +95,11 @@ first-some card k = (
   λ B.
       let last : suc (k - 1) ≡ k = omega (arith, B .number) in
       from-some card 0 (recordCount (length card)) (k - 1) (omega arith) (omega (arith, B .number, B .inside)) (λ j l h. B .before j h) (B .refused)
-      ∙ ap RefusedRecord last,
+      ∙ ap bad last,
 )
 
 -- it gives no number exactly when no record would be refused
-pub first-none : (card : List ℕ) → firstRefused card ≡ AllAccepted ↔ NoneBad card
+pub first-none : (card : List ℕ) → firstRefused card ≡ noBad ↔ NoneBad card
 unfolding AllFine From
 first-none card = (
   λ e i h.
@@ -114,9 +112,9 @@ first-none card = (
 pub checks : (card : List ℕ) → Checks card (firstRefused card)
 checks card = go (firstRefused card) refl
   where
-    go : (r : CardCheck) → firstRefused card ≡ r → Checks card r
-    go AllAccepted e = first-none card .0 e
-    go (RefusedRecord k) e = let B = first-some card k .0 e in (B .number, B .inside, B .refused)
+    go : (r : Check) → firstRefused card ≡ r → Checks card r
+    go noBad e = first-none card .0 e
+    go (bad k) e = let B = first-some card k .0 e in (B .number, B .inside, B .refused)
 
 -- ---- the walk
 
@@ -137,7 +135,7 @@ module _ (card : List ℕ) (at i : ℕ) (W : Walked card at i) (b : Bool) (slot 
   pub walked-on : not b ≡ false → Walked card (at + recordSize) (i + 1)
   walked-on t = record { place = omega (arith, W .place); before = below-more _ i (W .before) (sym this ∙ not-false b t) }
 
-  pub checks-refused : at < length card → not b ≡ true → RefusedRecord (i + 1) ≡ firstRefused card
+  pub checks-refused : at < length card → not b ≡ true → bad (i + 1) ≡ firstRefused card
   checks-refused h t =
       let less : i + 1 - 1 ≡ i = omega arith in
       sym (first-some card (i + 1) .1 (record {
@@ -147,10 +145,10 @@ module _ (card : List ℕ) (at i : ℕ) (W : Walked card at i) (b : Bool) (slot 
         before = λ j l. W .before j (omega arith);
       }))
 
-  pub checks-last : at < length card → length card - at ≤ recordSize → not b ≡ false → AllAccepted ≡ firstRefused card
+  pub checks-last : at < length card → length card - at ≤ recordSize → not b ≡ false → noBad ≡ firstRefused card
   checks-last h l t =
       sym (first-none card .1
       (λ j k. below-more (λ (n : ℕ). fine (recordAt card n) ≡ true) i (W .before) (sym this ∙ not-false b t) j (omega (arith, W .place))))
 
-pub checks-end : (card : List ℕ) (at i : ℕ) → Walked card at i → length card ≤ at → AllAccepted ≡ firstRefused card
+pub checks-end : (card : List ℕ) (at i : ℕ) → Walked card at i → length card ≤ at → noBad ≡ firstRefused card
 checks-end card at i W h = sym (first-none card .1 (λ j k. W .before j (omega (arith, W .place))))

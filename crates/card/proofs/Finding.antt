@@ -12,7 +12,7 @@ use Rattle.code.specs.Call.{repair}
 use Rattle.code.specs.declared.Repair.{Repair}
 use Rattle.code.specs.declared.Repair.the-variants.{Restored, Refused as RefusedBy}
 use Rattle.card.specs.Record.{recordSize, recordOf}
-use Rattle.card.specs.Card.{recordCount, recordAt, recordNumbered, fine, firstRefused}
+use Rattle.card.specs.Card.{recordCount, recordAt, recordNumbered, fine, Check, noBad, bad, checkOf, firstRefused}
 use Rattle.card.specs.Placed.{placed, Writes}
 use Rattle.card.specs.Words.{refusalLine}
 use Rattle.card.specs.Checked.{outcomeLine, foundLine, okLine, lineOf, checkText, names, Finds, behind, orElse, FirstInParts}
@@ -41,19 +41,19 @@ module _ (x : Repair) (bytes : List ℕ) (e : repair x ≡ recordOf bytes) (n : 
 
 -- ---- one part
 
-pub finds-none : (before : ℕ) (part : List ℕ) (x : CardCheck) → x ≡ firstRefused part → x ≡ AllAccepted → (out : List ℕ)
+pub finds-none : (before : ℕ) (part : List ℕ) (x : CardCheck) → checkOf x ≡ firstRefused part → x ≡ AllAccepted → (out : List ℕ)
     → Finds before part out (record { any = false; used = 0 }) out
 finds-none before part x e p out =
-    let same = sym p ∙ e in
+    let same = ap checkOf (sym p) ∙ e in
     record {
       any = ap names same;
-      text = subst (λ (y : CardCheck). Writes out 0 (foundLine before part y) out 0) same (writes-none out 0 (omega arith));
+      text = subst (λ (y : Check). Writes out 0 (foundLine before part y) out 0) same (writes-none out 0 (omega arith));
     }
 
 -- where the record stands that the check names
-module _ (part : List ℕ) (x : CardCheck) (k : ℕ) (e : x ≡ firstRefused part) (p : x ≡ Refused k) where
-  named : firstRefused part ≡ Refused k
-  named = sym e ∙ p
+module _ (part : List ℕ) (x : CardCheck) (k : ℕ) (e : checkOf x ≡ firstRefused part) (p : x ≡ Refused k) where
+  named : firstRefused part ≡ bad k
+  named = sym e ∙ ap checkOf p
 
   pub named-low : 1 ≤ k
   named-low = first-some part k .0 named .number
@@ -86,8 +86,8 @@ module _ (a b : List ℕ) (j : ℕ) (whole : length a ≡ j * recordSize) where
   parts : firstRefused (a ++ b) ≡ orElse (firstRefused a) (behind j (firstRefused b))
   parts = go (firstRefused a) refl (firstRefused b) refl
     where
-      go : (x : CardCheck) → firstRefused a ≡ x → (y : CardCheck) → firstRefused b ≡ y → firstRefused (a ++ b) ≡ orElse x (behind j y)
-      go (Refused k) e y f =
+      go : (x : Check) → firstRefused a ≡ x → (y : Check) → firstRefused b ≡ y → firstRefused (a ++ b) ≡ orElse x (behind j y)
+      go (bad k) e y f =
           let B = first-some a k .0 e in
           let high : k ≤ j = omega (arith, B .inside) in
           first-some (a ++ b) k .1 (record {
@@ -96,7 +96,7 @@ module _ (a b : List ℕ) (j : ℕ) (whole : length a ≡ j * recordSize) where
             refused = front (k - 1) (omega (arith, B .number)) ∙ B .refused;
             before = λ i h. front i (omega arith) ∙ B .before i h;
           })
-      go AllAccepted e (Refused k) f =
+      go noBad e (bad k) f =
           let N = first-none a .0 e in
           let B = first-some b k .0 f in
           first-some (a ++ b) (j + k) .1 (record {
@@ -110,7 +110,7 @@ module _ (a b : List ℕ) (j : ℕ) (whole : length a ≡ j * recordSize) where
               → ((l : ℕ) → l < k - 1 → fine (recordAt b l) ≡ true) → i < j + k - 1 → fine (recordAt (a ++ b) i) ≡ true
           earlier i (yes l) N B h = front i l ∙ N i (omega arith)
           earlier i (no n) N B h = ap fine (at-behind (i - j) i (omega arith)) ∙ B (i - j) (omega arith)
-      go AllAccepted e AllAccepted f =
+      go noBad e noBad f =
           first-none (a ++ b) .1 (λ i h. each i (decLt i j) (omega (arith, all-long)))
         where
           each : (i : ℕ) → Dec (i < j) → i < j + recordCount (length b) → fine (recordAt (a ++ b) i) ≡ true
@@ -118,24 +118,24 @@ module _ (a b : List ℕ) (j : ℕ) (whole : length a ≡ j * recordSize) where
           each i (no n) h = ap fine (at-behind (i - j) i (omega arith)) ∙ first-none b .0 f (i - j) (omega arith)
 
   -- no record of the first part is named: what is found in the second is what the check of both says
-  module _ (none : firstRefused a ≡ AllAccepted) where
+  module _ (none : firstRefused a ≡ noBad) where
     both : firstRefused (a ++ b) ≡ behind j (firstRefused b)
-    both = parts ∙ ap (λ (x : CardCheck). orElse x (behind j (firstRefused b))) none
+    both = parts ∙ ap (λ (x : Check). orElse x (behind j (firstRefused b))) none
 
-    pub none-in-both : firstRefused b ≡ AllAccepted → firstRefused (a ++ b) ≡ AllAccepted
+    pub none-in-both : firstRefused b ≡ noBad → firstRefused (a ++ b) ≡ noBad
     none-in-both e = both ∙ ap (behind j) e
 
     pub finds-behind : {old new : List ℕ} {r : Found} → Finds j b old r new → Finds 0 (a ++ b) old r new
     finds-behind {old} {new} {r} F = go (firstRefused b) refl
       where
-        go : (y : CardCheck) → firstRefused b ≡ y → Finds 0 (a ++ b) old r new
-        go AllAccepted e =
+        go : (y : Check) → firstRefused b ≡ y → Finds 0 (a ++ b) old r new
+        go noBad e =
             let same = none-in-both e in
             record {
               any = F .any ∙ ap names (e ∙ sym same);
               text = subst (λ (l : List ℕ). Writes old 0 l new (r .used)) (ap (foundLine j b) e ∙ ap (foundLine 0 (a ++ b)) (sym same)) (F .text);
             }
-        go (Refused k) e =
+        go (bad k) e =
             let low = first-some b k .0 e .number in
             let same = both ∙ ap (behind j) e in
             let number : j + k ≡ 0 + (j + k) = omega arith in
@@ -159,25 +159,25 @@ unfolding placed
 writes-nothing w = w .content
 
 module _ (card : List ℕ) {old new : List ℕ} {r : Found} (F : Finds 0 card old r new) where
-  none-named : r .any ≡ false → firstRefused card ≡ AllAccepted
+  none-named : r .any ≡ false → firstRefused card ≡ noBad
   none-named t = go (firstRefused card) (sym (F .any) ∙ t)
     where
-      go : (y : CardCheck) → names y ≡ false → y ≡ AllAccepted
-      go AllAccepted h = refl
-      go (Refused k) h = absurd (true≢false h)
+      go : (y : Check) → names y ≡ false → y ≡ noBad
+      go noBad h = refl
+      go (bad k) h = absurd (true≢false h)
 
-  pub found-none : r .any ≡ false → (firstRefused card ≡ AllAccepted) × (new ≡ old)
+  pub found-none : r .any ≡ false → (firstRefused card ≡ noBad) × (new ≡ old)
   found-none t =
       let e = none-named t in
-      (e, writes-nothing (subst (λ (y : CardCheck). Writes old 0 (foundLine 0 card y) new (r .used)) e (F .text)))
+      (e, writes-nothing (subst (λ (y : Check). Writes old 0 (foundLine 0 card y) new (r .used)) e (F .text)))
 
   pub says-found : r .any ≡ true → Writes old 0 (checkText card) new (r .used)
   unfolding checkText
   says-found t = go (firstRefused card) refl (sym (F .any) ∙ t)
     where
-      go : (y : CardCheck) → firstRefused card ≡ y → names y ≡ true → Writes old 0 (lineOf card (firstRefused card)) new (r .used)
-      go AllAccepted e h = absurd (false≢true h)
-      go (Refused k) e h =
+      go : (y : Check) → firstRefused card ≡ y → names y ≡ true → Writes old 0 (lineOf card (firstRefused card)) new (r .used)
+      go noBad e h = absurd (false≢true h)
+      go (bad k) e h =
           subst (λ (l : List ℕ). Writes old 0 l new (r .used)) (ap (foundLine 0 card) e ∙ ap (lineOf card) (sym e)) (F .text)
 
   pub says-ok : r .any ≡ false → {last : List ℕ} {u : ℕ} → Writes new 0 okLine last u → Writes old 0 (checkText card) last u

@@ -1,11 +1,9 @@
 -- The restored record. Assumes nothing.
 use mathlib.Core.Path.{_≡_, refl, sym, ap, ap₂, _∙_, subst₂}
-use mathlib.Core.Bool.{Bool, cond}
 use mathlib.Core.List.{List, _∷_, _++_}
 use Prim.Native.Nat.{ℕ, _+_, _-_}
 use native.Mathlib.Omega.{arith}
 use lib.ListN.{length, take, drop, replicate, take-append-drop, length-drop}
-use borrow.Author.Tests.{eq-eqb, ne-eqb}
 use lib.Seq.{drop-at, drop-drop, length-take-le}
 use Rattle.field.specs.Question.{Outcome, accepted, refused, refusal, after}
 use Rattle.field.specs.declared.Question.{Question}
@@ -21,6 +19,8 @@ use Rattle.code.proofs.Lengths.{places-most}
 use Rattle.code.proofs.Demands.{accepts, refused-unchanged}
 use Rattle.card.specs.Record.{erasureBytes, headerSize, recordSize, widthOf, countOf, wordOf, tailOf, erasuresOf, recordAsked, clearRecord, onAccept}
 use Rattle.card.specs.Record.{recordWithinOf, recordWithinWritten, RestoresRecordWithin, reachOf, recordOf, recordWritten, RestoresRecord, copyWritten}
+use Rattle.card.specs.Record.{noCopy, RestoresCopy}
+use Rattle.card.specs.declared.RestoredCopy.{RestoredCopy}
 use Rattle.card.proofs.Layouts.{Asked, asked, all-replicate, length-no, word-part, erasures-part}
 
 -- the record's own questions were answered no
@@ -131,10 +131,25 @@ short-refused r n = within-refused r (reachOf r) (RefusedBy Length) Length (leng
 
 -- ---- a record restored in a copy
 
-pub copy-short : (r : List ℕ) → (length r ≡ recordSize → ⊥) → replicate recordSize 0 ≡ copyWritten r
+pub copy-accepted : (r : List ℕ) (k : ℕ) → accepted k ≡ recordOf r → recordWritten r ≡ copyWritten r
 unfolding copyWritten
-copy-short r n = sym (ap (λ (b : Bool). cond b (recordWritten r) (replicate recordSize 0)) (ne-eqb (length r) recordSize n))
+copy-accepted r k e = ap (λ (o : Outcome). onAccept o (replicate recordSize 0) (recordWritten r)) e
 
-pub copy-whole : (r : List ℕ) → length r ≡ recordSize → recordWritten r ≡ copyWritten r
+pub copy-refused : (r : List ℕ) (n : ℕ) → refused n ≡ recordOf r → replicate recordSize 0 ≡ copyWritten r
 unfolding copyWritten
-copy-whole r e = sym (ap (λ (b : Bool). cond b (recordWritten r) (replicate recordSize 0)) (eq-eqb (length r) recordSize e))
+copy-refused r n e = ap (λ (o : Outcome). onAccept o (replicate recordSize 0) (recordWritten r)) e
+
+-- the row is the record r, and restoring it made it `new`
+pub copied-yes : (r row : List ℕ) → row ≡ r → (x : Repair) (new : List ℕ) → RestoresRecord row x new → (k : ℕ) → x ≡ Restored k
+    → RestoresCopy r (record { answer = Restored k; bytes = new })
+copied-yes r row e x new R k p =
+    let o : accepted k ≡ recordOf r = ap repair (sym p) ∙ R .answer ∙ ap recordOf e in
+    record { answer = o; content = R .content ∙ ap recordWritten e ∙ copy-accepted r k o }
+
+pub row-refused : (r row : List ℕ) → row ≡ r → (x : Repair) (new : List ℕ) → RestoresRecord row x new → (q : Question) → x ≡ Refused q
+    → refused (refusal q) ≡ recordOf r
+row-refused r row e x new R q p = ap repair (sym p) ∙ R .answer ∙ ap recordOf e
+
+pub copied-no : (r : List ℕ) (q : Question) → refused (refusal q) ≡ recordOf r → (x : RestoredCopy) → x ≡ noCopy q → RestoresCopy r x
+copied-no r q o x e =
+    record { answer = ap (λ (y : RestoredCopy). repair (y .answer)) e ∙ o; content = ap (λ (y : RestoredCopy). y .bytes) e ∙ copy-refused r (refusal q) o }

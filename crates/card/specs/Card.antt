@@ -61,13 +61,23 @@ passes r = isAccepted (recordOf r)
 abbrev pub fine : List ℕ → Bool
 fine slot = isBlank slot || passes slot
 
--- of the k slots from slot i on, counted from 0, the first that is not fine, by its number, counted from 1
-unfoldable pub firstFrom : List ℕ → ℕ → ℕ → CardCheck
-firstFrom card i zero = AllAccepted
-firstFrom card i (suc k) = cond (fine (recordAt card i)) (firstFrom card (suc i) k) (Refused (suc i))
+-- what a card check says, in document 01's terms: every record would be accepted, or the number of one that would not be, counted from 1
+pub data Check : Type 0 where
+  noBad : Check
+  bad : ℕ → Check
 
--- what the card check answers: the lowest number of a record that would be refused, if there is one
-abbrev pub firstRefused : List ℕ → CardCheck
+-- by the cases of the program's answer
+abbrev pub checkOf : CardCheck → Check
+checkOf AllAccepted = noBad
+checkOf (Refused k) = bad k
+
+-- of the k slots from slot i on, counted from 0, the first that is not fine, by its number, counted from 1
+unfoldable pub firstFrom : List ℕ → ℕ → ℕ → Check
+firstFrom card i zero = noBad
+firstFrom card i (suc k) = cond (fine (recordAt card i)) (firstFrom card (suc i) k) (bad (suc i))
+
+-- what the card check says: the lowest number of a record that would be refused, if there is one
+abbrev pub firstRefused : List ℕ → Check
 firstRefused card = firstFrom card 0 (recordCount (length card))
 
 -- ---- what the answer says; proofs/Checking.antt proves it
@@ -84,6 +94,6 @@ abbrev pub NoneBad : List ℕ → Type 0
 NoneBad card = (i : ℕ) → i < recordCount (length card) → fine (recordAt card i) ≡ true
 
 -- document 01's card check, which leaves open which of the records that would be refused is named
-abbrev pub Checks : List ℕ → CardCheck → Type 0
-Checks card AllAccepted = NoneBad card
-Checks card (Refused k) = (1 ≤ k) × (k ≤ recordCount (length card)) × (fine (recordAt card (k - 1)) ≡ false)
+abbrev pub Checks : List ℕ → Check → Type 0
+Checks card noBad = NoneBad card
+Checks card (bad k) = (1 ≤ k) × (k ≤ recordCount (length card)) × (fine (recordAt card (k - 1)) ≡ false)

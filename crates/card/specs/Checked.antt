@@ -6,12 +6,10 @@ use Prim.Native.Nat.{ℕ, _+_, _*_, _≤_}
 use lib.ListN.{length}
 use Rattle.field.specs.Question.{Outcome, accepted, refused}
 use Rattle.card.specs.Record.{recordSize, recordOf}
-use Rattle.card.specs.Card.{recordNumbered, firstRefused}
+use Rattle.card.specs.Card.{recordNumbered, Check, noBad, bad, firstRefused}
 use Rattle.card.specs.Placed.{Writes}
 use Rattle.card.specs.Batch.{batchSize}
 use Rattle.card.specs.Words.{bytesOf, refusalLine}
-use Rattle.card.specs.declared.CardCheck.{CardCheck}
-use Rattle.card.specs.declared.CardCheck.the-variants.{AllAccepted, Refused}
 use Rattle.card.specs.declared.checked.Found.{Found}
 
 -- the line of a record that would be refused
@@ -20,27 +18,27 @@ outcomeLine n (accepted k) = []
 outcomeLine n (refused r) = refusalLine n r
 
 -- the line of the record that the check of a part names, where so many slots stand before the part; none where it names none
-abbrev pub foundLine : ℕ → List ℕ → CardCheck → List ℕ
-foundLine before part AllAccepted = []
-foundLine before part (Refused k) = outcomeLine (before + k) (recordOf (recordNumbered part k))
+abbrev pub foundLine : ℕ → List ℕ → Check → List ℕ
+foundLine before part noBad = []
+foundLine before part (bad k) = outcomeLine (before + k) (recordOf (recordNumbered part k))
 
 -- the line of a card whose records would all be accepted
 abbrev pub okLine : List ℕ
 okLine = bytesOf "ok\n"
 
 -- the line of a card, by the answer of its check
-abbrev pub lineOf : List ℕ → CardCheck → List ℕ
-lineOf card AllAccepted = okLine
-lineOf card (Refused k) = foundLine 0 card (Refused k)
+abbrev pub lineOf : List ℕ → Check → List ℕ
+lineOf card noBad = okLine
+lineOf card (bad k) = foundLine 0 card (bad k)
 
 -- what a check of the card says
 unfoldable pub checkText : List ℕ → List ℕ
 checkText card = lineOf card (firstRefused card)
 
 -- does the check name a record?
-abbrev pub names : CardCheck → Bool
-names AllAccepted = false
-names (Refused k) = true
+abbrev pub names : Check → Bool
+names noBad = false
+names (bad k) = true
 
 -- the check of a part, where so many slots stand before it: whether it names a record, whose line is then written
 pub record Finds (before : ℕ) (part old : List ℕ) (r : Found) (new : List ℕ) : Type 0 where
@@ -50,14 +48,14 @@ pub record Finds (before : ℕ) (part old : List ℕ) (r : Found) (new : List �
 -- ---- a card in parts; proofs/Finding.antt proves it
 
 -- the answer of one check behind j slots
-abbrev pub behind : ℕ → CardCheck → CardCheck
-behind j AllAccepted = AllAccepted
-behind j (Refused k) = Refused (j + k)
+abbrev pub behind : ℕ → Check → Check
+behind j noBad = noBad
+behind j (bad k) = bad (j + k)
 
 -- the first of two answers that names a record
-abbrev pub orElse : CardCheck → CardCheck → CardCheck
-orElse (Refused k) next = Refused k
-orElse AllAccepted next = next
+abbrev pub orElse : Check → Check → Check
+orElse (bad k) next = bad k
+orElse noBad next = next
 
 -- the first refused record of a card is that of its first part, of j whole slots, or that of the second part, with the number running on
 abbrev pub FirstInParts : Type 0

@@ -6,6 +6,7 @@ use Prim.Native.Nat.{ℕ, _+_, _-_, min}
 use lib.Dec.{eqb, leb}
 use lib.ListN.{length, getD, take, drop, replicate}
 use Rattle.field.specs.Question.{Outcome, accepted, refused, ask, after, isWidth}
+use Rattle.field.specs.declared.Question.{Question}
 use Rattle.field.specs.declared.Question.the-variants.{Width, Length, ErasureCount, Padding}
 use Rattle.field.specs.declared.Verdict.{Verdict}
 use Rattle.field.specs.declared.Verdict.the-variants.{Passed}
@@ -13,6 +14,7 @@ use Rattle.code.specs.Word.{places, longest}
 use Rattle.code.specs.Near.{radius}
 use Rattle.code.specs.Call.{maxErasures, withinOf, withinWritten, repair}
 use Rattle.code.specs.declared.Repair.{Repair}
+use Rattle.code.specs.declared.Repair.the-variants.{Refused}
 use Rattle.card.specs.declared.RestoredCopy.{RestoredCopy}
 
 -- ---- the layout, with k erasure bytes, document 01's mark bytes
@@ -151,9 +153,13 @@ pub record RestoresRecord (old : List ℕ) (r : Repair) (new : List ℕ) : Type 
 
 -- ---- a record restored in a copy
 
--- the copy: the record after the call, and zeros where it has not the length of one
+-- the copy: the record after the call, and zeros where it is refused
 unfoldable pub copyWritten : List ℕ → List ℕ
-copyWritten r = cond (eqb (length r) recordSize) (recordWritten r) (replicate recordSize 0)
+copyWritten r = onAccept (recordOf r) (replicate recordSize 0) (recordWritten r)
+
+-- the answer and the copy of a record that is refused
+abbrev pub noCopy : Question → RestoredCopy
+noCopy q = record { answer = Refused q; bytes = replicate recordSize 0 }
 
 -- what restored_copy gives
 pub record RestoresCopy (r : List ℕ) (x : RestoredCopy) : Type 0 where

@@ -3,7 +3,7 @@ ghost use mathlib.Core.Path.{_≡_};
 ghost use Prim.Native.Nat.{_≤_};
 ghost use lib.ListN.{length};
 ghost use Rattle.card.specs.Record.{erasureBytes};
-ghost use Rattle.card.specs.Card.{recordCount, SlotFrom, isNumber, blankIn, isBlank, passes, fine, firstRefused};
+ghost use Rattle.card.specs.Card.{recordCount, SlotFrom, isNumber, blankIn, isBlank, passes, fine, checkOf, firstRefused};
 use crate::CardCheck;
 use crate::records::ERASURE_BYTES;
 use crate::records::RECORD;
@@ -30,7 +30,7 @@ pub fn is_number(number: usize, n: usize) -> bool
     if number < 1 { false } else { number <= n }
 }
 
-// The slot of the card that begins at byte `at`; the last may be shorter.
+// The slot of the card that begins at byte `at`; the last may be shorter. No entry point: it requires a place inside the card.
 pub fn record_from(card: &[u8], at: usize) -> &[u8]
     requires { ⌜ at ≤ length (now card) ⌝ }
     ensures { λ r. ⌜ SlotFrom (card .entry) at r ⌝ }
@@ -82,7 +82,7 @@ fn is_fine(slot: &[u8]) -> bool
 
 // Looks at each slot in turn, and stops at the first whose record would be refused.
 pub fn check(card: &[u8]) -> CardCheck
-    ensures { λ r. ⌜ r ≡ firstRefused (now (card .entry)) ⌝ }
+    ensures { λ r. ⌜ checkOf r ≡ firstRefused (now (card .entry)) ⌝ }
 {
     let mut at = 0;
     let mut i = 0;

@@ -32,7 +32,7 @@ fn put_outcome(bytes: &[u8], number: u64, out: &mut [u8]) -> usize
 }
 
 // Checks a batch, where so many slots of the card stand before it: the line of the first record that would be refused is written, if there
-// is one.
+// is one. No entry point: it requires at most a batch, a number that does not overflow, and room for the line.
 pub fn check_batch(batch: &[u8], before: u64, out: &mut [u8]) -> Found
     requires { ⌜ (length (now batch) ≤ batchSize) × (before ≤ 2 ^ 62) × (longestRefusal ≤ length (now out)) ⌝ }
     ensures { λ r. ⌜ Finds before (now (batch .entry)) (now (out .entry)) r (now (out .exit)) ⌝ }

@@ -66,7 +66,8 @@ fn see_slot(s: Findings, slot: &[u8], k: usize) -> Findings
     }
 }
 
-// Puts the questions to the slots of a part, where they have found s before it. A piece of a slot behind them is left out.
+// Puts the questions to the slots of a part, where they have found s before it. A piece of a slot behind them is left out. No entry point: it
+// requires an edition of at most five erasure bytes, and a count that does not overflow.
 pub fn see_part(s: Findings, part: &[u8], k: usize) -> Findings
     requires { ⌜ (k ≤ erasureBytes) × (s .slots + length (now part) < 2 ^ 64) ⌝ }
     ensures { λ r. ⌜ r ≡ partFound k s (now (part .entry)) ⌝ }
@@ -94,7 +95,8 @@ pub fn found_verdict(s: Findings, rest: usize) -> Verdict
     verdict_of(s.passed)
 }
 
-// The number of its first offending record: a piece is the one behind the last slot.
+// The number of its first offending record: a piece is the one behind the last slot. No entry point: it requires a count that does not
+// overflow.
 pub fn found_number(s: Findings, rest: usize) -> u64
     requires { ⌜ s .slots + 1 < 2 ^ 64 ⌝ }
     ensures { λ r. ⌜ r ≡ foundNumber s rest ⌝ }

@@ -7,7 +7,7 @@ ghost use lib.ListN.{length, take, drop, replicate};
 ghost use Rattle.field.specs.declared.Verdict.the-variants.{Passed};
 ghost use Rattle.code.specs.Call.{maxErasures, repair};
 ghost use Rattle.card.specs.Record.{sizeOf, erasureBytes, headerSize, recordSize, allAre, recordAsked, recordOf, RestoresRecordWithin, RestoresRecord};
-ghost use Rattle.card.specs.Record.{RestoresCopy};
+ghost use Rattle.card.specs.Record.{noCopy, RestoresCopy};
 ghost use Rattle.card.specs.Leading.{recordPasses, verdictAt};
 use crate::RestoredCopy;
 use code::Repair;
@@ -29,7 +29,7 @@ pub const HEADER: usize = 2 + ERASURE_BYTES;
 
 pub const RECORD: usize = HEADER + 132;
 
-// The number of bytes of a record.
+// The number of bytes of a record. No entry point: it requires an edition of at most five erasure bytes.
 pub fn size_of(k: usize) -> usize
     requires { ⌜ k ≤ erasureBytes ⌝ }
     ensures { λ r. ⌜ r ≡ sizeOf k ⌝ }
@@ -189,19 +189,31 @@ fn copied(bytes: &[u8]) -> [u8; RECORD]
     row
 }
 
+// Zeros beside a refusal.
+fn refused_copy(q: Question) -> RestoredCopy
+    ensures { λ r. ⌜ r ≡ noCopy q ⌝ }
+{
+    RestoredCopy {
+        answer: Repair::Refused(q),
+        bytes: [0; RECORD],
+    }
+}
+
 // A record is restored in a copy; it stays as it is.
 pub fn restored_copy(bytes: &[u8]) -> RestoredCopy
     ensures { λ r. ⌜ RestoresCopy (now (bytes .entry)) r ⌝ }
 {
     if bytes.len() != RECORD {
-        return RestoredCopy {
-            answer: Repair::Refused(Question::Length),
-            bytes: [0; RECORD],
-        };
+        return refused_copy(Question::Length);
     }
     let mut row = copied(bytes);
-    let answer = restore_record(&mut row);
-    RestoredCopy { answer, bytes: row }
+    match restore_record(&mut row) {
+        Repair::Restored(k) => RestoredCopy {
+            answer: Repair::Restored(k),
+            bytes: row,
+        },
+        Repair::Refused(q) => refused_copy(q),
+    }
 }
 
 // What restoring the record would answer; the record stays as it is.

@@ -10,8 +10,8 @@ use crate::text::put_field;
 use field::Question;
 use field::refusal_number;
 
-// Writes what was wrong in plain words, as README's table of refusals has it.
-pub fn put_words(out: &mut [u8], at: usize, q: Question) -> usize
+// Writes what was wrong in plain words, as the table of refusals has it.
+pub(crate) fn put_words(out: &mut [u8], at: usize, q: Question) -> usize
     requires { ⌜ at + longestWords ≤ length (now out) ⌝ }
     ensures { λ r. ⌜ Writes (now (out .entry)) at (words (refusal q)) (now (out .exit)) r ⌝ }
     ensures { λ r. ⌜ r ≤ at + longestWords ⌝ }
@@ -61,7 +61,7 @@ pub fn put_words(out: &mut [u8], at: usize, q: Question) -> usize
     }
 }
 
-// Writes the line that names a refused record: its number, its refusal number, and the words.
+// Writes the line that names a refused record: its number, its refusal number, and the words. No entry point: it requires room for it.
 pub fn put_refusal(out: &mut [u8], at: usize, number: u64, q: Question) -> usize
     requires { ⌜ at + longestRefusal ≤ length (now out) ⌝ }
     ensures { λ r. ⌜ Writes (now (out .entry)) at (refusalLine number (refusal q)) (now (out .exit)) r ⌝ }

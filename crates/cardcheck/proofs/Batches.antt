@@ -6,7 +6,7 @@ use Prim.Native.Nat.{ℕ, _+_, _*_}
 use native.Mathlib.Omega.{arith}
 use borrow.Author.Tests.{not-false}
 use lib.ListN.{length, length-append}
-use Rattle.card.specs.Card.{firstRefused, firstFrom}
+use Rattle.card.specs.Card.{noBad, firstRefused, firstFrom}
 use Rattle.card.specs.Batch.{batchSize}
 use Rattle.card.specs.Checked.{okLine, Finds, FindsBatch, FindsSome, Says}
 use Rattle.card.specs.Placed.{Writes}
@@ -18,7 +18,7 @@ use Rattle.card.proofs.Finding.{finds-none, finds-behind, found-none, says-foun
 pub record Fine (i : ℕ) : Type 0 where
   pub bytes : List ℕ
   pub whole : length bytes ≡ i * batchSize
-  pub none : firstRefused bytes ≡ AllAccepted
+  pub none : firstRefused bytes ≡ noBad
 
 pub fine-start : Fine 0
 unfolding firstFrom

@@ -2,8 +2,8 @@
 use mathlib.Core.Path.{_≡_, refl, sym, ap, _∙_, subst}
 use mathlib.Core.Logic.{_↔_}
 use mathlib.Core.Bool.{Bool, true, false, cond, true≢false}
-use mathlib.Core.List.{List, []}
-use Prim.Native.Nat.{ℕ}
+use mathlib.Core.List.{List, [], _∷_, map}
+use Prim.Native.Nat.{ℕ, _+_, _-_, _/_}
 use native.Mathlib.Omega.{arith}
 use lib.ListN.{length}
 use Rattle.field.specs.Question.{Outcome, accepted, after, isWidth}
@@ -13,7 +13,7 @@ use Rattle.sums.proofs.Evaluation.{five-cong}
 use Rattle.code.specs.Word.{places, at, syndrome, Codeword, encode, dataOf}
 use Rattle.code.specs.Erasure.{syndromesOf}
 use Rattle.code.specs.Call.{written, done, withinWritten, shown, allZero, zeroSyndromes, encodeOf, encodeWritten, testOf}
-use Rattle.code.specs.Demands.{Data, EncoderMakes, EncoderMade, ReadBack, TestsCodeword, NeverTwo, Accepts, RefusesSeven, RefusesFourteen, FewErasures}
+use Rattle.code.specs.Demands.{Data, EncoderMakes, EncoderMade, ReadBack, TestsCodeword, Radii, NeverTwo, Accepts, RefusesSeven, RefusesFourteen, FewErasures}
 use Rattle.code.specs.Demands.{AsEarlier, LongerReach, ShorterReach, RefusedUnchanged, FewChanged, SameRestored, MethodsAgree, DisplaysPlain, DisplaysZero, SameDisplayed}
 use Rattle.code.proofs.Encoding.{encode-codeword, encode-data, codeword-data, codeword-encode}
 use Rattle.code.proofs.Passing.{encode-passes, read-passes, test-codeword, zero-syndromes, five-zero, given, within-passes}
@@ -61,6 +61,12 @@ tests-codeword m w p = judged (zeroSyndromes m w) (testOf m w)
     (test-codeword m w p, λ C. zero-syndromes m w (C .zero-syndromes))
 
 -- ---- demand 3
+
+pub radii : Radii
+radii m = (
+  λ e. ap (λ (d : ℕ). map (λ (s : ℕ). (4 + d - 1 - s) / 2) (0 ∷ 1 ∷ 2 ∷ 3 ∷ 4 ∷ 5 ∷ [])) e,
+  λ e. ap (λ (d : ℕ). map (λ (s : ℕ). (4 + d - 1 - s) / 2) (0 ∷ 1 ∷ 2 ∷ 3 ∷ [])) e,
+)
 
 pub never-two : NeverTwo
 never-two = Restoring.never-two

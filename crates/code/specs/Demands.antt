@@ -3,7 +3,7 @@
 use mathlib.Core.Path.{_≡_}
 use mathlib.Core.Logic.{_↔_, _≢_, _⊎_}
 use mathlib.Core.Bool.{true, false, cond}
-use mathlib.Core.List.{List, [], _∷_}
+use mathlib.Core.List.{List, [], _∷_, map}
 use Prim.Native.Nat.{ℕ, _+_, _%_, _≤_, _<_}
 use lib.Dec.{eqb, leb}
 use lib.ListN.{length, replicate}
@@ -51,6 +51,13 @@ TestsCodeword =
     → ((testOf m w ≡ accepted 1) ↔ Codeword m w) × ((testOf m w ≡ accepted 0) ↔ (Codeword m w → ⊥))
 
 -- ---- demand 3
+
+-- r by the number of erasures from 0 on: at an odd width 2, 1, 1, 0, 0 and 0 with five, at an even one 1, 1, 0, 0
+abbrev pub Radii : Type 0
+Radii =
+    (m : ℕ)
+    → (m % 2 ≡ 1 → map (radius m) (0 ∷ 1 ∷ 2 ∷ 3 ∷ 4 ∷ 5 ∷ []) ≡ 2 ∷ 1 ∷ 1 ∷ 0 ∷ 0 ∷ 0 ∷ [])
+    × (m % 2 ≡ 0 → map (radius m) (0 ∷ 1 ∷ 2 ∷ 3 ∷ []) ≡ 1 ∷ 1 ∷ 0 ∷ 0 ∷ [])
 
 -- the input passes the questions about the word and its erasures
 abbrev pub Passes : ℕ → List ℕ → List ℕ → Type 0

@@ -3,6 +3,7 @@ use mathlib.Core.Path.{_≡_, sym, ap, _∙_}
 use Prim.Native.Nat.{ℕ, _*_}
 use Rattle.field.specs.Question.{Outcome, accepted, refused, refusal}
 use Rattle.field.specs.declared.Question.{Question}
+use Rattle.card.specs.Card.{Check, checkOf}
 use Rattle.card.specs.declared.CardCheck.{CardCheck}
 use Rattle.card.specs.declared.CardCheck.the-variants.{AllAccepted, Refused}
 use Rattle.exports.specs.Packed.{packed, packedTotals, checked}
@@ -18,12 +19,12 @@ refusal-packed out refusing a q n w h r o e = h ∙ r ∙ sym (ap packed (ap out
 
 -- ---- the card check
 
--- r is the answer x
-pub check-all : (r x : CardCheck) → r ≡ x → r ≡ AllAccepted → 0 ≡ checked x
-check-all r x h e = ap checked (sym e ∙ h)
+-- r says x
+pub check-all : (r : CardCheck) (x : Check) → checkOf r ≡ x → r ≡ AllAccepted → 0 ≡ checked x
+check-all r x h e = ap checked (ap checkOf (sym e) ∙ h)
 
-pub check-some : (r x : CardCheck) (k : ℕ) → r ≡ x → r ≡ Refused k → k ≡ checked x
-check-some r x k h e = ap checked (sym e ∙ h)
+pub check-some : (r : CardCheck) (x : Check) (k : ℕ) → checkOf r ≡ x → r ≡ Refused k → k ≡ checked x
+check-some r x k h e = ap checked (ap checkOf (sym e) ∙ h)
 
 -- ---- a comparison
 

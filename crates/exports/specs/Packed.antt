@@ -3,8 +3,7 @@ use mathlib.Core.List.{List}
 use Prim.Native.Nat.{ℕ, _+_, _*_}
 use lib.ListN.{getD}
 use Rattle.field.specs.Question.{Outcome, accepted, refused}
-use Rattle.card.specs.declared.CardCheck.{CardCheck}
-use Rattle.card.specs.declared.CardCheck.the-variants.{AllAccepted, Refused}
+use Rattle.card.specs.Card.{Check, noBad, bad}
 
 -- refusal + 256 * value: the refusal is 0 where the call accepts, and the value is 0 where it refuses
 abbrev pub packed : Outcome → ℕ
@@ -20,6 +19,6 @@ abbrev pub packedTotals : ℕ → ℕ → ℕ → ℕ → ℕ
 packedTotals n e a b = n + 65536 * (e + 256 * (a + 256 * b))
 
 -- the number that the card check returns: a record's, or 0, which is none's
-abbrev pub checked : CardCheck → ℕ
-checked AllAccepted = 0
-checked (Refused k) = k
+abbrev pub checked : Check → ℕ
+checked noBad = 0
+checked (bad k) = k

@@ -4,6 +4,7 @@ pub mod Laws
 pub mod Widths
 pub mod Ask
 pub mod Bytes
+pub mod Demands
 -- the way to them, and the lemmas of the functions' proofs
 mod Polynomial
 mod Ring

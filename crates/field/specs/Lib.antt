@@ -3,3 +3,4 @@ pub mod Field
 pub mod Question
 pub mod Answer
 pub mod Bytes
+pub mod Demands

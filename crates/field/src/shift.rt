@@ -38,7 +38,7 @@ fn shift_at(width: u8, middle: u8, a: u8, k: u8) -> u8
     }
 }
 
-// a times the power k of α.
+// a times the power k of α. No entry point: it requires that k is at most four.
 pub fn shift(width: u8, a: u8, k: u8) -> u8
     requires { ⌜ k ≤ 4 ⌝ }
     ensures { λ r. ⌜ r ≡ shifted width a k ⌝ }

@@ -20,7 +20,7 @@ use Rattle.card.specs.Record.{headerSize, recordSize, widthOf, wordOf, erasures
 use Rattle.card.specs.Record.{recordWithinOf, recordWithinWritten, recordWritten}
 use Rattle.card.specs.Card.{recordAt}
 use Rattle.card.proofs.Layouts.{asked}
-use Rattle.card.proofs.Recording.{copy-whole}
+use Rattle.card.proofs.Recording.{copy-accepted}
 use Rattle.sheet.specs.Sheet.{sheetWidth, sheetSize, symbolsOf}
 use Rattle.sheet.specs.Call.{contentAsked, readSheetAsked}
 use Rattle.sheet.specs.Demands.{SheetSymbols}
@@ -115,7 +115,7 @@ module _ (r : List ℕ) where
 
     copied : copyWritten r ≡ clearRecord m c
     unfolding recordOf recordWritten recordWithinWritten m c
-    copied = sym (copy-whole r (asked r passed .size)) ∙ ap (λ (o : Outcome). onAccept o r (clearRecord m c)) e
+    copied = sym (copy-accepted r k (sym e)) ∙ ap (λ (o : Outcome). onAccept o r (clearRecord m c)) e
 
     clear-whole : Whole (clearRecord m c)
     unfolding m

@@ -6,6 +6,7 @@ use Prim.Native.Nat.{ℕ, _+_, _-_, _*_}
 use native.Mathlib.Omega.{arith}
 use lib.Dec.{ltb}
 use lib.ListN.{length, take, drop}
+use denote.Ref.{RefT, now}
 use lib.Seq.{getD-take, getD-drop}
 use Rattle.field.specs.Question.{Outcome, accepted, ask, after}
 use Rattle.field.specs.declared.Question.the-variants.{RecordNumber, SameDay}
@@ -15,6 +16,7 @@ use Rattle.field.proofs.Ask.{ask-yes}
 use Rattle.code.specs.Word.{at}
 use Rattle.code.specs.Demands.{occurs}
 use Rattle.card.specs.Record.{recordSize}
+use Rattle.card.specs.Card.{LiesAt}
 use Rattle.sheet.specs.Sheet.{quarters}
 use Rattle.sheet.proofs.Asking.{after-accepted}
 use Rattle.report.specs.Day.{hasRecord, slotOf, Day, sheet, noSheet, dayOf, daySymbols}
@@ -128,26 +130,31 @@ totals-make c i d j w e =
       sheet-signs-long ss ts (first-long c i d j w e) (second-long c i d j w e),
     )
 
--- the slot of a day sheet
-slot-stands : (card : List ℕ) (n k : ℕ) (ss : List ℕ) → hasRecord card n ≡ true → dayOf (slotOf card n) ≡ sheet k ss → StandsAt card n (slotOf card n)
-slot-stands card n k ss h e = record {
+-- the slot of a day sheet, where it lies
+slot-stands : (card : RefT (List ℕ)) (n k : ℕ) (ss : List ℕ) → hasRecord (now card) n ≡ true → dayOf (slotOf (now card) n) ≡ sheet k ss
+    → (part : RefT (List ℕ)) → now part ≡ slotOf (now card) n → LiesAt card ((n - 1) * recordSize) part → StandsAt card n part
+slot-stands card n k ss h e part b l = record {
   number = h;
-  size = is-sheet (slotOf card n) k ss e .size;
-  bytes = λ p l.
-      sym (ap (λ (xs : List ℕ). at xs p) (slot-some card n true (sym h) refl))
-      ∙ getD-take recordSize (drop ((n - 1) * recordSize) card) p 0 l
-      ∙ getD-drop ((n - 1) * recordSize) card p 0;
+  size = ap length b ∙ is-sheet (slotOf (now card) n) k ss e .size;
+  bytes = λ p less.
+      ap (λ (xs : List ℕ). at xs p) (b ∙ sym (slot-some (now card) n true (sym h) refl))
+      ∙ getD-take recordSize (drop ((n - 1) * recordSize) (now card)) p 0 less
+      ∙ getD-drop ((n - 1) * recordSize) (now card) p 0;
+  lies = l;
 }
 
 pub part-stands : PartStands
-part-stands c i d j = (
+part-stands x i y j part H = (
   λ e.
-      let G = agreed c i d j 1 e in
-      rw e (slot-stands c i (G .k) (G .ss) (G .number) (G .controller)),
+      let G = agreed (now x) i (now y) j 1 e in
+      slot-stands x i (G .k) (G .ss) (G .number) (G .controller) part (H .bytes ∙ ap chosen e) (H .controller e),
   λ e.
-      let G = agreed c i d j 2 e in
-      rw e (slot-stands d j (G .l) (G .ts) (G .other-number) (G .cupboard)),
+      let G = agreed (now x) i (now y) j 2 e in
+      slot-stands y j (G .l) (G .ts) (G .other-number) (G .cupboard) part (H .bytes ∙ ap chosen e) (H .cupboard e),
 )
+  where
+    chosen : Outcome → List ℕ
+    chosen = λ o. partOf o (slotOf (now x) i) (slotOf (now y) j)
 
 pub refused-nothing : RefusedNothing
 refused-nothing c i d j n e = (

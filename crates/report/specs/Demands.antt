@@ -7,15 +7,16 @@ use mathlib.Core.List.{List, [], _++_}
 use Prim.Native.Nat.{ℕ, zero, suc, _+_, _-_, _*_, _≤_, _<_, min}
 use lib.Dec.{eqb}
 use lib.ListN.{length, replicate}
+use denote.Ref.{RefT, now}
 use Rattle.field.specs.Question.{accepted, refused}
 use Rattle.code.specs.Word.{at}
 use Rattle.code.specs.Demands.{occurs}
 use Rattle.card.specs.Record.{recordSize}
-use Rattle.card.specs.Card.{recordCount, recordAt, isBlank}
+use Rattle.card.specs.Card.{recordCount, recordAt, LiesAt, isBlank}
 use Rattle.card.specs.Listing.{decimal, mostRecords}
 use Rattle.sheet.specs.Sheet.{quarters, pumpAt}
 use Rattle.report.specs.Day.{hasRecord, slotOf, Day, sheet, noSheet, dayOf}
-use Rattle.report.specs.Compare.{signOf, sameDay, chosenOf, symbolsAt, compareOf, compareSigns, compareTotal, comparePart}
+use Rattle.report.specs.Compare.{signOf, sameDay, chosenOf, symbolsAt, compareOf, compareSigns, compareTotal, comparePart, HandsBack}
 use Rattle.report.specs.Window.{isWindow, countsIn, sumOf, fullCount, dateOf, earlier, pumps, rowSize, refusedAt, blankAt, moreAt}
 use Rattle.report.specs.Window.{rowFrom, rowOf, partAdded, reportOf}
 use Rattle.report.specs.Quarter.{clockText, quarterOf}
@@ -62,18 +63,19 @@ TotalsMake =
     (c : List ℕ) (i : ℕ) (d : List ℕ) (j w : ℕ) → compareOf c i d j ≡ accepted w
     → compareTotal c i d j 0 + compareTotal c i d j 1 + compareTotal c i d j 2 ≡ quarters
 
--- the part is a whole slot of the card, that with the number n, byte for byte
-pub record StandsAt (card : List ℕ) (n : ℕ) (part : List ℕ) : Type 0 where
-  pub number : hasRecord card n ≡ true
-  pub size : length part ≡ recordSize
-  pub bytes : (p : ℕ) → p < recordSize → at part p ≡ at card ((n - 1) * recordSize + p)
+-- the part is a whole slot of the lent card, that with the number n: byte for byte, and in the card's own memory
+pub record StandsAt (card : RefT (List ℕ)) (n : ℕ) (part : RefT (List ℕ)) : Type 0 where
+  pub number : hasRecord (now card) n ≡ true
+  pub size : length (now part) ≡ recordSize
+  pub bytes : (p : ℕ) → p < recordSize → at (now part) p ≡ at (now card) ((n - 1) * recordSize + p)
+  pub lies : LiesAt card ((n - 1) * recordSize) part
 
--- the part that is handed back is the chosen record's slot
+-- the part that compare_sheets hands back is the chosen record's slot on its own card: x is the controller's as lent, y the cupboard's
 abbrev pub PartStands : Type 0
 PartStands =
-    (c : List ℕ) (i : ℕ) (d : List ℕ) (j : ℕ)
-    → (compareOf c i d j ≡ accepted 1 → StandsAt c i (comparePart c i d j))
-    × (compareOf c i d j ≡ accepted 2 → StandsAt d j (comparePart c i d j))
+    (x : RefT (List ℕ)) (i : ℕ) (y : RefT (List ℕ)) (j : ℕ) (part : RefT (List ℕ)) → HandsBack x i y j part
+    → (compareOf (now x) i (now y) j ≡ accepted 1 → StandsAt x i part)
+    × (compareOf (now x) i (now y) j ≡ accepted 2 → StandsAt y j part)
 
 -- on a refusal every number is 0 and the part is empty
 abbrev pub RefusedNothing : Type 0

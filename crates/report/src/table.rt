@@ -113,7 +113,7 @@ fn put_last(out: &mut [u8], at: usize, report: &[u64]) -> usize
     put_more(out, d)
 }
 
-// Writes the whole table.
+// Writes the whole table. No entry point: it requires room for it, and numbers to which 2000 can be added.
 pub fn put_table(out: &mut [u8], report: &[u64]) -> usize
     requires { ⌜ (longestTable ≤ length (now out)) × Countable (2 ^ 63) (now report) ⌝ }
     ensures { λ u. ⌜ Writes (now (out .entry)) 0 (tableText (now (report .entry))) (now (out .exit)) u ⌝ }

@@ -297,7 +297,7 @@ fn add_slot(slot: &[u8], w: Window, report: &mut [u64])
 }
 
 // The slots of a part of a card, whole ones and a shorter last piece, enter a report that has come to some state before. The bound on its
-// numbers keeps every sum within 64 bits.
+// numbers keeps every sum within 64 bits. No entry point: it requires a window, at most 1,000,000 slots, and that bound.
 pub fn add_part(part: &[u8], w: Window, report: &mut [u64])
     requires { ⌜ (isWindow w ≡ true) × (length (now part) ≤ mostRecords * recordSize) × Countable (2 ^ 62) (now report) ⌝ }
     ensures { λ u. ⌜ now (report .exit) ≡ partAdded w (now (report .entry)) (now (part .entry)) ⌝ }
@@ -321,7 +321,8 @@ pub fn begin(report: &mut [u64])
     }
 }
 
-// Says in the report whether the card goes on behind the records that were looked at.
+// Says in the report whether the card goes on behind the records that were looked at. No entry point: it requires a report that is long
+// enough.
 pub fn finish(report: &mut [u64], more: bool)
     requires { ⌜ moreAt < length (now report) ⌝ }
     ensures { λ u. ⌜ now (report .exit) ≡ finished (now (report .entry)) more ⌝ }

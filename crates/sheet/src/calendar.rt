@@ -3,7 +3,7 @@ ghost use mathlib.Core.Path.{_≡_};
 ghost use Rattle.sheet.specs.Calendar.{isLeap, daysIn, dateExists};
 
 // Is it a leap year?
-pub fn is_leap(year: u16) -> bool
+fn is_leap(year: u16) -> bool
     ensures { λ r. ⌜ r ≡ isLeap year ⌝ }
 {
     if year % 4 != 0 {
@@ -16,7 +16,7 @@ pub fn is_leap(year: u16) -> bool
 }
 
 // The days of a month; a number that is no month has none.
-pub fn days_in(year: u16, month: u8) -> u8
+fn days_in(year: u16, month: u8) -> u8
     ensures { λ r. ⌜ r ≡ daysIn year month ⌝ }
 {
     match month {
@@ -29,7 +29,7 @@ pub fn days_in(year: u16, month: u8) -> u8
 }
 
 // Does the date exist? The year is given less 2000.
-pub fn date_exists(year: u8, month: u8, day: u8) -> bool
+pub(crate) fn date_exists(year: u8, month: u8, day: u8) -> bool
     ensures { λ r. ⌜ r ≡ dateExists year month day ⌝ }
 {
     if day == 0 {

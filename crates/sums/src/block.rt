@@ -40,7 +40,7 @@ fn block_below(xs: &[u8], i: usize, q: u8) -> bool
     eight(xs, i) & (0x0101010101010101 * (256 - q as u64)) == 0
 }
 
-// The place after the blocks from i on that are below q.
+// The place after the blocks from i on that are below q. No entry point: it requires a place inside the list.
 pub fn pass_below(xs: &[u8], i: usize, q: u8) -> usize
     requires { ⌜ i ≤ length (now xs) ⌝ }
     ensures { λ r. ⌜ Run (λ p. at (now (xs .entry)) p < q) i (length (now (xs .entry))) r ⌝ }
@@ -56,7 +56,7 @@ pub fn pass_below(xs: &[u8], i: usize, q: u8) -> usize
     p
 }
 
-// The place after the blocks from i on that are the same in both.
+// The place after the blocks from i on that are the same in both. No entry point: it requires lists of one length, and a place inside them.
 pub fn pass_equal(xs: &[u8], ys: &[u8], i: usize) -> usize
     requires { ⌜ (i ≤ length (now xs)) × (length (now xs) ≡ length (now ys)) ⌝ }
     ensures { λ r. ⌜ Run (λ p. at (now (xs .entry)) p ≡ at (now (ys .entry)) p) i (length (now (xs .entry))) r ⌝ }

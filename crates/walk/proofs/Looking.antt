@@ -21,7 +21,7 @@ use Rattle.code.specs.declared.Repair.the-variants.{Restored, Refused as Refuse
 use Rattle.card.specs.declared.RestoredCopy.{RestoredCopy}
 use Rattle.card.specs.Record.{headerSize, recordSize, wordOf, recordOf, onAccept, recordWritten, RestoresCopy}
 use Rattle.card.specs.Card.{recordCount, recordAt, isNumber, recordNumbered}
-use Rattle.card.proofs.Recording.{copy-whole}
+use Rattle.card.proofs.Recording.{copy-accepted}
 use Rattle.card.proofs.Again.{refused-stays, accepted-whole, restored-again, restored-symbols, written-size, written-again}
 use Rattle.walk.specs.declared.Walk.{Walk}
 use Rattle.walk.specs.Restored.{restoredFirst, restoredFrom}
@@ -51,7 +51,7 @@ module _ (r row : List ℕ) where
     shows-yes k p row′ e =
         let o : accepted k ≡ recordOf r = ap repair (sym p) ∙ told in
         let whole : length r ≡ recordSize = accepted-whole r k (sym o) in
-        let written : copy .bytes ≡ recordWritten r = R .content ∙ sym (copy-whole r whole) in
+        let written : copy .bytes ≡ recordWritten r = R .content ∙ sym (copy-accepted r k o) in
         let size : length (copy .bytes) ≡ recordSize = ap length written ∙ written-size r ∙ whole in
         record {
           answer = ap uncounted o;

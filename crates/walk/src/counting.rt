@@ -73,7 +73,7 @@ fn count_from(card: &mut [u8], first: usize, count: usize, s: Progress) -> Progr
 }
 
 impl Walk {
-    // One step that counts.
+    // One step that counts. No entry point: it requires counts that do not overflow.
     pub fn step_counting(self, card: &mut [u8], s: Progress) -> Counted
         requires { ⌜ Within (3 * 2 ^ 61) s ⌝ }
         ensures { λ r. ⌜ StepsCounting self s (now (card .entry)) r (now (card .exit)) ⌝ }
@@ -106,7 +106,8 @@ impl Walk {
     }
 }
 
-// A walk from the first record to the last: the card is restored, and its slots are counted.
+// A walk from the first record to the last: the card is restored, and its slots are counted. No entry point: it requires counts that do not
+// overflow.
 pub fn restore_counting(card: &mut [u8], s: Progress) -> Progress
     requires { ⌜ Within (2 ^ 62) s ⌝ }
     ensures { λ r. ⌜ CountsCard s (now (card .entry)) r (now (card .exit)) ⌝ }
@@ -134,7 +135,8 @@ fn put_item(out: &mut [u8], at: usize, word: &[u8], n: u64, end: u8) -> usize
     put_field(out, a, n, end)
 }
 
-// Writes the line that says what was done: records restored, places changed, records refused, blank slots.
+// Writes the line that says what was done: records restored, places changed, records refused, blank slots. No entry point: it requires room
+// for the line, and counts that do not exceed the slots.
 pub fn put_restored(out: &mut [u8], at: usize, s: Progress) -> usize
     requires { ⌜ (at + longestRestored ≤ length (now out)) × Sound s ⌝ }
     ensures { λ r. ⌜ Writes (now (out .entry)) at (restoredLine s) (now (out .exit)) r ⌝ }

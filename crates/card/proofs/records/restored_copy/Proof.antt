@@ -1,15 +1,18 @@
 -- `card::records::restored_copy` meets its contract. Assumes nothing.
 use borrow.Author.Needs.{needs}
-use mathlib.Core.Path.{ap, _∙_}
-use Rattle.card.specs.Record.{recordOf, recordWritten}
-use Rattle.card.proofs.Recording.{short-refused, copy-short, copy-whole}
+use Rattle.field.specs.declared.Question.the-variants.{Length}
+use Rattle.card.proofs.Recording.{short-refused, row-refused, copied-yes, copied-no}
 use Rattle.card.proofs.records.restored_copy.Statement.{statement}
 use Rattle.card.proofs.records.restored_copy.Tie as tie
 
+refused-copy-requires : tie.Need-refused-copy-requires
+refused-copy-requires c κs = search needs
+
 returns : tie.Need-returns
 returns c =
-    let r = c .before .before .args .bytes .now in
-    record { answer = short-refused r (c .if1 .taken); content = copy-short r (c .if1 .taken) }
+    let test = c .before in
+    let r = test .before .before .args .bytes .now in
+    copied-no r Length (short-refused r (test .if1 .taken)) _ (c .refused-copy .ensures)
 
 copied-requires : tie.Need-copied-requires
 copied-requires c κs = search needs
@@ -20,22 +23,40 @@ slice-aggregate-restore-record c = search needs
 restore-record-requires : tie.Need-restore-record-requires
 restore-record-requires c κs = search needs
 
+enum-known-k : tie.Need-enum-known-k
+enum-known-k c = search needs
+
+enum-known-q : tie.Need-enum-known-q
+enum-known-q c = search needs
+
+refused-copy-requires-2 : tie.Need-refused-copy-requires-2
+refused-copy-requires-2 c κs = search needs
+
 returns-2 : tie.Need-returns-2
 returns-2 c =
-    let row = c .before .before .before in
-    let e = row .copied .ensures in
-    let done = c .before .restore-record .ensures in
-    record {
-      answer = done .answer ∙ ap recordOf e;
-      content = done .content ∙ ap recordWritten e ∙ copy-whole (row .before .before .before .args .bytes .now) (row .before .if1 .left);
-    }
+    let done = c .before .before .before .before in
+    let row = done .before .before in
+    copied-yes (row .before .before .before .args .bytes .now) _ (row .copied .ensures) _ _ (done .restore-record .ensures) _ (search needs)
+
+returns-3 : tie.Need-returns-3
+returns-3 c =
+    let done = c .before .before .before .before .before in
+    let row = done .before .before in
+    let r = row .before .before .before .args .bytes .now in
+    let q = c .before .before .q .given .0 .0 in
+    copied-no r q (row-refused r _ (row .copied .ensures) _ _ (done .restore-record .ensures) q (search needs)) _ (c .refused-copy2 .ensures)
 
 pub restored-copy-spec : {M : Type 1} → statement M
 restored-copy-spec =
     tie.close
     (tie.spec
+    refused-copy-requires
     returns
     copied-requires
     slice-aggregate-restore-record
     restore-record-requires
-    returns-2)
+    enum-known-k
+    enum-known-q
+    refused-copy-requires-2
+    returns-2
+    returns-3)
