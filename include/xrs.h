@@ -32,30 +32,30 @@
 extern "C" {
 #endif
 
-/* Why a call was refused. */
+/* Why a call was refused. docs/FORMAT.md in the repository says more of each, and which call gives it. */
 enum xrs_refusal {
-    XRS_ACCEPTED = 0,                 /* it was not */
+    XRS_ACCEPTED = 0,                 /* the call was accepted */
     XRS_REFUSED_WIDTH = 1,            /* the width is not 3, 4, 5 or 7 */
-    XRS_REFUSED_LENGTH = 2,           /* a slice has not its exact length */
-    XRS_REFUSED_ERASURE_COUNT = 3,    /* there are more than five erasures, or at width 4 more than three */
+    XRS_REFUSED_LENGTH = 2,           /* the length is not the right one */
+    XRS_REFUSED_ERASURE_COUNT = 3,    /* there are too many erasures */
     XRS_REFUSED_ERASURE_PLACE = 4,    /* an erasure is no place of the word */
     XRS_REFUSED_ERASURE_DISTINCT = 5, /* an erasure is given twice */
-    XRS_REFUSED_SYMBOL = 6,           /* a symbol outside the erasures is not below q */
+    XRS_REFUSED_SYMBOL = 6,           /* a symbol outside the erasures is not below 2^width */
     XRS_REFUSED_CORRECTABLE = 7,      /* no codeword is near */
-    XRS_REFUSED_PADDING = 8,          /* a record's unused erasure bytes are not 255, or its tail is not 0 */
+    XRS_REFUSED_PADDING = 8,          /* an unused erasure byte is not 255, or the tail is not 0 */
     XRS_REFUSED_SYNDROME = 9,         /* a syndrome is not zero */
     XRS_REFUSED_NONZERO = 10,         /* the symbol 0 has no inverse */
     XRS_REFUSED_SHEET_WIDTH = 11,     /* the width of a day sheet is not 7 */
     XRS_REFUSED_DATE = 12,            /* the date of a day sheet does not exist */
-    XRS_REFUSED_UNUSED = 13,          /* a day sheet's symbols c_100 to c_126 are not zero */
-    XRS_REFUSED_UNIQUE = 14,          /* several codewords agree with the word outside five erasures */
-    XRS_REFUSED_FOUR_ERASURES = 15,   /* a record has five erasures, and one of the old edition has room for four */
-    XRS_REFUSED_REACH = 16,           /* the reach is longer than the one that holds without a reach */
-    XRS_REFUSED_RECORD_NUMBER = 17,   /* the card has no record with this number */
-    XRS_REFUSED_BAY = 18,             /* the dock has no bay with this number */
-    XRS_REFUSED_REWRITE = 19,         /* no rewrite is left for this bay, own or common */
-    XRS_REFUSED_SAME_DAY = 20,        /* two sheets are not of one pump and day */
-    XRS_REFUSED_WINDOW = 21           /* the first quarter hour of a window is not below its end, or the end is above 96 */
+    XRS_REFUSED_UNUSED = 13,          /* an unused symbol of a day sheet is not 0 */
+    XRS_REFUSED_UNIQUE = 14,          /* several codewords agree outside the five erasures */
+    XRS_REFUSED_FOUR_ERASURES = 15,   /* there are five erasures, and the old edition has room for four */
+    XRS_REFUSED_REACH = 16,           /* the reach is longer than r */
+    XRS_REFUSED_RECORD_NUMBER = 17,   /* the card has no record of that number */
+    XRS_REFUSED_BAY = 18,             /* the bay is not 0 to 3 */
+    XRS_REFUSED_REWRITE = 19,         /* no rewrite is left to the bay */
+    XRS_REFUSED_SAME_DAY = 20,        /* the two day sheets have not the same pump and date */
+    XRS_REFUSED_WINDOW = 21           /* the window has no quarter hour, or its end is above 96 */
 };
 
 /* The refusal of an answer, of 32 or of 64 bits. */
@@ -101,16 +101,16 @@ uint64_t xrs_syndromes(uint8_t width, const uint8_t *word, size_t word_length, c
 /*
  * Writes the near codeword in place of the word (n bytes). The marks are the erasures: at most five different places of the word, at width
  * 4 at most three, counted from 0, in any order. A marked place may hold any byte. The near codeword differs from the word at no more than
- * (4 - marks_length) / 2 unmarked places, rounded down, and with five marks at none; at width 4 at no more than (3 - marks_length) / 2.
+ * r unmarked places: r is (4 - marks_length) / 2 rounded down, and 0 with five marks; at width 4 it is (3 - marks_length) / 2 rounded down.
  * With up to four marks there is never a second one; with five there may be several, and then the call is refused with 14. The value is the
  * number of unmarked places changed, 0 to 2. Refused with 1 to 7 and 14.
  */
 uint32_t xrs_restore_word(uint8_t width, uint8_t *word, size_t word_length, const uint8_t *marks, size_t marks_length);
 
 /*
- * xrs_restore_word that looks no further than the reach: the near codeword differs at no more unmarked places. The longest reach is the one
- * of xrs_restore_word, and a longer one is refused with 16. With up to four marks, and no more than 4 - marks_length - reach unmarked
- * symbols wrong (3 in place of 4 at width 4), the codeword that was written comes back or the call is refused with 7; another never comes.
+ * xrs_restore_word that looks no further than the reach: the near codeword differs at no more unmarked places. The longest reach is the r of
+ * xrs_restore_word, and a longer one is refused with 16. With up to four marks, and no more than 4 - marks_length - reach unmarked symbols
+ * wrong (3 in place of 4 at width 4), the codeword that was written comes back or the call is refused with 7; another never comes.
  */
 uint32_t xrs_restore_word_within(
     uint8_t width, uint8_t *word, size_t word_length, const uint8_t *marks, size_t marks_length, uint8_t reach);

@@ -9,9 +9,11 @@
 pub enum Refusal {
     /// The width is not 3, 4, 5 or 7.
     Width,
-    /// A slice has not its exact length.
+    /// The length is not the right one.
+    /// Each slice has its exact length, which the call's comment names.
     Length,
-    /// There are more than five erasures, or at width 4 more than three.
+    /// There are too many erasures.
+    /// Five are allowed, at width 4 three; in a record of the old edition four.
     ErasureCount,
     /// An erasure is no place of the word.
     ErasurePlace,
@@ -21,7 +23,7 @@ pub enum Refusal {
     Symbol,
     /// No codeword is near.
     Correctable,
-    /// A record's unused erasure bytes are not 255, or its tail is not 0.
+    /// An unused erasure byte is not 255, or the tail is not 0.
     Padding,
     /// A syndrome is not zero.
     Syndrome,
@@ -31,23 +33,26 @@ pub enum Refusal {
     SheetWidth,
     /// The date of a day sheet does not exist.
     Date,
-    /// A day sheet's symbols c_100 to c_126 are not zero.
+    /// An unused symbol of a day sheet is not 0.
+    /// These are c_100 to c_126.
     Unused,
-    /// Several codewords agree with the word outside five erasures.
+    /// Several codewords agree outside the five erasures.
     Unique,
-    /// A record has five erasures, and one of the old edition has room for four.
+    /// There are five erasures, and the old edition has room for four.
     FourErasures,
-    /// The reach is longer than the one that holds without a reach.
+    /// The reach is longer than r.
+    /// That is the reach of the calls that are given none: see `restore_word`.
     Reach,
-    /// The card has no record with this number.
+    /// The card has no record of that number.
     RecordNumber,
-    /// The dock has no bay with this number.
+    /// The bay is not 0 to 3.
     Bay,
-    /// No rewrite is left for this bay, own or common.
+    /// No rewrite is left to the bay.
+    /// Neither its own nor a common one, and the record would change.
     Rewrite,
-    /// Two sheets are not of one pump and day.
+    /// The two day sheets have not the same pump and date.
     SameDay,
-    /// The first quarter hour of a window is not below its end, or the end is above 96.
+    /// The window has no quarter hour, or its end is above 96.
     Window,
     /// A refusal number that stands at none of the others. The archive that this crate was written for gives none.
     Unknown(u8),
@@ -110,26 +115,26 @@ impl std::fmt::Display for Refusal {
     fn fmt(&self, out: &mut std::fmt::Formatter<'_>) -> std::fmt::Result {
         out.write_str(match self {
             Refusal::Width => "the width is not 3, 4, 5 or 7",
-            Refusal::Length => "a slice has not its exact length",
-            Refusal::ErasureCount => "there are more than five erasures, or at width 4 more than three",
+            Refusal::Length => "the length is not the right one",
+            Refusal::ErasureCount => "there are too many erasures",
             Refusal::ErasurePlace => "an erasure is no place of the word",
             Refusal::ErasureDistinct => "an erasure is given twice",
             Refusal::Symbol => "a symbol outside the erasures is not below 2^width",
             Refusal::Correctable => "no codeword is near",
-            Refusal::Padding => "a record's unused erasure bytes are not 255, or its tail is not 0",
+            Refusal::Padding => "an unused erasure byte is not 255, or the tail is not 0",
             Refusal::Syndrome => "a syndrome is not zero",
             Refusal::Nonzero => "the symbol 0 has no inverse",
             Refusal::SheetWidth => "the width of a day sheet is not 7",
             Refusal::Date => "the date of a day sheet does not exist",
-            Refusal::Unused => "a day sheet's symbols c_100 to c_126 are not zero",
-            Refusal::Unique => "several codewords agree with the word outside the erasures",
-            Refusal::FourErasures => "a record has five erasures, and one of the old edition has room for four",
-            Refusal::Reach => "the reach is longer than the one that holds without a reach",
-            Refusal::RecordNumber => "the card has no record with this number",
-            Refusal::Bay => "the dock has no bay with this number",
-            Refusal::Rewrite => "no rewrite is left for this bay, own or common",
-            Refusal::SameDay => "the two sheets are not of one pump and day",
-            Refusal::Window => "the first quarter hour of the window is not below its end, or the end is above 96",
+            Refusal::Unused => "an unused symbol of a day sheet is not 0",
+            Refusal::Unique => "several codewords agree outside the five erasures",
+            Refusal::FourErasures => "there are five erasures, and the old edition has room for four",
+            Refusal::Reach => "the reach is longer than r",
+            Refusal::RecordNumber => "the card has no record of that number",
+            Refusal::Bay => "the bay is not 0 to 3",
+            Refusal::Rewrite => "no rewrite is left to the bay",
+            Refusal::SameDay => "the two day sheets have not the same pump and date",
+            Refusal::Window => "the window has no quarter hour, or its end is above 96",
             Refusal::Unknown(number) => return write!(out, "refused with the number {number}, which is not known here"),
         })
     }
@@ -298,9 +303,9 @@ pub fn syndromes(width: u8, word: &[u8], marks: &[u8]) -> Result<[u8; 5], Refusa
 }
 
 /// Writes the near codeword in place of `word`, and answers the number of unmarked places that changed, 0 to 2. The near codeword differs
-/// from `word` at no more than (4 - `marks.len()`) / 2 unmarked places, rounded down, and with five marks at none; at width 4 at no more
-/// than (3 - `marks.len()`) / 2. With up to four marks there is never a second one; with five there may be several, and then the call is
-/// refused.
+/// from `word` at no more than r unmarked places: r is (4 - `marks.len()`) / 2 rounded down, and 0 with five marks; at width 4 it is
+/// (3 - `marks.len()`) / 2 rounded down. With up to four marks there is never a second one; with five there may be several, and then the
+/// call is refused.
 ///
 /// `marks` are the erasures: at most five different places, at width 4 at most three, in any order. A marked place may hold any byte, and
 /// its change is not counted.
@@ -342,8 +347,7 @@ pub fn restore_word(width: u8, word: &mut [u8], marks: &[u8]) -> Result<u8, Refu
 }
 
 /// `restore_word` that looks no further than `reach`: no more unmarked places are changed, and a word for which more would have to be is
-/// refused. The longest reach is the one that `restore_word` has: (4 - `marks.len()`) / 2 rounded down, and 0 with five marks; at width 4
-/// (3 - `marks.len()`) / 2.
+/// refused. The longest reach is the r of `restore_word`.
 ///
 /// A word with more wrong symbols than can be undone may be near another codeword than the one that was written. A shorter reach makes this
 /// rarer. With up to four marks, and no more than 4 - `marks.len()` - `reach` unmarked symbols wrong (3 in place of 4 at width 4), the

@@ -57,7 +57,7 @@ fn file(name: &str, card: &[u8]) -> String {
 fn words(refusal: u8) -> &'static str {
     match refusal {
         1 => "the width is not 3, 4, 5 or 7",
-        2 => "the length is not that of a record",
+        2 => "the length is not the right one",
         3 => "there are too many erasures",
         8 => "an unused erasure byte is not 255, or the tail is not 0",
         15 => "there are five erasures, and the old edition has room for four",

@@ -88,11 +88,11 @@ fn restored(card: &[u8]) -> (Vec<u8>, String) {
     (out, counts.line())
 }
 
-/// README's words for the refusals that a record can get.
+/// The words for the refusals that a record can get.
 fn words(refusal: u8) -> &'static str {
     match refusal {
         1 => "the width is not 3, 4, 5 or 7",
-        2 => "the length is not that of a record",
+        2 => "the length is not the right one",
         3 => "there are too many erasures",
         4 => "an erasure is no place of the word",
         5 => "an erasure is given twice",
@@ -323,5 +323,5 @@ fn checked_behind_a_million_slots() {
         (0..500_000).for_each(|_| input.write_all(&fine).expect("all of the card is read"));
         input.write_all(&[7]).expect("all of the card is read");
     });
-    assert_eq!((String::from_utf8_lossy(&text).as_ref(), said.as_str()), ("1000001 2 the length is not that of a record\n", ""));
+    assert_eq!((String::from_utf8_lossy(&text).as_ref(), said.as_str()), ("1000001 2 the length is not the right one\n", ""));
 }

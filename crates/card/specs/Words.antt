@@ -18,7 +18,7 @@ words n =
     getD
     (bytesOf "accepted"
     ∷ bytesOf "the width is not 3, 4, 5 or 7"
-    ∷ bytesOf "the length is not that of a record"
+    ∷ bytesOf "the length is not the right one"
     ∷ bytesOf "there are too many erasures"
     ∷ bytesOf "an erasure is no place of the word"
     ∷ bytesOf "an erasure is given twice"
@@ -37,7 +37,7 @@ words n =
     ∷ bytesOf "the bay is not 0 to 3"
     ∷ bytesOf "no rewrite is left to the bay"
     ∷ bytesOf "the two day sheets have not the same pump and date"
-    ∷ bytesOf "the window is none"
+    ∷ bytesOf "the window has no quarter hour, or its end is above 96"
     ∷ [])
     n []
 

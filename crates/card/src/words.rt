@@ -10,7 +10,7 @@ use crate::text::put_field;
 use field::Question;
 use field::refusal_number;
 
-// Writes what was wrong in plain words, as the table of refusals has it.
+// Writes what was wrong in plain words, as docs/FORMAT.md has it.
 pub(crate) fn put_words(out: &mut [u8], at: usize, q: Question) -> usize
     requires { ⌜ at + longestWords ≤ length (now out) ⌝ }
     ensures { λ r. ⌜ Writes (now (out .entry)) at (words (refusal q)) (now (out .exit)) r ⌝ }
@@ -18,7 +18,7 @@ pub(crate) fn put_words(out: &mut [u8], at: usize, q: Question) -> usize
 {
     match q {
         Question::Width => put_bytes(out, at, b"the width is not 3, 4, 5 or 7"),
-        Question::Length => put_bytes(out, at, b"the length is not that of a record"),
+        Question::Length => put_bytes(out, at, b"the length is not the right one"),
         Question::ErasureCount => put_bytes(out, at, b"there are too many erasures"),
         Question::ErasurePlace => put_bytes(out, at, b"an erasure is no place of the word"),
         Question::ErasureDistinct => put_bytes(out, at, b"an erasure is given twice"),
@@ -57,7 +57,11 @@ pub(crate) fn put_words(out: &mut [u8], at: usize, q: Question) -> usize
             at,
             b"the two day sheets have not the same pump and date",
         ),
-        Question::Window => put_bytes(out, at, b"the window is none"),
+        Question::Window => put_bytes(
+            out,
+            at,
+            b"the window has no quarter hour, or its end is above 96",
+        ),
     }
 }
 
