@@ -1,20 +1,20 @@
 -- Laws of the card's definitions, and what the proofs of several functions use. Assumes nothing.
-pub mod Layouts
-pub mod Recording
-pub mod Again
-pub mod Refusals
-pub mod Blank
-pub mod Numbering
-pub mod Checking
-pub mod Writing
-pub mod Wording
-pub mod Lines
-pub mod Finding
-pub mod Bounds
-pub mod Continuing
-pub mod Slots
-pub mod Leading
-pub mod Converting
-pub mod Editions
-pub mod ThereAndBack
-pub mod Found
+pub mod Layouts  -- the parts of a record, and what its own questions tell
+pub mod Recording  -- from the word's restorer to the record's contract
+pub mod Again  -- restoring is idempotent, at every reach; what stands in a restored record
+pub mod Refusals  -- which refusals restoring a record can give
+pub mod Blank  -- blank slots, and slots that are fine
+pub mod Numbering  -- record numbers, both ways
+pub mod Checking  -- the first record that would be refused: `first-some`, `first-none`, `checks`
+pub mod Writing  -- one text behind another is both in one; a number digit by digit
+pub mod Wording  -- refusals in words
+pub mod Lines  -- listing slot by slot, and in parts: `listing-batches`, `listing-short`, `listing-long`
+pub mod Finding  -- the card check in parts: `first-in-parts`
+pub mod Bounds  -- how long lines are, how far numbers grow: `few-places`, `sum-most`
+pub mod Continuing  -- a listing, or another count, from batch to batch
+pub mod Slots  -- slots one after the other, of two parts, and in the other edition
+pub mod Leading  -- how many questions slot after slot passes, and the verdict
+pub mod Converting  -- from the questions to the contracts of conversion
+pub mod Editions  -- a slot of the old edition, and the same slot in the new
+pub mod ThereAndBack  -- whole cards: `there-and-back`, `back-and-there`, `new-same`, `old-same`
+pub mod Found  -- the questions over a card in parts: `found-in-parts`, `to-new-in-parts`, `to-old-in-parts`, `number-is`

@@ -1,11 +1,11 @@
 -- The definitions of records, cards, listings and conversions. Assumes nothing.
-pub mod Record
-pub mod Card
-pub mod Listing
-pub mod Placed
-pub mod Batch
-pub mod Words
-pub mod Checked
-pub mod Conversion
-pub mod Leading
-pub mod Found
+pub mod Record  -- the layout, over the number of erasure bytes; a record's questions, and restoring it: `RestoresRecordWithin`
+pub mod Card  -- slots, blank ones among them; where a part lies on its card (`LiesAt`); the card check, and what its answer says
+pub mod Listing  -- the whole text of a listing, its lines and totals, also of a part of a card
+pub mod Placed  -- inner: a text written into a buffer
+pub mod Batch  -- inner: the sizes of lines and batches; listing a batch (`Lists`), and from batch to batch (`Continues`)
+pub mod Words  -- each refusal in words, and the line of a refused record
+pub mod Checked  -- the card check as a line of text, of a card that comes in batches; what `cardcheck` promises
+pub mod Conversion  -- cards between the two editions: questions, answer, output; there and back, and that each slot stays the same
+pub mod Leading  -- inner: how many of a conversion's questions a slot or a card passes before the first that it does not
+pub mod Found  -- a conversion's questions over a card in parts, and what is asked of them; what `cardconvert` promises

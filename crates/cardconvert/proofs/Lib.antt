@@ -1,2 +1,2 @@
 -- What the proofs of several functions use. Assumes nothing.
-pub mod Asking
+pub mod Asking  -- the questions from batch to batch

@@ -1,2 +1,2 @@
-pub mod Packing
-pub mod Counting
+pub mod Packing  -- the numbers that the calls return
+pub mod Counting  -- the dock's counts as lent numbers

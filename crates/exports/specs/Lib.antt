@@ -1,2 +1,2 @@
-pub mod Packed
-pub mod Counts
+pub mod Packed  -- the number that an exported call returns
+pub mod Counts  -- the dock's counts as five lent numbers

@@ -1,14 +1,14 @@
 -- The laws that the crates above use.
-pub mod Check
-pub mod Laws
-pub mod Widths
-pub mod Ask
-pub mod Bytes
-pub mod Demands
+pub mod Check  -- a rule at every number below a bound, by one computed test
+pub mod Laws  -- the laws of the field, gathered in `IsField`
+pub mod Widths  -- 3, 4, 5 and 7 are such widths: `field-of`, `cubes-of`
+pub mod Ask  -- what the answers to the questions say
+pub mod Bytes  -- arithmetic on bytes is the field's, for symbols at a width
+pub mod Demands  -- the statements of specs/Demands.antt
 -- the way to them, and the lemmas of the functions' proofs
-mod Polynomial
-mod Ring
-mod Powers
-mod PowerTable
-mod Shifts
-mod Steps
+mod Polynomial  -- sum and product with no carry, for all numbers
+mod Ring  -- sum and product modulo a polynomial; `remainder` gives the remainder
+mod Powers  -- the laws of powers
+mod PowerTable  -- the table's doubling rule, computed once and carried to each exponent
+mod Shifts  -- products with the first powers of α by shifts, computed at each width
+mod Steps  -- one step of the loops of product and power, and the exponent of an inverse

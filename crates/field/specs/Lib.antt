@@ -1,6 +1,6 @@
-pub mod Polynomial
-pub mod Field
-pub mod Question
-pub mod Answer
-pub mod Bytes
-pub mod Demands
+pub mod Polynomial  -- polynomials over GF(2) as numbers: sum, product with no carry
+pub mod Field  -- the field's polynomials, product, power and inverse, α
+pub mod Question  -- the questions, their refusal numbers, and what a call answers
+pub mod Answer  -- what each call of the field answers
+pub mod Bytes  -- arithmetic below the questions, on every byte
+pub mod Demands  -- what document 01 says of the field in numbers

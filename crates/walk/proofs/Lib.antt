@@ -1,6 +1,6 @@
 -- The theorems about walk and look, and the laws that the functions' proofs use. Assumes nothing.
-pub mod Restoring
-pub mod Walking
-pub mod Tallying
-pub mod Looking
-pub mod Demands
+pub mod Restoring  -- records restored one behind the other, each lent as a part and put back
+pub mod Walking  -- a step by its verdict, and the moment after k steps: `walk-done`, `walk-through`
+pub mod Tallying  -- slots counted as they are restored: `slots-counted`, `restored-in-parts`, `card-again`
+pub mod Looking  -- a look at one record, at a number, between and among steps
+pub mod Demands  -- every demand, under its name in small letters
