@@ -824,6 +824,16 @@ pub fn window(card: &[u8], first: u8, end: u8) -> Result<Report, Refusal> {
     Ok(Report { pumps, refused, blank, further: further == 1 })
 }
 
+/// The examples in Rust of the documents, as doc tests.
+#[cfg(doctest)]
+mod documents {
+    #[doc = include_str!("../../README.md")]
+    struct Readme;
+
+    #[doc = include_str!("../../docs/GUIDE.md")]
+    struct Guide;
+}
+
 #[cfg(test)]
 mod tests {
     use super::*;
