@@ -111,12 +111,12 @@ halve-weighted n e f =
     exponent j = omega arith
 
 module _ (n k : ℕ) (f : ℕ → ℕ) (size : 256 ^ n ≡ 2 ^ k) (b : Below 128 (n + n) f) where
-  lower : lanes (n + n) f % 2 ^ k ≡ lanes n f
+  pub lower : lanes (n + n) f % 2 ^ k ≡ lanes n f
   lower =
       ap (λ (x : ℕ). x % 2 ^ k) (lanes-split n n f ∙ ap (λ (p : ℕ). lanes n (λ j. f (n + j)) * p + lanes n f) size)
       ∙ low (lanes n (λ j. f (n + j))) k (subst (λ (p : ℕ). lanes n f < p) size (lanes-lt n f (λ j h. omega (arith, b j (omega arith)))))
 
-  upper : lanes (n + n) f / 2 ^ k ≡ lanes n (λ j. f (n + j))
+  pub upper : lanes (n + n) f / 2 ^ k ≡ lanes n (λ j. f (n + j))
   upper =
       ap (λ (x : ℕ). x / 2 ^ k) (lanes-split n n f ∙ ap (λ (p : ℕ). lanes n (λ j. f (n + j)) * p + lanes n f) size)
       ∙ high (lanes n (λ j. f (n + j))) k (subst (λ (p : ℕ). lanes n f < p) size (lanes-lt n f (λ j h. omega (arith, b j (omega arith)))))

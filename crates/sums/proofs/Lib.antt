@@ -7,5 +7,8 @@ mod Packing  -- operations act on each lane apart
 mod Lanewise  -- masks and shifts multiply every lane by a power of α
 mod Folding  -- the lanes folded into one, by halves
 mod Segments  -- the sum over eight segments of sixteen symbols
+mod Relations
+mod Filling
+mod Values
 mod Scaling  -- lanes times a symbol
 mod Blocks  -- bytes of a list in one number, and what a test of it says of each

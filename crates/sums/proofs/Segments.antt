@@ -16,7 +16,7 @@ use Rattle.sums.specs.Lanes.{lanes, Below}
 use Rattle.sums.proofs.Lanewise.{F}
 use Rattle.sums.proofs.Folding.{power-apply, weighted-one}
 
-sum-suc : (n : ℕ) (f : ℕ → ℕ) → sum (suc n) f ≡ add (sum n f) (f n)
+pub sum-suc : (n : ℕ) (f : ℕ → ℕ) → sum (suc n) f ≡ add (sum n f) (f n)
 unfolding sum
 sum-suc n f = refl
 
