@@ -21,7 +21,7 @@ fn four(xs: &[u8], i: usize) -> u64
     two(xs, i) + two(xs, i + 2) * 65536
 }
 
-fn eight(xs: &[u8], i: usize) -> u64
+pub(crate) fn eight(xs: &[u8], i: usize) -> u64
     requires { ⌜ i + 8 ≤ length (now xs) ⌝ }
     ensures { λ r. ⌜ Block 8 (now (xs .entry)) i r ⌝ }
 {

@@ -26,7 +26,7 @@ fn by32(a: u64) -> u64
     shift(a, 1) ^ shift(a, 2)
 }
 
-fn by16(a: u64) -> u64
+pub(crate) fn by16(a: u64) -> u64
     ensures { λ r. ⌜ Times 16 a r ⌝ }
 {
     by32(a) ^ shift(a, 4)
@@ -39,7 +39,7 @@ fn by64(a: u64) -> u64
 }
 
 // The sums over the lanes, lane j times the power e·j of α, where e is 0, 16, 32, 48, 64.
-fn fold0(a: u64) -> u64
+pub(crate) fn fold0(a: u64) -> u64
     ensures { λ r. ⌜ ((f : ℕ → ℕ) → Below 128 8 f → a ≡ lanes 8 f → r ≡ weighted 7 8 f 0) ⌝ }
 {
     let b = (a % 4294967296) ^ (a / 4294967296);

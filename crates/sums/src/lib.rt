@@ -8,6 +8,7 @@ ghost use Rattle.field.specs.Question.{isWidth, allBelow};
 ghost use Rattle.sums.specs.Sum.{five, weighted, at};
 
 pub mod block;
+mod folds;
 mod horner;
 mod lanes;
 pub mod row;
