@@ -31,17 +31,9 @@ times-then d e g a r s p x y n f h b q =
     y n (λ j. product 7 (power 7 α d) (f j)) h (λ j l. F .product-lt _ _) (x n f h b q)
     ∙ lanes-cong n _ _ (λ j l. sym (F .product-assoc _ _ (f j)) ∙ ap (λ (z : ℕ). product 7 z (f j)) (sym p))
 
-pub times-same : (d e a r : ℕ) → power 7 α e ≡ power 7 α d → Times d a r → Times e a r
-times-same d e a r p x n f h b q = x n f h b q ∙ lanes-cong n _ _ (λ j l. ap (λ (z : ℕ). product 7 z (f j)) (sym p))
-
 pub times-none : (a : ℕ) → Times 0 a a
 times-none a n f h b q =
     q ∙ lanes-cong n _ _ (λ j l. sym (ap (λ (z : ℕ). product 7 z (f j)) (F .power-zero α) ∙ F .one-product (f j) (b j l)))
-
--- one step of Horner's rule, in each lane
-pub step-lane : (k a r v : ℕ) (f g : ℕ → ℕ) → Times k a r → Below 128 8 f → Below 128 8 g → a ≡ lanes 8 f → v ≡ lanes 8 g
-    → add r v ≡ lanes 8 (λ j. add (product 7 (power 7 α k) (f j)) (g j))
-step-lane k a r v f g t bf bg ea ev = ap₂ add (t 8 f (omega arith) bf ea) ev ∙ lanes-add 8 _ _ (λ j h. product-byte _ _) (bytes 8 g bg)
 
 -- ---- the powers that are used
 
@@ -51,32 +43,13 @@ by-doubles = doubles-power 7 (F .positive)
 sum-doubles : (g d e : ℕ) → doubles 7 g ≡ add (doubles 7 d) (doubles 7 e) → power 7 α g ≡ add (power 7 α d) (power 7 α e)
 sum-doubles g d e p = sym (by-doubles g) ∙ p ∙ ap₂ add (by-doubles d) (by-doubles e)
 
-same-doubles : (g d : ℕ) → doubles 7 g ≡ doubles 7 d → power 7 α g ≡ power 7 α d
-same-doubles g d p = sym (by-doubles g) ∙ p ∙ by-doubles d
-
 pub power-32 : power 7 α 32 ≡ add (power 7 α 1) (power 7 α 2)
 unfolding arithmetic doubles
 power-32 = sum-doubles 32 1 2 refl
 
-pub power-64 : power 7 α 64 ≡ add (power 7 α 2) (power 7 α 4)
-unfolding arithmetic doubles
-power-64 = sum-doubles 64 2 4 refl
-
 pub power-16 : power 7 α 16 ≡ add (power 7 α 32) (power 7 α 4)
 unfolding arithmetic doubles
 power-16 = sum-doubles 16 32 4 refl
-
-pub power-128 : power 7 α 128 ≡ power 7 α 1
-unfolding arithmetic doubles
-power-128 = same-doubles 128 1 refl
-
-pub power-256 : power 7 α 256 ≡ power 7 α 2
-unfolding arithmetic doubles
-power-256 = same-doubles 256 2 refl
-
-pub power-192 : power 7 α 192 ≡ power 7 α 65
-unfolding arithmetic doubles
-power-192 = same-doubles 192 65 refl
 
 -- ---- sums
 

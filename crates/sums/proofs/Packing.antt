@@ -80,19 +80,6 @@ lanes-split (suc a) b f =
     regroup : (x p y z : ℕ) → (x * p + y) * 256 + z ≡ x * (p * 256) + (y * 256 + z)
     regroup x p y z = omega arith
 
--- ---- lanes, put together
-
-pub three-lanes : (f : ℕ → ℕ) (a b c : ℕ) → a ≡ f 0 → b ≡ f 1 → c ≡ f 2 → a + b * 256 + c * 65536 ≡ lanes 3 f
-unfolding lanes
-three-lanes f a b c p q r = omega arith
-
-pub four-lanes : (f : ℕ → ℕ) (a b : ℕ) → a ≡ lanes 3 f → b ≡ f 3 → a + b * 16777216 ≡ lanes 4 f
-unfolding lanes
-four-lanes f a b p q = omega arith
-
-pub eight-lanes : (f : ℕ → ℕ) (a b : ℕ) → a ≡ lanes 4 f → b ≡ lanes 4 (λ j. f (4 + j)) → a + b * 4294967296 ≡ lanes 8 f
-eight-lanes f a b p q = omega (arith, lanes-split 4 4 f)
-
 -- ---- lanes, taken apart
 
 pub digits-of : (f : ℕ → ℕ) (a : ℕ) → Below 256 6 f → a ≡ lanes 6 f

@@ -4,7 +4,7 @@
 ghost use mathlib.Core.Path.{_≡_};
 ghost use mathlib.Core.Bool.{true};
 ghost use lib.ListN.{length};
-ghost use Prim.Native.Nat.{ℕ, _+_, _*_, _%_, _≤_, _<_};
+ghost use Prim.Native.Nat.{ℕ, _+_, _*_, _%_, _<_};
 ghost use Rattle.field.specs.Question.{allBelow};
 ghost use Rattle.sums.specs.Sum.{five, weighted, at};
 ghost use Rattle.sums.specs.Lanes.{lanes, Below, Times};

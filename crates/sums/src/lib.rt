@@ -1,5 +1,5 @@
-// Weighted sums of symbols: for each syndrome the sum over the data, by Horner's rule. At width 7, where a word has 127 data symbols, in eight
-// lanes. Beside them the tests that take eight neighbouring bytes at a time. These functions are no entry points.
+// Weighted sums of symbols: for each syndrome the sum over the data, by Horner's rule. At width 7, where a word has 127 data symbols, by folds
+// of numbers that hold eight symbols each. Beside them the tests that take eight neighbouring bytes at a time. These functions are no entry points.
 ghost use mathlib.Core.Path.{_≡_};
 ghost use mathlib.Core.Bool.{true};
 ghost use lib.ListN.{length};
@@ -13,8 +13,8 @@ mod horner;
 mod lanes;
 pub mod row;
 
+use folds::by_folds;
 use horner::one_by_one;
-use lanes::by_lanes;
 
 // For k from 0 to 4 the field sum over i of α^(k·i) times symbol i.
 pub fn parities(width: u8, symbols: &[u8]) -> [u8; 5]
@@ -28,7 +28,7 @@ pub fn parities(width: u8, symbols: &[u8]) -> [u8; 5]
 {
     if width == 7 {
         if symbols.len() == 127 {
-            return by_lanes(symbols);
+            return by_folds(symbols);
         }
     }
     one_by_one(width, symbols)

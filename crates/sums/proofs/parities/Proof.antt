@@ -9,15 +9,15 @@ use Rattle.sums.specs.Sum.{five, weighted, at}
 use Rattle.sums.proofs.parities.Statement.{statement}
 use Rattle.sums.proofs.parities.Tie as tie
 
-by-lanes-requires : tie.Need-by-lanes-requires
-by-lanes-requires c κs = search needs
+by-folds-requires : tie.Need-by-folds-requires
+by-folds-requires c κs = search needs
 
 returns : tie.Need-returns
 returns c = λ w b.
     (let t = c .before .before in
     let a = t .before .before .args in
     let xs = a .symbols .now in
-    c .by-lanes .ensures (subst (λ (m : ℕ). allBelow (order m) xs ≡ true) (t .if1 .taken) b)
+    c .by-folds .ensures (subst (λ (m : ℕ). allBelow (order m) xs ≡ true) (t .if1 .taken) b)
     ∙ ap₂ (λ (m n : ℕ). five (weighted m n (at xs))) (sym (t .if1 .taken)) (sym (c .before .if2 .taken)))
 
 one-by-one-requires : tie.Need-one-by-one-requires
@@ -27,4 +27,4 @@ returns-2 : tie.Need-returns-2
 returns-2 c = search needs
 
 pub parities-spec : {M : Type 1} → statement M
-parities-spec = tie.close (tie.spec by-lanes-requires returns one-by-one-requires returns-2)
+parities-spec = tie.close (tie.spec by-folds-requires returns one-by-one-requires returns-2)
