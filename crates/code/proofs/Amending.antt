@@ -14,7 +14,7 @@ use Rattle.field.specs.Field.{order, product}
 use Rattle.field.specs.Question.{allBelow}
 use Rattle.field.proofs.Laws.{IsField}
 use Rattle.field.proofs.Widths.{field-of}
-use Rattle.sums.proofs.Below.{below-head, below-tail}
+use Rattle.field.proofs.Below.{below-head, below-tail}
 use Rattle.code.specs.declared.restorer.Trial.{Trial}
 use Rattle.code.specs.declared.restorer.Correction.{Correction}
 use Rattle.code.specs.Word.{checks, places, at, syndrome, Codeword}

@@ -13,7 +13,7 @@ use Rattle.field.specs.Polynomial.{add}
 use Rattle.field.specs.Field.{product}
 use Rattle.field.specs.Question.{allBelow}
 use Rattle.field.proofs.Laws.{IsField}
-use Rattle.sums.proofs.Below.{below-head, below-tail}
+use Rattle.field.proofs.Below.{below-head, below-tail}
 use Rattle.code.specs.Word.{checks, places, Codeword}
 use Rattle.code.specs.Place.{column}
 use Rattle.code.specs.Erasure.{member, maskedSyndrome}

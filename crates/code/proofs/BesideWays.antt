@@ -14,7 +14,7 @@ use Rattle.field.specs.Field.{product, power, α}
 use Rattle.field.specs.Question.{isWidth, allBelow}
 use Rattle.field.proofs.Laws.{IsField}
 use Rattle.field.proofs.Widths.{field-of, cubes-of}
-use Rattle.sums.proofs.Evaluation.{five-at}
+use Rattle.field.proofs.Evaluation.{five-at}
 use Rattle.code.specs.declared.restorer.Correction.{Correction}
 use Rattle.code.specs.Word.{checks, places, items, five, at}
 use Rattle.code.specs.Erasure.{member}

@@ -17,8 +17,8 @@ use Rattle.field.specs.declared.Verdict.the-variants.{Passed, Refused}
 use Rattle.field.proofs.Laws.{IsField}
 use Rattle.field.proofs.Check.{and-left, and-right, all, all-at}
 use Rattle.field.proofs.Widths.{field-of}
-use Rattle.sums.proofs.Evaluation.{five-cong}
-use Rattle.sums.proofs.Below.{allBelow-means}
+use Rattle.field.proofs.Evaluation.{five-cong}
+use Rattle.field.proofs.Below.{allBelow-means}
 use Rattle.code.specs.Word.{places, items, five, at, Codeword, encode}
 use Rattle.code.specs.Erasure.{changes, maskedSyndrome}
 use Rattle.code.specs.Near.{distance, radius, Near}

@@ -17,7 +17,7 @@ use Rattle.field.specs.Question.{isWidth}
 use Rattle.field.specs.Answer.{Operand}
 use Rattle.field.proofs.Laws.{IsField}
 use Rattle.field.proofs.Widths.{field-of}
-use Rattle.sums.proofs.Evaluation.{five-at, five-cong}
+use Rattle.field.proofs.Evaluation.{five-at, five-cong}
 use Rattle.code.specs.declared.restorer.Trial.{Trial}
 use Rattle.code.specs.Word.{checks, five, places, at}
 use Rattle.code.specs.Place.{column}

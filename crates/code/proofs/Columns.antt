@@ -12,8 +12,8 @@ use Rattle.field.specs.Polynomial.{add}
 use Rattle.field.specs.Field.{order, product, power, α}
 use Rattle.field.specs.Question.{allBelow}
 use Rattle.field.proofs.Laws.{IsField}
-use Rattle.sums.proofs.Below.{below-head, below-tail}
-use Rattle.sums.proofs.Sums.{sum-cong, sum-split, sum-zero}
+use Rattle.field.proofs.Below.{below-head, below-tail}
+use Rattle.field.proofs.Sums.{sum-cong, sum-split, sum-zero}
 use Rattle.code.specs.Word.{checks, places, items, sum, syndrome}
 use Rattle.code.specs.Place.{column}
 use Rattle.code.specs.Erasure.{member, distinct, masked}

@@ -18,7 +18,7 @@ use Rattle.field.specs.Question.{isWidth}
 use Rattle.field.specs.Answer.{Operand}
 use Rattle.field.proofs.Laws.{IsField}
 use Rattle.field.proofs.Widths.{field-of}
-use Rattle.sums.proofs.Evaluation.{five-at, five-cong}
+use Rattle.field.proofs.Evaluation.{five-at, five-cong}
 use Rattle.code.specs.declared.restorer.Trial.{Trial}
 use Rattle.code.specs.declared.solver.Solutions.{Solutions}
 use Rattle.code.specs.declared.solver.Solutions.the-variants.{None, One, Several}

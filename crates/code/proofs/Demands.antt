@@ -9,7 +9,7 @@ use lib.ListN.{length}
 use Rattle.field.specs.Question.{Outcome, accepted, after, isWidth}
 use Rattle.field.specs.declared.Verdict.{Verdict}
 use Rattle.field.proofs.Widths.{field-of}
-use Rattle.sums.proofs.Evaluation.{five-cong}
+use Rattle.field.proofs.Evaluation.{five-cong}
 use Rattle.code.specs.Word.{places, at, syndrome, Codeword, encode, dataOf}
 use Rattle.code.specs.Erasure.{syndromesOf}
 use Rattle.code.specs.Call.{written, done, withinWritten, shown, allZero, zeroSyndromes, encodeOf, encodeWritten, testOf}

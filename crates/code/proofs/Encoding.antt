@@ -9,7 +9,7 @@ use lib.Seq.{getD-drop, ext-getD}
 use Rattle.field.specs.Polynomial.{add}
 use Rattle.field.specs.Field.{order}
 use Rattle.field.proofs.Laws.{IsField}
-use Rattle.sums.proofs.Evaluation.{five-at}
+use Rattle.field.proofs.Evaluation.{five-at}
 use Rattle.code.specs.Word.{checks, places, five, at, parity, syndrome, Codeword, encode, dataOf}
 use Rattle.code.specs.Demands.{Data}
 use Rattle.code.proofs.Parities.{parity-data}

@@ -13,7 +13,7 @@ use Rattle.field.specs.Polynomial.{add}
 use Rattle.field.specs.Field.{order}
 use Rattle.field.specs.Question.{allBelow}
 use Rattle.field.proofs.Laws.{IsField}
-use Rattle.sums.proofs.Below.{below-head, below-tail}
+use Rattle.field.proofs.Below.{below-head, below-tail}
 use Rattle.code.specs.Word.{checks, places, at, syndrome, Codeword}
 use Rattle.code.specs.Erasure.{member, distinct, differ, changes, masked, maskedSyndrome}
 use Rattle.code.specs.Correction.{fill, Agrees, Lent}

@@ -14,7 +14,7 @@ use Rattle.field.specs.Polynomial.{add}
 use Rattle.field.specs.Field.{order, product, power, α}
 use Rattle.field.specs.Question.{allBelow}
 use Rattle.field.proofs.Laws.{IsField}
-use Rattle.sums.proofs.Below.{below-head}
+use Rattle.field.proofs.Below.{below-head}
 use Rattle.code.specs.Word.{checks, places, items}
 use Rattle.code.specs.Erasure.{member}
 use Rattle.code.proofs.Algebra.{add-of-eq, power-times, square}

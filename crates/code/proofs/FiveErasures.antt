@@ -14,7 +14,7 @@ use Rattle.field.specs.Question.{accepted}
 use Rattle.field.proofs.Laws.{IsField}
 use Rattle.field.proofs.Check.{and-left, and-right}
 use Rattle.field.proofs.Widths.{field-of}
-use Rattle.sums.proofs.Sums.{sum-cong, sum-add, sum-times, sum-zero}
+use Rattle.field.proofs.Sums.{sum-cong, sum-add, sum-times, sum-zero}
 use Rattle.code.specs.Word.{checks, at, sum, encode, dataOf}
 use Rattle.code.specs.Place.{column}
 use Rattle.code.specs.Erasure.{member, total, changes, maskedSyndrome}

@@ -9,9 +9,9 @@ use lib.Seq.{getD-drop}
 use Rattle.field.specs.Polynomial.{add}
 use Rattle.field.specs.Field.{order, product, power, α}
 use Rattle.field.specs.Question.{allBelow}
-use Rattle.sums.proofs.Below.{allBelow-means, allBelow-holds}
-use Rattle.sums.proofs.Sums.{sum-cong}
-use Rattle.sums.proofs.Evaluation.{five-at}
+use Rattle.field.proofs.Below.{allBelow-means, allBelow-holds}
+use Rattle.field.proofs.Sums.{sum-cong}
+use Rattle.field.proofs.Evaluation.{five-at}
 use Rattle.code.specs.Word.{checks, places, items, five, at, weighted, parity, syndrome, dataOf}
 use Rattle.code.proofs.Loops.{part-drop}
 

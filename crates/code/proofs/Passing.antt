@@ -16,8 +16,8 @@ use Rattle.field.specs.declared.Question.the-variants.{Width, Length, ErasureCo
 use Rattle.field.specs.declared.Verdict.{Verdict}
 use Rattle.field.specs.declared.Verdict.the-variants.{Passed, Refused}
 use Rattle.field.proofs.Ask.{ask-yes, ask-next}
-use Rattle.sums.proofs.Evaluation.{five-at}
-use Rattle.sums.proofs.Below.{allBelow-means, allBelow-holds}
+use Rattle.field.proofs.Evaluation.{five-at}
+use Rattle.field.proofs.Below.{allBelow-means, allBelow-holds}
 use Rattle.code.specs.Word.{checks, places, items, five, at, syndrome, Codeword}
 use Rattle.code.specs.Erasure.{distinct, symbolsFrom}
 use Rattle.code.specs.Call.{allZero, zeroSyndromes, encodeAsked, testAsked, maxErasures, readAsked, restoreAsked, followed, withinAsked}

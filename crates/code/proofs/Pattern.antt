@@ -14,7 +14,7 @@ use Rattle.field.specs.Polynomial.{add}
 use Rattle.field.specs.Field.{order, product}
 use Rattle.field.specs.Question.{allBelow}
 use Rattle.field.proofs.Laws.{IsField}
-use Rattle.sums.proofs.Below.{below-head, below-tail}
+use Rattle.field.proofs.Below.{below-head, below-tail}
 use Rattle.code.specs.Word.{checks, places, at, syndrome, Codeword}
 use Rattle.code.specs.Place.{column}
 use Rattle.code.specs.Erasure.{member, distinct, masked, maskedSyndrome}

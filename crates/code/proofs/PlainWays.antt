@@ -12,8 +12,8 @@ use Rattle.field.specs.Field.{order, product, inverse}
 use Rattle.field.specs.Question.{isWidth, allBelow}
 use Rattle.field.proofs.Laws.{IsField}
 use Rattle.field.proofs.Widths.{field-of}
-use Rattle.sums.proofs.Below.{below-head}
-use Rattle.sums.proofs.Evaluation.{five-at, five-cong}
+use Rattle.field.proofs.Below.{below-head}
+use Rattle.field.proofs.Evaluation.{five-at, five-cong}
 use Rattle.code.specs.declared.place.Place.{Place}
 use Rattle.code.specs.declared.restorer.Trial.{Trial}
 use Rattle.code.specs.declared.restorer.Correction.{Correction}

@@ -13,9 +13,9 @@ use lib.ListN.{length, getD, take, drop, drop-of-length-le}
 use lib.Seq.{drop-cons}
 use Rattle.field.specs.Question.{allBelow}
 use Rattle.field.proofs.Ask.{and-true-left, and-true-right}
-use Rattle.sums.specs.Block.{Run}
-use Rattle.sums.proofs.Below.{and-holds}
-pub use Rattle.sums.proofs.Below.{allBelow-means, allBelow-holds}
+use Rattle.code.specs.Block.{Run}
+use Rattle.field.proofs.Below.{and-holds}
+pub use Rattle.field.proofs.Below.{allBelow-means, allBelow-holds}
 use Rattle.code.specs.Word.{at}
 use Rattle.code.specs.Erasure.{member, distinct, symbolsFrom}
 use Rattle.code.specs.Call.{allZero}

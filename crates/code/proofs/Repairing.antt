@@ -20,9 +20,9 @@ use Rattle.field.specs.declared.Question.{Question}
 use Rattle.field.specs.declared.Verdict.{Verdict}
 use Rattle.field.specs.declared.Verdict.the-variants.{Passed, Refused as RefusedBy}
 use Rattle.field.proofs.Widths.{field-of, order-small}
-use Rattle.sums.specs.Block.{Run}
-use Rattle.sums.proofs.Below.{allBelow-means, allBelow-holds}
-use Rattle.sums.proofs.Evaluation.{five-cong}
+use Rattle.code.specs.Block.{Run}
+use Rattle.field.proofs.Below.{allBelow-means, allBelow-holds}
+use Rattle.field.proofs.Evaluation.{five-cong}
 use Rattle.code.specs.declared.Repair.{Repair}
 use Rattle.code.specs.declared.Repair.the-variants.{Restored, Refused}
 use Rattle.code.specs.declared.restorer.Trial.{Trial}

@@ -19,8 +19,8 @@ use Rattle.field.specs.declared.Verdict.{Verdict}
 use Rattle.field.specs.declared.Verdict.the-variants.{Passed, Refused}
 use Rattle.field.proofs.Laws.{IsField}
 use Rattle.field.proofs.Widths.{field-of}
-use Rattle.sums.proofs.Below.{allBelow-means, allBelow-holds}
-use Rattle.sums.proofs.Evaluation.{five-cong}
+use Rattle.field.proofs.Below.{allBelow-means, allBelow-holds}
+use Rattle.field.proofs.Evaluation.{five-cong}
 use Rattle.code.specs.Word.{places, at}
 use Rattle.code.specs.Erasure.{member, distinct, symbolsFrom, differ, changes, masked, syndromesOf}
 use Rattle.code.specs.Near.{distance, radius, codewords, Near, nearby, Restoration, none, one, several, found, restoration}

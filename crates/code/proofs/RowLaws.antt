@@ -11,7 +11,7 @@ use Rattle.field.specs.Polynomial.{add}
 use Rattle.field.specs.Field.{order, product}
 use Rattle.field.specs.Answer.{Operand}
 use Rattle.field.proofs.Laws.{IsField}
-use Rattle.sums.specs.Lanes.{six}
+use Rattle.field.specs.Lanes.{six}
 use Rattle.code.specs.Word.{five, at}
 use Rattle.code.specs.Matrix.{rows, columns, entry, columnOf, rowAdd, scale, dot}
 

@@ -10,7 +10,7 @@ use Rattle.field.specs.Field.{order, product}
 use Rattle.field.proofs.Laws.{IsField}
 use Rattle.code.specs.Word.{checks, places, sum, parity, syndrome}
 use Rattle.code.specs.Erasure.{total}
-use Rattle.sums.proofs.Sums.{sum-cong, sum-add, sum-zero, sum-lt}
+use Rattle.field.proofs.Sums.{sum-cong, sum-add, sum-zero, sum-lt}
 use Rattle.code.proofs.Algebra.{add-cancel}
 
 -- ---- totals

@@ -13,8 +13,8 @@ use Rattle.field.specs.Field.{order, product}
 use Rattle.field.specs.Question.{allBelow}
 use Rattle.field.proofs.Laws.{IsField}
 use Rattle.field.proofs.Widths.{field-of}
-use Rattle.sums.proofs.Below.{below-head, below-tail}
-use Rattle.sums.proofs.Evaluation.{five-at, five-cong}
+use Rattle.field.proofs.Below.{below-head, below-tail}
+use Rattle.field.proofs.Evaluation.{five-at, five-cong}
 use Rattle.code.specs.declared.restorer.Trial.{Trial}
 use Rattle.code.specs.declared.restorer.Correction.{Correction}
 use Rattle.code.specs.Word.{checks, five, places, at, Codeword}

@@ -6,6 +6,7 @@ pub mod Call  -- for each call its questions, its answer and the lent memory aft
 pub mod Demands  -- demands 2 and 3, the reach, both methods, the display
 pub mod Cases  -- the starred cases, those with five erasures and the codeword of width 4, as one table
 -- the vocabulary of internal contracts
+pub mod Block  -- neighbouring bytes in one number, and a run of them passed over
 pub mod Place  -- a place's exponent, and the columns of the code's matrix
 pub mod Matrix  -- linear systems as matrices, the steps of elimination, what the solver's answers mean
 pub mod Correction  -- a trial, a correction, and what a search that finds none has shown

@@ -10,8 +10,8 @@ use Rattle.field.specs.Field.{order}
 use Rattle.field.specs.Question.{isWidth}
 -- `at w p` is the symbol at place p of the word w, `sum n f` the field sum of f 0 to f (n - 1), `five f` a number for each syndrome, and
 -- `weighted m n c k` the field sum over i below n of α^(k·i) times c_i
-unfoldable pub use Rattle.sums.specs.Sum.{sum}
-pub use Rattle.sums.specs.Sum.{at, five, weighted}
+unfoldable pub use Rattle.field.specs.Sum.{sum}
+pub use Rattle.field.specs.Sum.{at, five, weighted}
 
 -- the number of check symbols p_0 to p_4, which stand before the data
 abbrev pub checks : ℕ

@@ -18,6 +18,7 @@ ghost use Rattle.code.specs.Demands.{PassesWithin};
 ghost use Rattle.code.specs.Matrix.{unknowns};
 ghost use Rattle.code.specs.Correction.{tried, Ready, Searched, NoneWithin};
 
+mod block;
 mod finder;
 mod place;
 pub mod question;
@@ -29,6 +30,7 @@ mod syndrome;
 use field::Question;
 use field::Verdict;
 use field::arithmetic::order_of;
+use field::parity::parities;
 use finder::find_near;
 use question::all_different;
 use question::all_zero;
@@ -42,7 +44,6 @@ use restorer::started;
 use restorer::write;
 use slice::copy;
 use solver::Solutions;
-use sums::parities;
 use syndrome::syndromes;
 
 // What the codeword test answers.

@@ -5,7 +5,7 @@ ghost use Rattle.code.specs.Call.{allZero};
 ghost use Rattle.code.specs.Erasure.{member, distinct, symbolsFrom};
 ghost use Prim.Native.Nat.{_≤_};
 ghost use lib.ListN.{length};
-use sums::block::pass_below;
+use crate::block::pass_below;
 
 // Is every symbol below n?
 pub fn below(xs: &[u8], n: u8) -> bool

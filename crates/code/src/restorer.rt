@@ -15,6 +15,7 @@ ghost use Rattle.code.specs.Call.{allZero};
 ghost use Rattle.code.specs.Matrix.{rows, unknowns, columnOf};
 ghost use Rattle.code.specs.Correction.{fill, Lent, tried, Ready, SystemColumns, SystemMatrix, corrected};
 ghost use Rattle.code.specs.Correction.{NoneAt, NoneFrom, Searched, isSolved, Workable};
+use crate::block::pass_equal;
 use crate::place::Place;
 use crate::place::column;
 use crate::place::whole_column;
@@ -29,7 +30,6 @@ use crate::solver::add_times;
 use crate::solver::solve;
 use crate::syndrome::syndromes;
 use field::arithmetic::multiply;
-use sums::block::pass_equal;
 
 // Places taken as erased, the first `count` of them, and the five syndromes of the other places.
 pub struct Trial {

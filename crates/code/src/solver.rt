@@ -6,13 +6,13 @@ ghost use Prim.Native.Nat.{_≤_, _<_};
 ghost use lib.ListN.{take};
 ghost use Rattle.field.specs.Question.{isWidth};
 ghost use Rattle.field.specs.Answer.{Operand};
-ghost use Rattle.sums.specs.Lanes.{Below, Multiples};
+ghost use Rattle.field.specs.Lanes.{Below, Multiples};
 ghost use Rattle.code.specs.Word.{at};
 ghost use Rattle.code.specs.Matrix.{rows, unknowns, columns, Matrix, Operands, rowAdd, scale, Cleared, swapped, Pivot, columnOf, Means};
 use field::arithmetic::invert;
 use field::arithmetic::multiply;
-use sums::row::add_multiple;
-use sums::row::multiples;
+use field::row::add_multiple;
+use field::row::multiples;
 
 // The shape of a matrix: a row for each equation, with the right-hand side in column 0 and then a column for each unknown.
 pub const ROWS: usize = 5;

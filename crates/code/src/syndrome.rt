@@ -6,7 +6,7 @@ ghost use lib.ListN.{length};
 ghost use Rattle.field.specs.Field.{order};
 ghost use Rattle.field.specs.Question.{isWidth, allBelow};
 ghost use Rattle.code.specs.Word.{checks, five, places, at, syndrome};
-use sums::parities;
+use field::parity::parities;
 
 // The five syndromes of a word.
 pub fn syndromes(width: u8, word: &[u8]) -> [u8; 5]

@@ -5,6 +5,11 @@ ghost use Rattle.field.specs.Question.{refusal};
 ghost use Rattle.field.specs.Answer.{operands, outcome, sumOf, productOf, powerOf, inverseOf};
 
 pub mod arithmetic;
+mod folds;
+mod horner;
+pub mod lanes;
+pub mod parity;
+pub mod row;
 pub mod shift;
 pub mod table;
 

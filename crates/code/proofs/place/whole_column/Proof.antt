@@ -5,7 +5,7 @@ use Prim.Native.Nat.{ℕ, _*_}
 use native.Mathlib.Omega.{arith}
 use Rattle.field.specs.Field.{power, α}
 use Rattle.field.specs.declared.Exponent.{Exponent}
-use Rattle.sums.proofs.Evaluation.{five-of, five-cong}
+use Rattle.field.proofs.Evaluation.{five-of, five-cong}
 use Rattle.code.specs.Word.{five}
 use Rattle.code.specs.Place.{column}
 use Rattle.code.proofs.Columns.{column-power}

@@ -5,7 +5,7 @@ use Prim.Native.Nat.{ℕ, _<_}
 use lib.Dec.{lit<}
 use Rattle.field.specs.Polynomial.{add}
 use Rattle.field.proofs.Bytes.{xor-add}
-use Rattle.sums.proofs.Evaluation.{five-of}
+use Rattle.field.proofs.Evaluation.{five-of}
 use Rattle.code.specs.Word.{checks, at, syndrome}
 use Rattle.code.proofs.Parities.{syndromes-of}
 use Rattle.code.proofs.syndrome.syndromes.Statement.{statement}

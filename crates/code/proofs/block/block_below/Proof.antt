@@ -1,0 +1,29 @@
+-- `code::block::block_below` meets its contract. Assumes nothing.
+use borrow.Author.Needs.{needs}
+use native.Mathlib.Omega.{arith}
+use mathlib.Core.Bool.{false≢true}
+use borrow.Author.Tests.{eqb-true}
+use Rattle.code.proofs.Blocks.{block-below}
+use Rattle.code.proofs.block.block_below.Statement.{statement}
+use Rattle.code.proofs.block.block_below.Tie as tie
+
+returns : tie.Need-returns
+returns c = λ t. absurd (false≢true t)
+
+eight-requires : tie.Need-eight-requires
+eight-requires c κs = search needs
+
+sub-result : tie.Need-sub-result
+sub-result c = search needs
+
+mul-result : tie.Need-mul-result
+mul-result c = search needs
+
+returns-2 : tie.Need-returns-2
+returns-2 c =
+    let s = c .before .before .before .args in
+    let e = c .eight in
+    λ t. block-below (s .xs .now) (s .i) (e .result) (s .q) (omega arith) (e .ensures) (eqb-true _ _ t)
+
+pub block-below-spec : {M : Type 1} → statement M
+block-below-spec = tie.close (tie.spec returns eight-requires sub-result mul-result returns-2)

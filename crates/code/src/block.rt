@@ -1,0 +1,52 @@
+// Eight neighbouring bytes as one number, so that a test of a list takes eight at a time.
+ghost use mathlib.Core.Path.{_≡_};
+ghost use mathlib.Core.Bool.{true};
+ghost use lib.ListN.{length};
+ghost use Prim.Native.Nat.{ℕ, _+_, _≤_, _<_};
+ghost use Rattle.field.specs.Sum.{at};
+ghost use Rattle.code.specs.Block.{Run};
+use field::lanes::eight;
+
+// Have the eight bytes from place i on no digit in common with 256 - q? Then each is below q, for 256 - q and a byte without a common
+// digit have a sum of 8 digits. Where q is a power of two, the answer is yes just then.
+fn block_below(xs: &[u8], i: usize, q: u8) -> bool
+    requires { ⌜ i + 8 ≤ length (now xs) ⌝ }
+    ensures { λ r. ⌜ (r ≡ true → (j : ℕ) → j < 8 → at (now (xs .entry)) (i + j) < q) ⌝ }
+{
+    if q == 0 {
+        return false;
+    }
+    eight(xs, i) & (0x0101010101010101 * (256 - q as u64)) == 0
+}
+
+// The place after the blocks from i on that are below q. No entry point: it requires a place inside the list.
+pub fn pass_below(xs: &[u8], i: usize, q: u8) -> usize
+    requires { ⌜ i ≤ length (now xs) ⌝ }
+    ensures { λ r. ⌜ Run (λ p. at (now (xs .entry)) p < q) i (length (now (xs .entry))) r ⌝ }
+{
+    let mut p = i;
+    while 8 <= xs.len() - p {
+        if block_below(xs, p, q) {
+            p += 8;
+        } else {
+            return p;
+        }
+    }
+    p
+}
+
+// The place after the blocks from i on that are the same in both. No entry point: it requires lists of one length, and a place inside them.
+pub fn pass_equal(xs: &[u8], ys: &[u8], i: usize) -> usize
+    requires { ⌜ (i ≤ length (now xs)) × (length (now xs) ≡ length (now ys)) ⌝ }
+    ensures { λ r. ⌜ Run (λ p. at (now (xs .entry)) p ≡ at (now (ys .entry)) p) i (length (now (xs .entry))) r ⌝ }
+{
+    let mut p = i;
+    while 8 <= xs.len() - p {
+        if eight(xs, p) == eight(ys, p) {
+            p += 8;
+        } else {
+            return p;
+        }
+    }
+    p
+}

@@ -1,0 +1,44 @@
+-- What the test of question 7 means for a list of symbols, both ways. Assumes nothing.
+use mathlib.Core.Path.{_≡_, refl}
+use mathlib.Core.Bool.{Bool, true, _&&_}
+use mathlib.Core.List.{List, [], _∷_}
+use Prim.Native.Nat.{ℕ, zero, suc, _≤_, _<_}
+use native.Mathlib.Nat.{le-of-suc-le-suc, not-suc-le-zero}
+use native.Mathlib.Omega.{arith}
+use borrow.Author.Tests.{lt-ltb, ltb-true}
+use lib.Dec.{ltb}
+use lib.ListN.{length, getD}
+use Rattle.field.specs.Question.{allBelow}
+use Rattle.field.proofs.Ask.{and-true-left, and-true-right}
+use Rattle.field.specs.Sum.{at}
+
+pub and-holds : (a b : Bool) → a ≡ true → b ≡ true → (a && b) ≡ true
+and-holds a b h k = simp (h, k)
+
+module _ (l : ℕ) (ls : List ℕ) where
+  pub below-head : (n : ℕ) → allBelow n (l ∷ ls) ≡ true → l < n
+  below-head n b = ltb-true l n (and-true-left (ltb l n) (allBelow n ls) b)
+
+  pub below-tail : (n : ℕ) → allBelow n (l ∷ ls) ≡ true → allBelow n ls ≡ true
+  below-tail n b = and-true-right (ltb l n) (allBelow n ls) b
+
+pub allBelow-means : (n : ℕ) (xs : List ℕ) → allBelow n xs ≡ true → (k : ℕ) → k < length xs → getD xs k 0 < n
+allBelow-means n [] h k l = absurd (not-suc-le-zero l)
+allBelow-means n (x ∷ xs) h zero l = below-head x xs n h
+allBelow-means n (x ∷ xs) h (suc k) l = allBelow-means n xs (below-tail x xs n h) k (le-of-suc-le-suc l)
+
+pub allBelow-holds : (n : ℕ) (xs : List ℕ) → ((k : ℕ) → k < length xs → getD xs k 0 < n) → allBelow n xs ≡ true
+allBelow-holds n [] h = refl
+allBelow-holds n (x ∷ xs) h =
+    and-holds (ltb x n) (allBelow n xs) (lt-ltb x n (h zero (omega arith))) (allBelow-holds n xs (λ k l. h (suc k) (omega arith)))
+
+-- every place of a list of symbols holds a symbol: past its end it is 0
+pub symbol-lt : (cs : List ℕ) → allBelow 128 cs ≡ true → (p : ℕ) → at cs p < 128
+symbol-lt [] b p = omega arith
+symbol-lt (c ∷ cs) b zero = below-head c cs 128 b
+symbol-lt (c ∷ cs) b (suc p) = symbol-lt cs (below-tail c cs 128 b) p
+
+pub past-end : (cs : List ℕ) (p : ℕ) → length cs ≤ p → at cs p ≡ 0
+past-end [] p h = refl
+past-end (c ∷ cs) zero h = absurd (omega arith)
+past-end (c ∷ cs) (suc p) h = past-end cs p (omega arith)

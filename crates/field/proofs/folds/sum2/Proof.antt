@@ -1,0 +1,25 @@
+-- `field::folds::sum2` meets its contract. Assumes nothing.
+use borrow.Author.Needs.{needs}
+use Rattle.field.specs.Polynomial.{add}
+use Rattle.field.proofs.Folding.{folded}
+use Rattle.field.proofs.folds.sum2.Statement.{statement}
+use Rattle.field.proofs.folds.sum2.Tie as tie
+
+by8-requires : tie.Need-by8-requires
+by8-requires c κs = search needs
+
+shift-requires : tie.Need-shift-requires
+shift-requires c κs = search needs
+
+shift-requires-2 : tie.Need-shift-requires-2
+shift-requires-2 c κs = search needs
+
+returns : tie.Need-returns
+unfolding add
+returns c = λ f b q.
+    (let d = c .before in
+    folded 2 (d .before .before .args .a) (d .before .by8 .result) (d .shift .result) (c .shift2 .result) f
+    (d .before .by8 .ensures) (d .shift .ensures) (c .shift2 .ensures) b q)
+
+pub sum2-spec : {M : Type 1} → statement M
+sum2-spec = tie.close (tie.spec by8-requires shift-requires shift-requires-2 returns)

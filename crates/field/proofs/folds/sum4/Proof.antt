@@ -1,0 +1,25 @@
+-- `field::folds::sum4` meets its contract. Assumes nothing.
+use borrow.Author.Needs.{needs}
+use Rattle.field.specs.Polynomial.{add}
+use Rattle.field.proofs.Folding.{folded}
+use Rattle.field.proofs.folds.sum4.Statement.{statement}
+use Rattle.field.proofs.folds.sum4.Tie as tie
+
+by16-requires : tie.Need-by16-requires
+by16-requires c κs = search needs
+
+by8-requires : tie.Need-by8-requires
+by8-requires c κs = search needs
+
+shift-requires : tie.Need-shift-requires
+shift-requires c κs = search needs
+
+returns : tie.Need-returns
+unfolding add
+returns c = λ f b q.
+    (let d = c .before in
+    folded 4 (d .before .before .args .a) (d .before .by16 .result) (d .by8 .result) (c .shift .result) f
+    (d .before .by16 .ensures) (d .by8 .ensures) (c .shift .ensures) b q)
+
+pub sum4-spec : {M : Type 1} → statement M
+sum4-spec = tie.close (tie.spec by16-requires by8-requires shift-requires returns)

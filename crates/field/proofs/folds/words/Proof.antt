@@ -1,0 +1,81 @@
+-- `field::folds::words` meets its contract: the first i numbers hold their symbols, and so does the last. Assumes nothing.
+use borrow.Author.Needs.{needs}
+use mathlib.Core.Path.{_≡_, _∙_}
+use Prim.Native.Nat.{ℕ, _+_, _-_, _*_, _≤_, _<_}
+use native.Mathlib.Omega.{arith}
+use lib.ListN.{length}
+use lib.Seq.{getD-set-other}
+use Rattle.field.specs.Sum.{at}
+use Rattle.field.specs.Lanes.{lanes}
+use Rattle.field.proofs.Filling.{set-more, last-number, all-sixteen}
+use Rattle.field.proofs.folds.words.Statement.{statement}
+use Rattle.field.proofs.folds.words.Tie as tie
+
+abbrev Inv-loop : tie.InvT-loop
+Inv-loop cs w₀ i₀ w i =
+    (i ≤ 15) × (length cs ≡ 127) × (length w ≡ 16) × ((m : ℕ) → m < i → at w m ≡ lanes 8 (λ j. at cs (8 * m + j)))
+    × (at w 15 ≡ lanes 8 (λ j. at cs (8 * 15 + j)))
+
+abbrev μ-loop : tie.MeasureT-loop
+μ-loop cs w₀ i₀ w i = 15 - i
+
+eight-requires : tie.Need-eight-requires Inv-loop μ-loop
+eight-requires c κs = search needs
+
+loop-holds : tie.Need-loop-holds Inv-loop μ-loop
+loop-holds c = (search needs, search needs, search needs, (λ m h. absurd (omega arith)), last-number (c .before .before .args .cs .now) (c .eight .result) (c .before .before .pre) (c .eight .ensures))
+
+mul-eight : tie.Need-mul-eight Inv-loop μ-loop
+mul-eight c = search needs
+
+eight-requires-2 : tie.Need-eight-requires-2 Inv-loop μ-loop
+eight-requires-2 c κs = search needs
+
+mul-w : tie.Need-mul-w Inv-loop μ-loop
+mul-w c = search needs
+
+array-write-w : tie.Need-array-write-w Inv-loop μ-loop
+array-write-w c = search needs
+
+add-i : tie.Need-add-i Inv-loop μ-loop
+add-i c = search needs
+
+loop-less : tie.Need-loop-less Inv-loop μ-loop
+loop-less c = search needs
+
+loop-again : tie.Need-loop-again Inv-loop μ-loop
+loop-again c =
+    let l = c .before .before in
+    let cs = l .before .before .before .args .cs .now in
+    let w = l .loop .w in
+    let i : ℕ = l .loop .i in
+    let size : length w ≡ 16 = l .loop .inv .2 in (
+      search needs,
+      search needs,
+      search needs,
+      set-more (λ m. lanes 8 (λ j. at cs (8 * m + j))) i (c .eight2 .result) w (omega (arith, size)) (c .eight2 .ensures .held) (l .loop .inv .3),
+      getD-set-other w i 15 _ 0 (λ e. omega arith) ∙ l .loop .inv .4,
+    )
+
+returns : tie.Need-returns Inv-loop μ-loop
+returns c =
+    let l = c .before in
+    let cs = l .before .before .before .args .cs .now in
+    all-sixteen (λ m. lanes 8 (λ j. at cs (8 * m + j))) (l .loop .w) (λ m h. l .loop .inv .3 m (omega arith)) (l .loop .inv .4)
+
+pub words-spec : {M : Type 1} → statement M
+words-spec =
+    tie.close
+    (tie.spec
+    Inv-loop
+    μ-loop
+    eight-requires
+    loop-holds
+    mul-eight
+    eight-requires-2
+    mul-w
+    array-write-w
+    add-i
+    loop-less
+    loop-again
+    returns)

@@ -1,0 +1,48 @@
+// Weighted sums in one pass from the last symbol to the first (Horner's rule): each sum is multiplied by its power of α, and the next symbol
+// is added to all of them. No power of α is raised for a symbol.
+ghost use mathlib.Core.Path.{_≡_};
+ghost use mathlib.Core.Bool.{true};
+ghost use Prim.Native.Nat.{ℕ, _<_};
+ghost use lib.ListN.{length};
+ghost use Rattle.field.specs.Polynomial.{add};
+ghost use Rattle.field.specs.Field.{order, product, power, α};
+ghost use Rattle.field.specs.Question.{isWidth, allBelow};
+ghost use Rattle.field.specs.Sum.{five, weighted, at};
+use crate::shift::shift;
+
+// The sums with one more symbol in front. The power 0 of α leaves the first as it is.
+fn step(width: u8, s: [u8; 5], c: u8) -> [u8; 5]
+    ensures { λ r.
+        ⌜
+        (
+        isWidth width ≡ true → ((k : ℕ) → k < 5 → at s k < order width)
+        → r ≡ five (λ k. add (product width (power width α k) (at s k)) c)
+        )
+        ⌝ }
+{
+    let s1 = shift(width, s[1], 1);
+    let s2 = shift(width, s[2], 2);
+    let s3 = shift(width, s[3], 3);
+    let s4 = shift(width, s[4], 4);
+    [s[0] ^ c, s1 ^ c, s2 ^ c, s3 ^ c, s4 ^ c]
+}
+
+// For k from 0 to 4 the field sum over i of α^(k·i) times symbol i.
+pub fn one_by_one(width: u8, symbols: &[u8]) -> [u8; 5]
+    ensures { λ r.
+        ⌜
+        (
+        isWidth width ≡ true → allBelow (order width) (now (symbols .entry)) ≡ true
+        → r ≡ five (weighted width (length (now (symbols .entry))) (at (now (symbols .entry))))
+        )
+        ⌝ }
+{
+    let mut s = [0u8; 5];
+    let mut i = symbols.len();
+    while 0 < i {
+        i -= 1;
+        let next = step(width, s, symbols[i]);
+        s = next;
+    }
+    s
+}

@@ -1,0 +1,84 @@
+// Rows of six symbols of width 7, as a linear system has them, in six lanes: a row is multiplied by shifts alone, where each product by the
+// tables would read three of them. These functions are no entry points.
+ghost use mathlib.Core.Path.{_≡_};
+ghost use Prim.Native.Nat.{ℕ, _+_, _*_, _%_, _<_};
+ghost use Rattle.field.specs.Polynomial.{add};
+ghost use Rattle.field.specs.Field.{product};
+ghost use Rattle.field.specs.Sum.{at};
+ghost use Rattle.field.specs.Lanes.{lanes, Below, six, Multiples};
+use crate::lanes::byte;
+use crate::lanes::shift;
+
+fn three_bytes(a: u8, b: u8, c: u8) -> u64
+    ensures { λ r. ⌜ (r ≡ a + b * 256 + c * 65536) × (r < 16777216) × (a < 256) × (b < 256) × (c < 256) ⌝ }
+{
+    a as u64 + b as u64 * 256 + c as u64 * 65536
+}
+
+// The bytes of a row in lanes.
+fn packed(row: [u8; 6]) -> u64
+    ensures { λ r. ⌜ (r ≡ lanes 6 (at row)) × Below 256 6 (at row) ⌝ }
+{
+    let low = three_bytes(row[0], row[1], row[2]);
+    let high = three_bytes(row[3], row[4], row[5]);
+    low + high * 16777216
+}
+
+// And back.
+fn unpacked(a: u64) -> [u8; 6]
+    ensures { λ r. ⌜ ((f : ℕ → ℕ) → Below 256 6 f → a ≡ lanes 6 f → r ≡ six f) ⌝ }
+{
+    let b0 = byte(a);
+    let b1 = byte(a / 256);
+    let b2 = byte(a / 65536);
+    let b3 = byte(a / 16777216);
+    let b4 = byte(a / 4294967296);
+    let b5 = byte(a / 1099511627776);
+    [b0, b1, b2, b3, b4, b5]
+}
+
+// a where the lowest digit of k is 1, else 0.
+fn when(k: u64, a: u64) -> u64
+    ensures { λ r. ⌜ r ≡ a * (k % 2) ⌝ }
+{
+    if k % 2 == 1 {
+        return a;
+    }
+    0
+}
+
+// The row in lanes, times each of the first seven powers of α: from these every multiple of the row is added up.
+pub fn multiples(row: [u8; 6]) -> [u64; 7]
+    ensures { λ r. ⌜ (Below 128 6 (at row) → Multiples (at row) r) ⌝ }
+{
+    let a = packed(row);
+    let b = shift(a, 4);
+    let s1 = shift(a, 1);
+    let s2 = shift(a, 2);
+    let s3 = shift(a, 3);
+    let s5 = shift(b, 1);
+    let s6 = shift(b, 2);
+    [a, s1, s2, s3, b, s5, s6]
+}
+
+// The row times k, in lanes: those of its multiples are added up that the digits of k name.
+fn scaled(k: u64, ms: [u64; 7]) -> u64
+    ensures { λ r. ⌜ ((f : ℕ → ℕ) → k < 128 → Multiples f ms → r ≡ lanes 6 (λ j. product 7 k (f j))) ⌝ }
+{
+    let w0 = when(k, ms[0]);
+    let w1 = when(k / 2, ms[1]);
+    let w2 = when(k / 4, ms[2]);
+    let w3 = when(k / 8, ms[3]);
+    let w4 = when(k / 16, ms[4]);
+    let w5 = when(k / 32, ms[5]);
+    let w6 = when(k / 64, ms[6]);
+    w0 ^ w1 ^ w2 ^ w3 ^ w4 ^ w5 ^ w6
+}
+
+// The row with k times another row added, of which the multiples are given.
+pub fn add_multiple(row: [u8; 6], k: u8, ms: [u64; 7]) -> [u8; 6]
+    ensures { λ r.
+        ⌜ ((f : ℕ → ℕ) → k < 128 → Multiples f ms → r ≡ six (λ j. add (at row j) (product 7 k (f j)))) ⌝ }
+{
+    unpacked(packed(row) ^ scaled(k as u64, ms))
+}
