@@ -13,12 +13,11 @@ use Rattle.field.specs.Field.{order, product, power, α}
 use Rattle.field.specs.Question.{allBelow}
 use Rattle.field.proofs.Laws.{IsField}
 use Rattle.field.proofs.Below.{below-head, below-tail}
-use Rattle.field.proofs.Sums.{sum-cong, sum-split, sum-zero}
+use Rattle.field.proofs.Sums.{sum-cong, sum-split, sum-zero, sum-change}
 use Rattle.code.specs.Word.{checks, places, items, sum, syndrome}
 use Rattle.code.specs.Place.{column}
 use Rattle.code.specs.Erasure.{member, distinct, masked}
 use Rattle.code.proofs.Algebra.{add-cancel}
-use Rattle.code.proofs.Sums.{sum-change}
 use Rattle.code.proofs.Members.{distinct-head, distinct-tail}
 
 -- row k of the columns at the places ls, each times its value

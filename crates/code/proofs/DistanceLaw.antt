@@ -13,6 +13,7 @@ use Rattle.field.specs.Field.{order, product, power, α}
 use Rattle.field.specs.Question.{isWidth}
 use Rattle.field.proofs.Laws.{IsField, CubeInjective}
 use Rattle.field.proofs.Widths.{field-of, cubes-of}
+use Rattle.field.proofs.Sums.{sum-none, sum-suc}
 use Rattle.code.specs.Word.{checks, places, items, sum, syndrome}
 use Rattle.code.specs.Erasure.{total}
 use Rattle.code.specs.Near.{distance}
@@ -61,11 +62,12 @@ module _ {m : ℕ} (F : IsField m) where
   row-keep x (suc v) P k = F .add-comm _ _
 
   row-support : (n : ℕ) (f : ℕ → ℕ) (k : ℕ) → row m (support m n f) k ≡ sum n (λ i. product m (power m α (k * i)) (f i))
-  unfolding support sum row
-  row-support zero f k = refl
+  unfolding support row
+  row-support zero f k = sym (sum-none _)
   row-support (suc n) f k =
       row-keep (power m α n) (f n) (support m n f) k
       ∙ ap₂ (λ (a b : ℕ). add a (product m b (f n))) (row-support n f k) (sym (power-times F α n k))
+      ∙ sym (sum-suc n _)
 
   apart-keep : (y x v : ℕ) (P : Points) → y ≢ x → Apart y P → Apart y (keep x v P)
   apart-keep y x zero P d a = a

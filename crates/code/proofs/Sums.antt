@@ -1,6 +1,5 @@
--- Totals and field sums of a function's first values, and the syndromes, which are linear. Assumes nothing.
+-- Totals of a function's first values, and the syndromes, which are linear. Assumes nothing.
 use mathlib.Core.Path.{_≡_, refl, sym, ap, ap₂, _∙_, subst}
-use mathlib.Core.Logic.{_≢_}
 use Prim.Native.Nat.{ℕ, zero, suc, _+_, _≤_, _<_, zero-le}
 use native.Mathlib.Nat.{add-zero, add-suc, add-assoc, not-suc-le-zero, le-refl}
 use native.Mathlib.Decide.{ℕ-discrete}
@@ -8,10 +7,9 @@ use native.Mathlib.Omega.{arith}
 use Rattle.field.specs.Polynomial.{add}
 use Rattle.field.specs.Field.{order, product}
 use Rattle.field.proofs.Laws.{IsField}
-use Rattle.code.specs.Word.{checks, places, sum, parity, syndrome}
+use Rattle.code.specs.Word.{checks, places, parity, syndrome}
 use Rattle.code.specs.Erasure.{total}
 use Rattle.field.proofs.Sums.{sum-cong, sum-add, sum-zero, sum-lt}
-use Rattle.code.proofs.Algebra.{add-cancel}
 
 -- ---- totals
 
@@ -52,27 +50,9 @@ part-le (suc n) f i h = go (ℕ-discrete i n) (λ l. part-le n f i l)
     go (yes e) ih = subst (λ (j : ℕ). f j ≤ total n f + f n) (sym e) (omega arith)
     go (no d) ih = omega (arith, ih (omega arith))
 
--- ---- field sums
+-- ---- syndromes
 
 module _ {m : ℕ} (F : IsField m) where
-  change : (s a b : ℕ) → add s a ≡ add (add s b) (add a b)
-  change s a b = ap (add s) (sym (add-cancel F b a)) ∙ simp (F .add-assoc, F .add-comm b a)
-
-  -- two sums that differ at the place p only
-  pub sum-change : (n : ℕ) (f g : ℕ → ℕ) (p : ℕ) → p < n → ((i : ℕ) → i < n → i ≢ p → f i ≡ g i) → sum n f ≡ add (sum n g) (add (f p) (g p))
-  unfolding sum
-  sum-change zero f g p h same = absurd (not-suc-le-zero h)
-  sum-change (suc n) f g p h same = go (ℕ-discrete p n) (λ l. sum-change n f g p l (λ i j d. same i (omega arith) d))
-    where
-      go : Dec (p ≡ n) → (p < n → sum n f ≡ add (sum n g) (add (f p) (g p))) → add (sum n f) (f n) ≡ add (add (sum n g) (g n)) (add (f p) (g p))
-      go (yes e) ih =
-          ap (λ (s : ℕ). add s (f n)) (sum-cong n f g (λ i l. same i (omega arith) (λ j. omega arith)))
-          ∙ change (sum n g) (f n) (g n)
-          ∙ ap (λ (j : ℕ). add (add (sum n g) (g n)) (add (f j) (g j))) (sym e)
-      go (no d) ih = ap₂ add (ih (omega arith)) (same n (le-refl (suc n)) (λ e. d (sym e))) ∙ simp (F .add-assoc, F .add-left-comm, F .add-comm)
-
-  -- ---- syndromes
-
   pub parity-lt : (c : ℕ → ℕ) (k : ℕ) → parity m c k < order m
   parity-lt c k = sum-lt F _ _ (λ i h. F .product-lt _ _)
 

@@ -16,10 +16,9 @@ use Rattle.field.specs.Field.{product, power, α, arithmetic}
 use Rattle.field.proofs.Widths.{doubles, doubles-power}
 use Rattle.field.specs.Sum.{at, sum}
 use Rattle.field.specs.Folds.{Additive, powers, Seventh, Eighth, total}
-use Rattle.field.proofs.Sums.{sum-cong}
+use Rattle.field.proofs.Sums.{sum-suc, sum-cong}
 use Rattle.field.proofs.Lanewise.{F}
 use Rattle.field.proofs.Folding.{power-apply}
-use Rattle.field.proofs.Segments.{sum-suc}
 
 -- what the number of value x at place p counts
 abbrev pub term : ℕ → ℕ → ℕ → ℕ

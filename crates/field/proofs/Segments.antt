@@ -1,5 +1,5 @@
 -- The sum over the symbols by segments: the sum in each, then the sum over the segments. Assumes nothing.
-use mathlib.Core.Path.{_≡_, refl, sym, ap, ap₂, _∙_}
+use mathlib.Core.Path.{_≡_, sym, ap, ap₂, _∙_}
 use Prim.Native.Nat.{ℕ, zero, suc, _+_, _*_}
 use native.Mathlib.Nat.{mul-zero}
 use native.Mathlib.Omega.{arith}
@@ -9,10 +9,6 @@ use Rattle.field.specs.Sum.{sum, weighted}
 use Rattle.field.proofs.Sums.{sum-cong, sum-split, sum-scale}
 use Rattle.field.proofs.Lanewise.{F}
 use Rattle.field.proofs.Folding.{power-apply}
-
-pub sum-suc : (n : ℕ) (f : ℕ → ℕ) → sum (suc n) f ≡ add (sum n f) (f n)
-unfolding sum
-sum-suc n f = refl
 
 -- the sum over n segments of p symbols
 pub segments : (p n : ℕ) (c : ℕ → ℕ) (k : ℕ) → weighted 7 n (λ j. weighted 7 p (λ t. c (p * j + t)) k) (p * k) ≡ weighted 7 (p * n) c k

@@ -1,12 +1,22 @@
 -- Laws of field sums. Assumes nothing.
 use mathlib.Core.Path.{_≡_, refl, sym, ap, ap₂, _∙_}
+use mathlib.Core.Logic.{_≢_}
 use Prim.Native.Nat.{ℕ, zero, suc, _+_, _<_}
-use native.Mathlib.Nat.{add-zero, add-suc, le-refl}
+use native.Mathlib.Nat.{add-zero, add-suc, le-refl, not-suc-le-zero}
+use native.Mathlib.Decide.{ℕ-discrete}
 use native.Mathlib.Omega.{arith}
 use Rattle.field.specs.Polynomial.{add}
 use Rattle.field.specs.Field.{order, product}
 use Rattle.field.proofs.Laws.{IsField}
 use Rattle.field.specs.Sum.{sum}
+
+pub sum-none : (f : ℕ → ℕ) → sum 0 f ≡ 0
+unfolding sum
+sum-none f = refl
+
+pub sum-suc : (n : ℕ) (f : ℕ → ℕ) → sum (suc n) f ≡ add (sum n f) (f n)
+unfolding sum
+sum-suc n f = refl
 
 pub sum-cong : (n : ℕ) (f g : ℕ → ℕ) → ((i : ℕ) → i < n → f i ≡ g i) → sum n f ≡ sum n g
 unfolding sum
@@ -51,3 +61,19 @@ module _ {m : ℕ} (F : IsField m) where
   unfolding sum
   sum-scale a zero f = sym (F .product-zero a)
   sum-scale a (suc n) f = ap (λ (x : ℕ). add x (product m a (f n))) (sum-scale a n f) ∙ sym (F .product-add a (sum n f) (f n))
+
+  change : (s a b : ℕ) → add s a ≡ add (add s b) (add a b)
+  change s a b = sym (F .add-assoc s b (add a b) ∙ ap (add s) (F .add-left-comm b a b ∙ ap (add a) (F .add-self b) ∙ F .add-zero a))
+
+  -- two sums that differ at the place p only
+  pub sum-change : (n : ℕ) (f g : ℕ → ℕ) (p : ℕ) → p < n → ((i : ℕ) → i < n → i ≢ p → f i ≡ g i) → sum n f ≡ add (sum n g) (add (f p) (g p))
+  unfolding sum
+  sum-change zero f g p h same = absurd (not-suc-le-zero h)
+  sum-change (suc n) f g p h same = go (ℕ-discrete p n) (λ l. sum-change n f g p l (λ i j d. same i (omega arith) d))
+    where
+      go : Dec (p ≡ n) → (p < n → sum n f ≡ add (sum n g) (add (f p) (g p))) → add (sum n f) (f n) ≡ add (add (sum n g) (g n)) (add (f p) (g p))
+      go (yes e) ih =
+          ap (λ (s : ℕ). add s (f n)) (sum-cong n f g (λ i l. same i (omega arith) (λ j. omega arith)))
+          ∙ change (sum n g) (f n) (g n)
+          ∙ ap (λ (j : ℕ). add (add (sum n g) (g n)) (add (f j) (g j))) (sym e)
+      go (no d) ih = ap₂ add (ih (omega arith)) (same n (le-refl (suc n)) (λ e. d (sym e))) ∙ simp (F .add-assoc, F .add-left-comm, F .add-comm)

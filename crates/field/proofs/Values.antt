@@ -14,11 +14,11 @@ use Rattle.field.specs.Question.{allBelow}
 use Rattle.field.specs.Sum.{at, weighted}
 use Rattle.field.specs.Lanes.{lanes, Below}
 use Rattle.field.specs.Folds.{Additive, Small, total, half, single, pair, quad, octet, Folded, Halved, Packed}
-use Rattle.field.proofs.Sums.{sum-cong, sum-split, sum-scale, sum-lt}
+use Rattle.field.proofs.Sums.{sum-suc, sum-cong, sum-split, sum-scale, sum-lt}
 use Rattle.field.proofs.Below.{symbol-lt, past-end}
 use Rattle.field.proofs.Lanewise.{F}
 use Rattle.field.proofs.Folding.{power-apply, weighted-one, lower, upper}
-use Rattle.field.proofs.Segments.{segments, sum-suc}
+use Rattle.field.proofs.Segments.{segments}
 use Rattle.field.proofs.Relations.{term}
 
 -- ---- values take sums to sums, and give symbols

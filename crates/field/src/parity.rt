@@ -6,7 +6,6 @@ ghost use lib.ListN.{length};
 ghost use Rattle.field.specs.Field.{order};
 ghost use Rattle.field.specs.Question.{isWidth, allBelow};
 ghost use Rattle.field.specs.Sum.{five, weighted, at};
-
 use crate::folds::by_folds;
 use crate::horner::one_by_one;
 
