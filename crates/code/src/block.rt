@@ -1,4 +1,5 @@
-// Eight neighbouring bytes as one number, so that a test of a list takes eight at a time.
+// Eight neighbouring bytes as one number, so that a test of a list takes eight at a time. How far such a test goes is the program's choice: what
+// every choice has in common is that each place passed over has the property, and no caller uses more.
 ghost use mathlib.Core.Path.{_≡_};
 ghost use mathlib.Core.Bool.{true};
 ghost use lib.ListN.{length};
@@ -19,7 +20,7 @@ fn block_below(xs: &[u8], i: usize, q: u8) -> bool
     eight(xs, i) & (0x0101010101010101 * (256 - q as u64)) == 0
 }
 
-// The place after the blocks from i on that are below q. No entry point: it requires a place inside the list.
+// A place, from i on, before which every byte from i on is below q: after the last block of eight that is.
 pub fn pass_below(xs: &[u8], i: usize, q: u8) -> usize
     requires { ⌜ i ≤ length (now xs) ⌝ }
     ensures { λ r. ⌜ Run (λ p. at (now (xs .entry)) p < q) i (length (now (xs .entry))) r ⌝ }
@@ -35,7 +36,7 @@ pub fn pass_below(xs: &[u8], i: usize, q: u8) -> usize
     p
 }
 
-// The place after the blocks from i on that are the same in both. No entry point: it requires lists of one length, and a place inside them.
+// A place, from i on, before which the two lists agree from i on: after the last block of eight in which they do.
 pub fn pass_equal(xs: &[u8], ys: &[u8], i: usize) -> usize
     requires { ⌜ (i ≤ length (now xs)) × (length (now xs) ≡ length (now ys)) ⌝ }
     ensures { λ r. ⌜ Run (λ p. at (now (xs .entry)) p ≡ at (now (ys .entry)) p) i (length (now (xs .entry))) r ⌝ }

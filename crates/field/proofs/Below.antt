@@ -32,12 +32,7 @@ allBelow-holds n [] h = refl
 allBelow-holds n (x ∷ xs) h =
     and-holds (ltb x n) (allBelow n xs) (lt-ltb x n (h zero (omega arith))) (allBelow-holds n xs (λ k l. h (suc k) (omega arith)))
 
--- every place of a list of symbols holds a symbol: past its end it is 0
-pub symbol-lt : (cs : List ℕ) → allBelow 128 cs ≡ true → (p : ℕ) → at cs p < 128
-symbol-lt [] b p = omega arith
-symbol-lt (c ∷ cs) b zero = below-head c cs 128 b
-symbol-lt (c ∷ cs) b (suc p) = symbol-lt cs (below-tail c cs 128 b) p
-
+-- past its end a list holds 0
 pub past-end : (cs : List ℕ) (p : ℕ) → length cs ≤ p → at cs p ≡ 0
 past-end [] p h = refl
 past-end (c ∷ cs) zero h = absurd (omega arith)

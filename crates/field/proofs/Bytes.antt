@@ -1,20 +1,23 @@
 -- The laws of arithmetic on bytes below the questions: for symbols at a width of the field it is the arithmetic of the field.
 -- Assumes nothing.
-use mathlib.Core.Path.{_≡_, refl, ap, ap₂, _∙_}
+use mathlib.Core.Path.{_≡_, refl, sym, ap, ap₂, _∙_, subst}
 use mathlib.Core.Logic.{_≢_, _⊎_, inl, inr}
-use mathlib.Core.Bool.{Bool, true, cond}
+use mathlib.Core.Bool.{Bool, true, false, cond}
 use Prim.Native.Nat.{ℕ, _%_, _≤_, _<_}
 use native.Mathlib.Nat.{mod-lt, mod-eq-of-lt}
 use native.Mathlib.Decide.{ℕ-discrete}
 use native.Mathlib.Omega.{arith}
 use lib.Bits.{bitXor}
 use lib.Pow.{pow-pos}
+use lib.Dec.{eqb}
 use borrow.Author.Tests.{ne-eqb}
 use Rattle.field.specs.Polynomial.{add}
 use Rattle.field.specs.Field.{order, product, power, inverse, α}
 use Rattle.field.specs.Question.{isWidth}
 use Rattle.field.specs.Answer.{Operand}
-use Rattle.field.specs.Bytes.{widthFor, symbolFor, multiplied, raised, inverted, shifted, Small}
+use Rattle.field.specs.Bytes.{widthFor, symbolFor, multiplied, raised, inverted, shifted, unitFor, Small}
+use Rattle.field.proofs.Laws.{IsField}
+use Rattle.field.proofs.Widths.{fieldAt, Width.seven}
 
 -- `^` on bytes is the sum
 pub xor-add : (a b : ℕ) → bitXor a b ≡ add a b
@@ -54,6 +57,14 @@ small-width m s = go (ℕ-discrete m 3) (ℕ-discrete m 4)
     go (no a) (yes e) = ap isWidth e
     go (no a) (no b) = ap isWidth (small-five m s a b)
 
+pub width-for : (m : ℕ) → isWidth (widthFor m) ≡ true
+unfolding widthFor
+width-for m = go (isWidth m) refl
+  where
+    go : (b : Bool) → isWidth m ≡ b → isWidth (cond b m 7) ≡ true
+    go true e = e
+    go false e = refl
+
 -- the lowest digits of a byte are a symbol
 pub operand-low : (n a : ℕ) → isWidth n ≡ true → Operand n (a % order n)
 operand-low n a w = record { width = w; symbol = mod-lt a (pow-pos n) }
@@ -61,6 +72,10 @@ operand-low n a w = record { width = w; symbol = mod-lt a (pow-pos n) }
 -- ---- each operation at the width n that the byte m stands for
 
 module _ (m n : ℕ) (e : widthFor m ≡ n) where
+  pub symbol-at : (a : ℕ) → symbolFor m a ≡ a % order n
+  unfolding symbolFor
+  symbol-at a = ap (λ (k : ℕ). a % order k) e
+
   pub multiplied-at : (a b : ℕ) → multiplied m a b ≡ product n (a % order n) (b % order n)
   unfolding multiplied symbolFor
   multiplied-at a b = ap (λ (k : ℕ). product k (a % order k) (b % order k)) e
@@ -76,6 +91,55 @@ module _ (m n : ℕ) (e : widthFor m ≡ n) where
   pub shifted-at : (a k : ℕ) → shifted m a k ≡ product n (power n α k) (a % order n)
   unfolding shifted symbolFor
   shifted-at a k = ap (λ (j : ℕ). product j (power j α k) (a % order j)) e
+
+pub symbol-lt : (m a : ℕ) → symbolFor m a < order (widthFor m)
+unfolding symbolFor
+symbol-lt m a = mod-lt a (pow-pos (widthFor m))
+
+pub shifted-symbol : (m a k : ℕ) → a < order (widthFor m) → shifted m a k ≡ product (widthFor m) (power (widthFor m) α k) a
+shifted-symbol m a k h = shifted-at m (widthFor m) refl a k ∙ ap (product (widthFor m) (power (widthFor m) α k)) (mod-eq-of-lt h)
+
+-- ---- the unit that a byte stands for
+
+pub unit-own : (a : ℕ) → a % 128 ≢ 0 → unitFor a ≡ a % 128
+unfolding unitFor
+unit-own a n = simp (ne-eqb (a % 128) 0 n)
+
+pub unit-low : (a : ℕ) → unitFor (a % 128) ≡ unitFor a
+unfolding unitFor
+unit-low a = ap (λ (x : ℕ). cond (eqb x 0) 1 x) (mod-eq-of-lt (mod-lt a (omega arith)))
+
+unit-nonzero : (a : ℕ) → unitFor a ≢ 0
+unfolding unitFor
+unit-nonzero a = go (ℕ-discrete (a % 128) 0)
+  where
+    go : Dec (a % 128 ≡ 0) → unitFor a ≢ 0
+    go (yes e) = λ z. absurd (omega (arith, sym (ap (λ (x : ℕ). cond (eqb x 0) 1 x) e) ∙ z))
+    go (no n) = λ z. n (sym (unit-own a n) ∙ z)
+
+unit-lt : (a : ℕ) → unitFor a < 128
+unfolding unitFor
+unit-lt a = go (ℕ-discrete (a % 128) 0)
+  where
+    go : Dec (a % 128 ≡ 0) → unitFor a < 128
+    go (yes e) = subst (λ (x : ℕ). x < 128) (sym (ap (λ (x : ℕ). cond (eqb x 0) 1 x) e)) (omega arith)
+    go (no n) = subst (λ (x : ℕ). x < 128) (sym (unit-own a n)) (mod-lt a (omega arith))
+
+-- the exponent of a ratio, of symbols other than 0
+pub ratio-own : (a b e : ℕ) → product 7 (power 7 α e) (unitFor a) ≡ unitFor b
+    → a % 128 ≢ 0 → b % 128 ≢ 0 → product 7 (power 7 α e) (a % 128) ≡ b % 128
+ratio-own a b e r na nb = ap (product 7 (power 7 α e)) (sym (unit-own a na)) ∙ r ∙ unit-own b nb
+
+-- it is one alone
+pub ratio-unique : (a b i j : ℕ) → i < 127 → j < 127
+    → product 7 (power 7 α i) (unitFor a) ≡ unitFor b → product 7 (power 7 α j) (unitFor a) ≡ unitFor b → i ≡ j
+ratio-unique a b i j hi hj ei ej =
+    F .α-distinct i j hi hj
+    (F .product-cancel (unitFor a) (power 7 α i) (power 7 α j) (unit-nonzero a) (unit-lt a) (F .power-lt α i) (F .power-lt α j)
+    (F .product-comm _ _ ∙ ei ∙ sym (F .product-comm _ _ ∙ ej)))
+  where
+    F : IsField 7
+    F = fieldAt seven
 
 -- ---- for symbols at a width of the field
 

@@ -1,25 +1,23 @@
--- Horner's rule for weighted sums, and one step of the pass that computes them. Assumes nothing.
+-- Horner's rule for weighted sums, and one step of the pass that computes them. Bytes count by the symbols that they stand for.
+-- Assumes nothing.
 use mathlib.Core.Path.{_≡_, refl, sym, ap, ap₂, _∙_, subst}
 use mathlib.Core.Bool.{true}
 use mathlib.Core.List.{List, [], _∷_}
-use Prim.Native.Nat.{ℕ, zero, suc, _+_, _-_, _*_, _≤_, _<_}
-use native.Mathlib.Nat.{mul-zero, mul-suc}
+use Prim.Native.Nat.{ℕ, zero, suc, _-_, _*_, _%_, _≤_, _<_}
+use native.Mathlib.Nat.{mul-zero, mul-suc, add-comm, mod-eq-of-lt}
 use native.Mathlib.Omega.{arith}
-use lib.ListN.{length, getD, drop, length-drop}
-use lib.Seq.{drop-cons, drop-length, getD-drop}
+use lib.ListN.{length, getD, drop}
+use lib.Seq.{drop-cons, drop-length}
 use Rattle.field.specs.Polynomial.{add}
 use Rattle.field.specs.Field.{order, product, power, α}
 use Rattle.field.specs.Question.{isWidth, allBelow}
+use Rattle.field.specs.Bytes.{widthFor, symbolFor}
+use Rattle.field.specs.Sum.{at, sum, five, weighted, sumsFor}
 use Rattle.field.proofs.Laws.{IsField}
 use Rattle.field.proofs.Widths.{field-of}
-use Rattle.field.specs.Sum.{at, sum, five, weighted}
-use Rattle.field.proofs.Below.{below-head, below-tail, allBelow-means}
+use Rattle.field.proofs.Bytes.{width-own, width-for, symbol-lt}
+use Rattle.field.proofs.Below.{allBelow-means}
 use Rattle.field.proofs.Sums.{sum-cong, sum-first, sum-scale}
-
--- the sum k over the symbols, by Horner's rule
-unfoldable pub evaluate : ℕ → List ℕ → ℕ → ℕ
-evaluate m [] k = 0
-evaluate m (c ∷ cs) k = add (product m (power m α k) (evaluate m cs k)) c
 
 -- a number for each syndrome, at one of them
 pub five-at : (f : ℕ → ℕ) (k : ℕ) → k < 5 → at (five f) k ≡ f k
@@ -37,68 +35,89 @@ pub five-cong : (f g : ℕ → ℕ) → ((k : ℕ) → k < 5 → f k ≡ g k) �
 five-cong f g e =
     five-of g (f 0) (f 1) (f 2) (f 3) (f 4) (e 0 (omega arith)) (e 1 (omega arith)) (e 2 (omega arith)) (e 3 (omega arith)) (e 4 (omega arith))
 
-module _ {m : ℕ} (F : IsField m) where
-  weighted-cons : (k c : ℕ) (cs : List ℕ) → c < order m
-      → weighted m (suc (length cs)) (at (c ∷ cs)) k ≡ add (product m (power m α k) (weighted m (length cs) (at cs) k)) c
-  weighted-cons k c cs h =
-      sum-first F (length cs) (λ i. product m (power m α (k * i)) (at (c ∷ cs) i))
-      ∙ ap₂ add
-      (sum-cong (length cs) (λ i. product m (power m α (k * suc i)) (at cs i))
-      (λ i. product m (power m α k) (product m (power m α (k * i)) (at cs i))) (λ i l. shift i (at cs i))
-      ∙ sum-scale F (power m α k) (length cs) (λ i. product m (power m α (k * i)) (at cs i)))
-      (ap (λ (e : ℕ). product m (power m α e) c) (mul-zero k) ∙ ap (λ (x : ℕ). product m x c) (F .power-zero α) ∙ F .one-product c h)
-    where
-      shift : (i x : ℕ) → product m (power m α (k * suc i)) x ≡ product m (power m α k) (product m (power m α (k * i)) x)
-      shift i x =
-          ap (λ (e : ℕ). product m (power m α e) x) (mul-suc k i ∙ sym-add (k * i) k) ∙ ap (λ (y : ℕ). product m y x) (F .power-add α k (k * i))
-          ∙ F .product-assoc (power m α k) (power m α (k * i)) x
-        where
-          sym-add : (a b : ℕ) → a + b ≡ b + a
-          sym-add a b = omega arith
+-- a weighted sum with its first symbol apart
+weighted-first : {m : ℕ} (F : IsField m) (n k : ℕ) (f : ℕ → ℕ) → f 0 < order m
+    → weighted m (suc n) f k ≡ add (product m (power m α k) (weighted m n (λ i. f (suc i)) k)) (f 0)
+weighted-first {m} F n k f h =
+    sum-first F n (λ i. product m (power m α (k * i)) (f i))
+    ∙ ap₂ add
+    (sum-cong n _ (λ i. product m (power m α k) (product m (power m α (k * i)) (f (suc i)))) (λ i l. shift i (f (suc i)))
+    ∙ sum-scale F (power m α k) n (λ i. product m (power m α (k * i)) (f (suc i))))
+    (ap (λ (e : ℕ). product m (power m α e) (f 0)) (mul-zero k) ∙ ap (λ (x : ℕ). product m x (f 0)) (F .power-zero α) ∙ F .one-product (f 0) h)
+  where
+    shift : (i x : ℕ) → product m (power m α (k * suc i)) x ≡ product m (power m α k) (product m (power m α (k * i)) x)
+    shift i x =
+        ap (λ (e : ℕ). product m (power m α e) x) (mul-suc k i ∙ add-comm (k * i) k) ∙ ap (λ (y : ℕ). product m y x) (F .power-add α k (k * i))
+        ∙ F .product-assoc (power m α k) (power m α (k * i)) x
 
-  evaluate-weighted : (cs : List ℕ) (k : ℕ) → allBelow (order m) cs ≡ true → evaluate m cs k ≡ weighted m (length cs) (at cs) k
+-- ---- the pass, at the width n that the byte m stands for
+
+module _ (m : ℕ) where
+  abbrev n : ℕ
+  n = widthFor m
+
+  F : IsField n
+  F = field-of n (width-for m)
+
+  -- the sum k over the symbols, by Horner's rule
+  unfoldable pub evaluate : List ℕ → ℕ → ℕ
+  evaluate [] k = 0
+  evaluate (c ∷ cs) k = add (product n (power n α k) (evaluate cs k)) (symbolFor m c)
+
+  evaluate-weighted : (cs : List ℕ) (k : ℕ) → evaluate cs k ≡ weighted n (length cs) (λ i. symbolFor m (at cs i)) k
   unfolding evaluate sum
-  evaluate-weighted [] k b = refl
-  evaluate-weighted (c ∷ cs) k b =
-      ap (λ (x : ℕ). add (product m (power m α k) x) c) (evaluate-weighted cs k (below-tail c cs (order m) b))
-      ∙ sym (weighted-cons k c cs (below-head c cs (order m) b))
+  evaluate-weighted [] k = refl
+  evaluate-weighted (c ∷ cs) k =
+      ap (λ (x : ℕ). add (product n (power n α k) x) (symbolFor m c)) (evaluate-weighted cs k)
+      ∙ sym (weighted-first F (length cs) k (λ i. symbolFor m (at (c ∷ cs) i)) (symbol-lt m c))
 
-  evaluate-lt : (cs : List ℕ) (k : ℕ) → ((i : ℕ) → i < length cs → at cs i < order m) → evaluate m cs k < order m
+  evaluate-lt : (cs : List ℕ) (k : ℕ) → evaluate cs k < order n
   unfolding evaluate
-  evaluate-lt [] k b = omega (arith, F .one-lt)
-  evaluate-lt (c ∷ cs) k b = F .add-lt _ _ (F .product-lt _ _) (b 0 (omega arith))
+  evaluate-lt [] k = omega (arith, F .one-lt)
+  evaluate-lt (c ∷ cs) k = F .add-lt _ _ (F .product-lt _ _) (symbol-lt m c)
 
--- the power 0 of α changes nothing
-pub first-shift : (m a : ℕ) → isWidth m ≡ true → a < order m → a ≡ product m (power m α 0) a
-first-shift m a w h =
-    let F = field-of m w in
-    sym (ap (λ (x : ℕ). product m x a) (F .power-zero α) ∙ F .one-product a h)
+  -- the power 0 of α changes nothing
+  pub first-shift : (a : ℕ) → a < order n → a ≡ product n (power n α 0) a
+  first-shift a h = sym (ap (λ (x : ℕ). product n x a) (F .power-zero α) ∙ F .one-product a h)
 
--- the pass: s holds the sums over the symbols from i on
-module _ (m : ℕ) (w : isWidth m ≡ true) (cs : List ℕ) (b : allBelow (order m) cs ≡ true) where
-  pub pass-start : five (λ k. 0) ≡ five (evaluate m (drop (length cs) cs))
-  unfolding evaluate
-  pass-start = ap (λ (xs : List ℕ). five (evaluate m xs)) (sym (drop-length cs))
+  -- s holds the sums over the symbols from i on
+  module _ (cs : List ℕ) where
+    pub pass-start : five (λ k. 0) ≡ five (evaluate (drop (length cs) cs))
+    unfolding evaluate
+    pass-start = ap (λ (xs : List ℕ). five (evaluate xs)) (sym (drop-length cs))
 
-  pub pass-small : (s : List ℕ) (i k : ℕ) → s ≡ five (evaluate m (drop i cs)) → i ≤ length cs → k < 5 → at s k < order m
-  pass-small s i k e h l =
-      subst (λ (x : ℕ). x < order m) (sym (ap (λ (t : List ℕ). at t k) e ∙ five-at (evaluate m (drop i cs)) k l))
-      (evaluate-lt (field-of m w) (drop i cs) k
-      (λ j n. subst (λ (x : ℕ). x < order m) (sym (getD-drop i cs j 0)) (allBelow-means (order m) cs b (i + j) (omega (arith, length-drop i cs, n)))))
+    pub pass-small : (s : List ℕ) (i k : ℕ) → s ≡ five (evaluate (drop i cs)) → k < 5 → at s k < order n
+    pass-small s i k e l =
+        subst (λ (x : ℕ). x < order n) (sym (ap (λ (t : List ℕ). at t k) e ∙ five-at (evaluate (drop i cs)) k l)) (evaluate-lt (drop i cs) k)
 
-  pub pass-on : (s t : List ℕ) (i : ℕ) → s ≡ five (evaluate m (drop i cs)) → 0 < i → i ≤ length cs
-      → t ≡ five (λ k. add (product m (power m α k) (at s k)) (getD cs (i - 1) 0)) → t ≡ five (evaluate m (drop (i - 1) cs))
-  unfolding evaluate
-  pass-on s t i e p h f =
-      f
-      ∙ five-cong _ _ (λ k l. ap (λ (x : ℕ). add (product m (power m α k) x) (getD cs (i - 1) 0))
-      (ap (λ (u : List ℕ). at u k) e ∙ five-at (evaluate m (drop i cs)) k l))
-      ∙ ap (λ (j : ℕ). five (λ k. add (product m (power m α k) (evaluate m (drop j cs) k)) (getD cs (i - 1) 0))) back
-      ∙ ap (λ (xs : List ℕ). five (evaluate m xs)) (sym (drop-cons cs (i - 1) 0 (omega arith)))
-    where
-      back : i ≡ suc (i - 1)
-      back = omega arith
+    pub pass-on : (s t : List ℕ) (i : ℕ) → s ≡ five (evaluate (drop i cs)) → 0 < i → i ≤ length cs
+        → t ≡ five (λ k. add (product n (power n α k) (at s k)) (symbolFor m (getD cs (i - 1) 0))) → t ≡ five (evaluate (drop (i - 1) cs))
+    unfolding evaluate
+    pass-on s t i e p h f =
+        f
+        ∙ five-cong _ _ (λ k l. ap (λ (x : ℕ). add (product n (power n α k) x) (symbolFor m (getD cs (i - 1) 0)))
+        (ap (λ (u : List ℕ). at u k) e ∙ five-at (evaluate (drop i cs)) k l))
+        ∙ ap (λ (j : ℕ). five (λ k. add (product n (power n α k) (evaluate (drop j cs) k)) (symbolFor m (getD cs (i - 1) 0)))) back
+        ∙ ap (λ (xs : List ℕ). five (evaluate xs)) (sym (drop-cons cs (i - 1) 0 (omega arith)))
+      where
+        back : i ≡ suc (i - 1)
+        back = omega arith
 
-  pub pass-end : (s : List ℕ) (i : ℕ) → s ≡ five (evaluate m (drop i cs)) → i ≡ 0 → s ≡ five (weighted m (length cs) (at cs))
-  pass-end s i e z =
-      e ∙ ap (λ (j : ℕ). five (evaluate m (drop j cs))) z ∙ five-cong _ _ (λ k l. evaluate-weighted (field-of m w) cs k b)
+    pub pass-end : (s : List ℕ) (i : ℕ) → s ≡ five (evaluate (drop i cs)) → i ≡ 0 → s ≡ sumsFor m cs
+    unfolding sumsFor
+    pass-end s i e z = e ∙ ap (λ (j : ℕ). five (evaluate (drop j cs))) z ∙ five-cong _ _ (λ k l. evaluate-weighted cs k)
+
+-- ---- the five sums
+
+-- of 127 bytes at width 7
+pub sums-seven : (m : ℕ) (xs : List ℕ) → m ≡ 7 → length xs ≡ 127 → five (weighted 7 127 (λ i. at xs i % 128)) ≡ sumsFor m xs
+unfolding sumsFor widthFor symbolFor
+sums-seven m xs e size =
+    ap (λ (n : ℕ). five (weighted 7 n (λ i. at xs i % 128))) (sym size) ∙ ap (λ (k : ℕ). sumsFor k xs) (sym e)
+
+-- of symbols at a width of the field
+pub sums-own : (m : ℕ) (xs : List ℕ) → isWidth m ≡ true → allBelow (order m) xs ≡ true → sumsFor m xs ≡ five (weighted m (length xs) (at xs))
+unfolding sumsFor symbolFor
+sums-own m xs w b =
+    ap (λ (n : ℕ). five (weighted n (length xs) (λ i. at xs i % order n))) (width-own m w)
+    ∙ five-cong _ _ (λ k l. sum-cong (length xs) _ _ (λ i h. ap (product m (power m α (k * i))) (mod-eq-of-lt (allBelow-means (order m) xs b i h))))

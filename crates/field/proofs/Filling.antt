@@ -1,8 +1,8 @@
 -- Arrays of numbers that a loop fills: place by place, and two places at a time. Assumes nothing.
-use mathlib.Core.Path.{_≡_, sym, ap, _∙_}
+use mathlib.Core.Path.{_≡_, sym, ap, _∙_, subst}
 use mathlib.Core.List.{List}
 use Prim.Native.Nat.{ℕ, _+_, _*_, _/_, _%_, _<_}
-use native.Mathlib.Decide.{ℕ-discrete}
+use native.Mathlib.Decide.{ℕ-discrete, decLt}
 use native.Mathlib.Omega.{arith}
 use lib.ListN.{length, set, length-set}
 use lib.Seq.{getD-set-same, getD-set-other}
@@ -10,13 +10,14 @@ use Rattle.field.specs.Sum.{at}
 use Rattle.field.specs.Lanes.{lanes, Block}
 use Rattle.field.proofs.Below.{past-end}
 
-pub set-more : (g : ℕ → ℕ) (i x : ℕ) (ws : List ℕ) → i < length ws → x ≡ g i → ((m : ℕ) → m < i → at ws m ≡ g m)
-    → (m : ℕ) → m < i + 1 → at (set ws i x) m ≡ g m
-set-more g i x ws l e h m b = go (ℕ-discrete m i)
+-- what holds of the first i numbers holds of one more that is put in
+pub set-more : (P : ℕ → ℕ → Type 0) (i x : ℕ) (ws : List ℕ) → i < length ws → P i x → ((m : ℕ) → m < i → P m (at ws m))
+    → (m : ℕ) → m < i + 1 → P m (at (set ws i x) m)
+set-more P i x ws l e h m b = go (ℕ-discrete m i)
   where
-    go : Dec (m ≡ i) → at (set ws i x) m ≡ g m
-    go (yes q) = ap (at (set ws i x)) q ∙ getD-set-same ws i x 0 l ∙ e ∙ ap g (sym q)
-    go (no q) = getD-set-other ws i m x 0 q ∙ h m (omega (arith, q))
+    go : Dec (m ≡ i) → P m (at (set ws i x) m)
+    go (yes q) = subst (λ (k : ℕ). P k (at (set ws i x) k)) (sym q) (subst (P i) (sym (getD-set-same ws i x 0 l)) e)
+    go (no q) = subst (P m) (sym (getD-set-other ws i m x 0 q)) (h m (omega (arith, q)))
 
 -- the first i numbers of ws are cut at p
 abbrev pub Cut : ℕ → List ℕ → ℕ → List ℕ → Type 0
@@ -49,16 +50,29 @@ cut-more p i ws us l size h m b = go (ℕ-discrete m i)
     )
 
 -- the last number has seven symbols, and a 0
-pub last-number : (cs : List ℕ) (r : ℕ) → length cs ≡ 127 → Block 8 cs 119 r → r / 256 ≡ lanes 8 (λ j. at cs (8 * 15 + j))
+pub last-number : (cs : List ℕ) (r : ℕ) → length cs ≡ 127 → Block 8 cs 119 r → Block 8 cs (8 * 15) (r / 256)
 unfolding lanes
 last-number cs r size k =
-    let z : at cs 127 ≡ 0 = past-end cs 127 (omega (arith, size)) in
-    omega (arith, k .held, k .bytes 0 (omega arith), z)
+    record {
+      held = omega (arith, k .held, k .bytes 0 (omega arith), none);
+      bytes = λ j h. go j h (decLt j 7);
+    }
+  where
+    none : at cs 127 ≡ 0
+    none = past-end cs 127 (omega (arith, size))
+
+    go : (j : ℕ) → j < 8 → Dec (j < 7) → at cs (120 + j) < 256
+    go j h (yes l) =
+        let e : 119 + (j + 1) ≡ 120 + j = omega arith in
+        rw e at (k .bytes (j + 1) (omega arith))
+    go j h (no l) =
+        let e : 127 ≡ 120 + j = omega arith in
+        subst (λ (p : ℕ). at cs p < 256) e (omega (arith, none))
 
 -- sixteen, of which the last comes first
-pub all-sixteen : (g : ℕ → ℕ) (ws : List ℕ) → ((m : ℕ) → m < 15 → at ws m ≡ g m) → at ws 15 ≡ g 15 → (m : ℕ) → m < 16 → at ws m ≡ g m
-all-sixteen g ws h e m b = go (ℕ-discrete m 15)
+pub all-sixteen : (P : ℕ → ℕ → Type 0) (ws : List ℕ) → ((m : ℕ) → m < 15 → P m (at ws m)) → P 15 (at ws 15) → (m : ℕ) → m < 16 → P m (at ws m)
+all-sixteen P ws h e m b = go (ℕ-discrete m 15)
   where
-    go : Dec (m ≡ 15) → at ws m ≡ g m
-    go (yes q) = ap (at ws) q ∙ e ∙ ap g (sym q)
+    go : Dec (m ≡ 15) → P m (at ws m)
+    go (yes q) = subst (λ (k : ℕ). P k (at ws k)) (sym q) e
     go (no q) = h m (omega (arith, q))

@@ -83,22 +83,22 @@ halve-weighted n e f =
     exponent : (j : ℕ) → e * (n + j) ≡ e * j + e * n
     exponent j = omega arith
 
-module _ (n k : ℕ) (f : ℕ → ℕ) (size : 256 ^ n ≡ 2 ^ k) (b : Below 128 (n + n) f) where
+module _ (n k : ℕ) (f : ℕ → ℕ) (size : 256 ^ n ≡ 2 ^ k) (b : Below 256 (n + n) f) where
   pub lower : lanes (n + n) f % 2 ^ k ≡ lanes n f
   lower =
       ap (λ (x : ℕ). x % 2 ^ k) (lanes-split n n f ∙ ap (λ (p : ℕ). lanes n (λ j. f (n + j)) * p + lanes n f) size)
-      ∙ low (lanes n (λ j. f (n + j))) k (subst (λ (p : ℕ). lanes n f < p) size (lanes-lt n f (λ j h. omega (arith, b j (omega arith)))))
+      ∙ low (lanes n (λ j. f (n + j))) k (subst (λ (p : ℕ). lanes n f < p) size (lanes-lt n f (λ j h. b j (omega arith))))
 
   pub upper : lanes (n + n) f / 2 ^ k ≡ lanes n (λ j. f (n + j))
   upper =
       ap (λ (x : ℕ). x / 2 ^ k) (lanes-split n n f ∙ ap (λ (p : ℕ). lanes n (λ j. f (n + j)) * p + lanes n f) size)
-      ∙ high (lanes n (λ j. f (n + j))) k (subst (λ (p : ℕ). lanes n f < p) size (lanes-lt n f (λ j h. omega (arith, b j (omega arith)))))
+      ∙ high (lanes n (λ j. f (n + j))) k (subst (λ (p : ℕ). lanes n f < p) size (lanes-lt n f (λ j h. b j (omega arith))))
 
-  halved : (e a u : ℕ) → n ≤ 8 → a ≡ lanes (n + n) f → Times e (a / 2 ^ k) u → add (a % 2 ^ k) u ≡ lanes n (halve n e f)
-  halved e a u h q t =
+  halved : (e a u : ℕ) → n ≤ 8 → Below 128 (n + n) f → a ≡ lanes (n + n) f → Times e (a / 2 ^ k) u → add (a % 2 ^ k) u ≡ lanes n (halve n e f)
+  halved e a u h s q t =
       ap₂ add (ap (λ (x : ℕ). x % 2 ^ k) q ∙ lower)
-      (t n (λ j. f (n + j)) h (λ j l. b (n + j) (omega arith)) (ap (λ (x : ℕ). x / 2 ^ k) q ∙ upper))
-      ∙ lanes-add n f _ (λ j h. omega (arith, b j (omega arith))) (λ j h. product-byte _ _)
+      (t n (λ j. f (n + j)) h (λ j l. s (n + j) (omega arith)) (ap (λ (x : ℕ). x / 2 ^ k) q ∙ upper))
+      ∙ lanes-add n f _ (λ j h. b j (omega arith)) (λ j h. product-byte _ _)
 
 -- ---- three halvings leave the sum over the lanes
 lanes-one : (f : ℕ → ℕ) → lanes 1 f ≡ f 0
@@ -112,7 +112,7 @@ pub folded : (e a u v w : ℕ) (f : ℕ → ℕ)
     → Below 128 8 f → a ≡ lanes 8 f
     → add (add (add (a % 4294967296) u % 65536) v % 256) w ≡ weighted 7 8 f e
 folded e a u v w f x y z b q =
-    halved 1 8 f2 refl b2 (e * 1) _ w (omega arith) q2 z
+    halved 1 8 f2 refl (bytes 2 f2 b2) (e * 1) _ w (omega arith) b2 q2 z
     ∙ lanes-one (halve 1 (e * 1) f2)
     ∙ sym (weighted-one e (halve 1 (e * 1) f2) (halve-below 1 (e * 1) f2 b2 0 (omega arith)))
     ∙ sym (halve-weighted 4 e f ∙ halve-weighted 2 e f1 ∙ halve-weighted 1 e f2)
@@ -130,7 +130,7 @@ folded e a u v w f x y z b q =
     b2 = halve-below 2 (e * 2) f1 b1
 
     q1 : add (a % 4294967296) u ≡ lanes 4 f1
-    q1 = halved 4 32 f refl b (e * 4) a u (omega arith) q x
+    q1 = halved 4 32 f refl (bytes 8 f b) (e * 4) a u (omega arith) b q x
 
     q2 : add (add (a % 4294967296) u % 65536) v ≡ lanes 2 f2
-    q2 = halved 2 16 f1 refl b1 (e * 2) _ v (omega arith) q1 y
+    q2 = halved 2 16 f1 refl (bytes 4 f1 b1) (e * 2) _ v (omega arith) b1 q1 y

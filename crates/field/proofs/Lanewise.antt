@@ -5,7 +5,7 @@ use mathlib.Core.Bool.{Bool, _&&_}
 use Prim.Native.Nat.{ℕ, _-_, _*_, _/_, _%_, _^_, _≤_, _<_}
 use native.Mathlib.Nat.{mod-eq-of-lt, lt-of-lt-of-le, pow-le-pow-right}
 use native.Mathlib.Omega.{arith}
-use lib.Bits.{bitAnd}
+use lib.Bits.{bitAnd, and-mask}
 use lib.Pow.{pow-pos, shr-le}
 use lib.Dec.{T, eqb, ltb, eqb→eq, ltb→lt}
 use Rattle.field.specs.Polynomial.{add}
@@ -73,6 +73,11 @@ ones = 72340172838076673
 pub mask : (m : ℕ) → ones * m ≡ lanes 8 (λ j. m)
 unfolding lanes
 mask m = omega arith
+
+-- the symbols that bytes stand for
+pub lanes-cut : (n : ℕ) (f : ℕ → ℕ) → n ≤ 8 → Below 256 n f → bitAnd (lanes n f) (ones * 127) ≡ lanes n (λ j. f j % 128)
+lanes-cut n f h b =
+    ap (bitAnd (lanes n f)) (mask 127) ∙ lanes-and n 8 127 f h (omega arith) b ∙ lanes-cong n _ _ (λ j l. and-mask (f j) 7)
 
 -- what the code makes of a number
 abbrev pub top : ℕ → ℕ → ℕ

@@ -10,6 +10,7 @@ pub mod Sums  -- laws of field sums
 pub mod Evaluation  -- Horner's rule, and one step of the pass
 pub mod Packing  -- operations act on each lane apart
 pub mod Lanewise  -- masks and shifts multiply every lane by a power of α
+pub mod Scaling  -- lanes times a symbol
 -- the way to them, and the lemmas of the functions' proofs
 mod Polynomial  -- sum and product with no carry, for all numbers
 mod Ring  -- sum and product modulo a polynomial; `remainder` gives the remainder
@@ -24,4 +25,3 @@ mod Segments  -- the sum over eight segments of sixteen symbols
 mod Relations
 mod Filling
 mod Values
-mod Scaling  -- lanes times a symbol

@@ -2,11 +2,12 @@
 use mathlib.Core.Path.{_≡_, refl, sym, ap, ap₂, _∙_}
 use mathlib.Core.List.{List, [], _∷_}
 use Prim.Native.Nat.{ℕ, zero, suc, _+_, _*_, _/_, _%_, _^_, _≤_, _<_}
-use native.Mathlib.Nat.{not-suc-le-zero, le-of-suc-le-suc, mul-div-cancel, pow-suc}
+use native.Mathlib.Nat.{not-suc-le-zero, le-of-suc-le-suc, mul-comm, mul-div-cancel, div-div-eq-div-mul, pow-suc}
 use native.Mathlib.Omega.{arith}
-use lib.Bits.{bitAnd, bitXor, and-block, xor-block}
+use lib.Bits.{bitAnd, bitXor, and-block, xor-block, xor-shr, xor-mod}
+use lib.Pow.{pow-add}
 use Rattle.field.specs.Polynomial.{add}
-use Rattle.field.specs.Lanes.{lanes, Below, six}
+use Rattle.field.specs.Lanes.{lanes, lane, Below, six}
 
 abbrev tail : (ℕ → ℕ) → ℕ → ℕ
 tail f j = f (suc j)
@@ -98,22 +99,38 @@ lanes-same (suc n) f g b d e (suc j) h =
 
 -- ---- lanes, taken apart
 
-pub digits-of : (f : ℕ → ℕ) (a : ℕ) → Below 256 6 f → a ≡ lanes 6 f
-    → (a % 256 ≡ f 0) × (a / 256 % 256 ≡ f 1) × (a / 65536 % 256 ≡ f 2) × (a / 16777216 % 256 ≡ f 3) × (a / 4294967296 % 256 ≡ f 4)
-    × (a / 1099511627776 % 256 ≡ f 5)
+pub lane-lanes : (n : ℕ) (f : ℕ → ℕ) (j : ℕ) → j < n → Below 256 n f → lane (lanes n f) j ≡ f j
 unfolding lanes
-digits-of f a b e =
-    let b0 = b 0 (omega arith) in
-    let b1 = b 1 (omega arith) in
-    let b2 = b 2 (omega arith) in
-    let b3 = b 3 (omega arith) in
-    let b4 = b 4 (omega arith) in
-    let b5 = b 5 (omega arith) in
-    (omega arith, omega arith, omega arith, omega arith, omega arith, omega arith)
+lane-lanes zero f j h b = absurd (not-suc-le-zero h)
+lane-lanes (suc n) f zero h b = omega (arith, b 0 h)
+lane-lanes (suc n) f (suc j) h b =
+    ap (λ (p : ℕ). (lanes n (tail f) * 256 + f 0) / p % 256) (pow-suc 256 j ∙ mul-comm (256 ^ j) 256)
+    ∙ ap (λ (x : ℕ). x % 256) (sym (div-div-eq-div-mul (lanes n (tail f) * 256 + f 0) 256 (256 ^ j)))
+    ∙ ap (λ (x : ℕ). x / 256 ^ j % 256) upper
+    ∙ lane-lanes n (tail f) j (le-of-suc-le-suc h) (below-tail 256 n f b)
+  where
+    upper : (lanes n (tail f) * 256 + f 0) / 256 ≡ lanes n (tail f)
+    upper = omega (arith, b 0 (omega arith))
+
+pub lane-add : (a b j : ℕ) → lane (add a b) j ≡ add (lane a j) (lane b j)
+unfolding add
+lane-add a b j =
+    ap (λ (p : ℕ). bitXor a b / p % 256) (digits j) ∙ ap (λ (x : ℕ). x % 256) (xor-shr a b (8 * j)) ∙ xor-mod (a / 2 ^ (8 * j)) (b / 2 ^ (8 * j)) 8
+    ∙ ap (λ (p : ℕ). bitXor (a / p % 256) (b / p % 256)) (sym (digits j))
+  where
+    digits : (j : ℕ) → 256 ^ j ≡ 2 ^ (8 * j)
+    digits zero = refl
+    digits (suc j) =
+        let e : 8 * j + 8 ≡ 8 * suc j = omega arith in
+        pow-suc 256 j ∙ ap (λ (x : ℕ). x * 256) (digits j) ∙ sym (pow-add 2 (8 * j) 8) ∙ ap (λ (x : ℕ). 2 ^ x) e
 
 pub six-of : (f : ℕ → ℕ) {a b c d e g : ℕ} → a ≡ f 0 → b ≡ f 1 → c ≡ f 2 → d ≡ f 3 → e ≡ f 4 → g ≡ f 5
     → _≡_ {A = List ℕ} (a ∷ b ∷ c ∷ d ∷ e ∷ g ∷ []) (six f)
 six-of f ea eb ec ed ee eg = simp (ea, eb, ec, ed, ee, eg)
+
+pub six-cong : (f g : ℕ → ℕ) → ((j : ℕ) → j < 6 → f j ≡ g j) → six f ≡ six g
+six-cong f g e =
+    six-of g (e 0 (omega arith)) (e 1 (omega arith)) (e 2 (omega arith)) (e 3 (omega arith)) (e 4 (omega arith)) (e 5 (omega arith))
 
 pub below-six : (f : ℕ → ℕ) → f 0 < 256 → f 1 < 256 → f 2 < 256 → f 3 < 256 → f 4 < 256 → f 5 < 256 → Below 256 6 f
 below-six f a b c d e g zero h = a

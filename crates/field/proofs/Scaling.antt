@@ -1,7 +1,8 @@
 -- Lanes times a symbol: the sum of their products with the powers of α that the symbol's digits name. Assumes nothing.
-use mathlib.Core.Path.{_≡_, sym, ap, ap₂, _∙_, subst}
+use mathlib.Core.Path.{_≡_, refl, sym, ap, ap₂, _∙_, subst}
 use mathlib.Core.List.{List, [], _∷_}
 use Prim.Native.Nat.{ℕ, zero, suc, _*_, _/_, _%_, _^_, _≤_, _<_}
+use native.Mathlib.Nat.{mod-eq-of-lt}
 use native.Mathlib.Omega.{arith}
 use lib.Dec.{T, eqb, eqb→eq}
 use Rattle.field.specs.Polynomial.{add}
@@ -9,9 +10,9 @@ use Rattle.field.specs.Field.{product, power, α, arithmetic}
 use Rattle.field.proofs.Widths.{doubles, doubles-power}
 use Rattle.field.proofs.Check.{all, all-at}
 use Rattle.field.specs.Sum.{at, sum}
-use Rattle.field.specs.Lanes.{lanes, Below, Times, Multiples}
+use Rattle.field.specs.Lanes.{lanes, lane, Below, Times, six, Multiples, named}
 use Rattle.field.proofs.Sums.{sum-cong, sum-times, sum-lt}
-use Rattle.field.proofs.Packing.{lanes-cong, lanes-times, lanes-add}
+use Rattle.field.proofs.Packing.{lanes-cong, lanes-times, lanes-add, lane-lanes, six-cong}
 use Rattle.field.proofs.Lanewise.{F}
 use Rattle.field.proofs.Folding.{times-none, times-then}
 
@@ -71,42 +72,42 @@ module _ (k : ℕ) (f : ℕ → ℕ) where
       byte : (x : ℕ) → x < 128 → x < 256
       byte x h = omega arith
 
-  first : (w y : ℕ) → y ≡ lanes 6 (λ j. product 7 (power 7 α 0) (f j)) → w ≡ y * digit k 0 → w ≡ lanes 6 (λ j. part k 1 (f j))
-  unfolding sum
-  first w y ey ew =
-      ew ∙ ap (λ (x : ℕ). x * digit k 0) ey ∙ sym (lanes-times 6 (digit k 0) (λ j. product 7 (power 7 α 0) (f j)))
-      ∙ lanes-cong 6 _ _ (λ j h. sym (F .zero-add _))
+  module _ (ms : List ℕ) (M : Multiples f ms) where
+    partial : (i : ℕ) → i ≤ 7 → sum i (λ t. at ms t * digit k t) ≡ lanes 6 (λ j. part k i (f j))
+    unfolding sum lanes
+    partial zero h = refl
+    partial (suc i) h = one-more i _ _ _ (partial i (omega arith)) (M i (omega arith)) refl
 
-  -- what the code adds up, from the multiples
-  pub scaling : (ms : List ℕ) (w0 w1 w2 w3 w4 w5 w6 : ℕ) → k < 128 → Multiples f ms
-      → w0 ≡ at ms 0 * (k % 2) → w1 ≡ at ms 1 * digit k 1 → w2 ≡ at ms 2 * digit k 2 → w3 ≡ at ms 3 * digit k 3 → w4 ≡ at ms 4 * digit k 4
-      → w5 ≡ at ms 5 * digit k 5 → w6 ≡ at ms 6 * digit k 6
-      → add (add (add (add (add (add w0 w1) w2) w3) w4) w5) w6 ≡ lanes 6 (λ j. product 7 k (f j))
-  scaling ms w0 w1 w2 w3 w4 w5 w6 l M e0 e1 e2 e3 e4 e5 e6 = s7 ∙ lanes-cong 6 _ _ (λ j i. whole k (f j) l)
-    where
-      low : k % 2 ≡ digit k 0
-      low = omega arith
+    -- those of the multiples that the digits of k name are k times the row
+    pub multiple-named : k < 128 → named k ms ≡ lanes 6 (λ j. product 7 k (f j))
+    multiple-named l = partial 7 (omega arith) ∙ lanes-cong 6 _ _ (λ j i. whole k (f j) l)
 
-      s1 : w0 ≡ lanes 6 (λ j. part k 1 (f j))
-      s1 = first w0 (at ms 0) (M 0 (omega arith)) (e0 ∙ ap (λ (x : ℕ). at ms 0 * x) low)
+    pub multiple-row : (row : List ℕ) → k < 128 → six (λ j. add (at row j) (lane (named k ms) j)) ≡ six (λ j. add (at row j) (product 7 k (f j)))
+    multiple-row row l =
+        six-cong _ _ (λ j h. ap (add (at row j)) (ap (λ (a : ℕ). lane a j) (multiple-named l)
+        ∙ lane-lanes 6 (λ j. product 7 k (f j)) j h (λ j i. byte _ (F .product-lt _ _))))
+      where
+        byte : (x : ℕ) → x < 128 → x < 256
+        byte x h = omega arith
 
-      s2 : add w0 w1 ≡ lanes 6 (λ j. part k 2 (f j))
-      s2 = one-more 1 w0 w1 _ s1 (M 1 (omega arith)) e1
+-- what the code adds up, one number for each digit of k
+pub named-of : (k : ℕ) (ms : List ℕ) (w0 w1 w2 w3 w4 w5 w6 : ℕ)
+    → w0 ≡ at ms 0 * (k % 2) → w1 ≡ at ms 1 * digit k 1 → w2 ≡ at ms 2 * digit k 2 → w3 ≡ at ms 3 * digit k 3 → w4 ≡ at ms 4 * digit k 4
+    → w5 ≡ at ms 5 * digit k 5 → w6 ≡ at ms 6 * digit k 6
+    → add (add (add (add (add (add w0 w1) w2) w3) w4) w5) w6 ≡ named k ms
+unfolding sum
+named-of k ms w0 w1 w2 w3 w4 w5 w6 e0 e1 e2 e3 e4 e5 e6 =
+    ap₂ add (ap₂ add (ap₂ add (ap₂ add (ap₂ add (ap₂ add first e1) e2) e3) e4) e5) e6
+  where
+    low : k % 2 ≡ digit k 0
+    low = omega arith
 
-      s3 : add (add w0 w1) w2 ≡ lanes 6 (λ j. part k 3 (f j))
-      s3 = one-more 2 _ w2 _ s2 (M 2 (omega arith)) e2
+    first : w0 ≡ add 0 (at ms 0 * digit k 0)
+    first = e0 ∙ ap (λ (x : ℕ). at ms 0 * x) low ∙ sym (F .zero-add _)
 
-      s4 : add (add (add w0 w1) w2) w3 ≡ lanes 6 (λ j. part k 4 (f j))
-      s4 = one-more 3 _ w3 _ s3 (M 3 (omega arith)) e3
-
-      s5 : add (add (add (add w0 w1) w2) w3) w4 ≡ lanes 6 (λ j. part k 5 (f j))
-      s5 = one-more 4 _ w4 _ s4 (M 4 (omega arith)) e4
-
-      s6 : add (add (add (add (add w0 w1) w2) w3) w4) w5 ≡ lanes 6 (λ j. part k 6 (f j))
-      s6 = one-more 5 _ w5 _ s5 (M 5 (omega arith)) e5
-
-      s7 : add (add (add (add (add (add w0 w1) w2) w3) w4) w5) w6 ≡ lanes 6 (λ j. part k 7 (f j))
-      s7 = one-more 6 _ w6 _ s6 (M 6 (omega arith)) e6
+-- the multiples of a row of symbols are those of the symbols that its bytes stand for
+pub multiples-own : (row ms : List ℕ) → Below 128 6 (at row) → Multiples (λ j. at row j % 128) ms → Multiples (at row) ms
+multiples-own row ms b M i l = M i l ∙ lanes-cong 6 _ _ (λ j h. ap (product 7 (power 7 α i)) (mod-eq-of-lt (b j h)))
 
 -- the multiples of a row a that holds the symbols f, from the products that the code makes
 pub multiples-of : (f : ℕ → ℕ) (a b x1 x2 x3 x5 x6 : ℕ) → Below 128 6 f → a ≡ lanes 6 f

@@ -2,7 +2,6 @@
 -- many halves; so folds and halvings in turn leave eight symbols that have the sums of all. Assumes nothing.
 use mathlib.Core.Path.{_≡_, refl, sym, ap, ap₂, _∙_, subst}
 use mathlib.Core.List.{List}
-use mathlib.Core.Bool.{true}
 use Prim.Native.Nat.{ℕ, _+_, _*_, _/_, _%_, _^_, _<_}
 use native.Mathlib.Nat.{mod-eq-of-lt, mod-lt, lt-trans}
 use native.Mathlib.Omega.{arith}
@@ -10,12 +9,11 @@ use lib.Bits.{xor-shr, xor-mod}
 use lib.ListN.{length}
 use Rattle.field.specs.Polynomial.{add}
 use Rattle.field.specs.Field.{product, power, α}
-use Rattle.field.specs.Question.{allBelow}
 use Rattle.field.specs.Sum.{at, weighted}
-use Rattle.field.specs.Lanes.{lanes, Below}
+use Rattle.field.specs.Lanes.{lanes, Below, Block}
 use Rattle.field.specs.Folds.{Additive, Small, total, half, single, pair, quad, octet, Folded, Halved, Packed}
 use Rattle.field.proofs.Sums.{sum-suc, sum-cong, sum-split, sum-scale, sum-lt}
-use Rattle.field.proofs.Below.{symbol-lt, past-end}
+use Rattle.field.proofs.Below.{past-end}
 use Rattle.field.proofs.Lanewise.{F}
 use Rattle.field.proofs.Folding.{power-apply, weighted-one, lower, upper}
 use Rattle.field.proofs.Segments.{segments}
@@ -57,20 +55,20 @@ weighted-halves n e f =
     exponent : (j : ℕ) → e * (n + j) ≡ n * e + e * j
     exponent j = omega arith
 
--- v is the sum over n lanes at exponent e
+-- v is the sum over n lanes at exponent e, of the symbols that their bytes stand for
 abbrev Values : ℕ → ℕ → (ℕ → ℕ) → Type 0
-Values n e v = (f : ℕ → ℕ) → Below 128 n f → v (lanes n f) ≡ weighted 7 n f e
+Values n e v = (f : ℕ → ℕ) → Below 256 n f → v (lanes n f) ≡ weighted 7 n (λ j. f j % 128) e
 
 values-half : (n k e : ℕ) (v : ℕ → ℕ) → 256 ^ n ≡ 2 ^ k → Values n e v → Values (n + n) e (half (2 ^ k) (n * e) v)
 values-half n k e v size h f b =
     ap₂ (λ (x y : ℕ). add (v x) (product 7 (power 7 α (n * e)) (v y))) (lower n k f size b) (upper n k f size b)
     ∙ ap₂ (λ (x y : ℕ). add x (product 7 (power 7 α (n * e)) y))
     (h f (λ j l. b j (omega arith))) (h (λ j. f (n + j)) (λ j l. b (n + j) (omega arith)))
-    ∙ sym (weighted-halves n e f)
+    ∙ sym (weighted-halves n e (λ j. f j % 128))
 
 values-one : (e : ℕ) → Values 1 e single
 unfolding lanes
-values-one e f b = mod-eq-of-lt {n = 0 * 256 + f 0} (omega (arith, b 0 (omega arith))) ∙ plain ∙ sym (weighted-one e f (b 0 (omega arith)))
+values-one e f b = ap (λ (x : ℕ). x % 128) plain ∙ sym (weighted-one e (λ j. f j % 128) (mod-lt _ (omega arith)))
   where
     plain : 0 * 256 + f 0 ≡ f 0
     plain = omega arith
@@ -140,23 +138,24 @@ module _ (R : ℕ → Type 0) (w r1 s1 r2 s2 r3 s3 r4 : List ℕ) (a : ℕ) wher
 
 -- ---- the sum over the symbols, from their numbers
 
-module _ (cs : List ℕ) (b : allBelow 128 cs ≡ true) (size : length cs ≡ 127) where
-  pub octets : (ws : List ℕ) → ((i : ℕ) → i < 16 → at ws i ≡ lanes 8 (λ j. at cs (8 * i + j))) → (e : ℕ)
-      → total (octet e) (8 * e) 16 ws ≡ weighted 7 127 (at cs) e
+module _ (cs : List ℕ) (size : length cs ≡ 127) where
+  octets : (ws : List ℕ) → ((i : ℕ) → i < 16 → Block 8 cs (8 * i) (at ws i)) → (e : ℕ)
+      → total (octet e) (8 * e) 16 ws ≡ weighted 7 127 (λ i. at cs i % 128) e
   octets ws h e =
       sum-cong 16 _ _ (λ i l. ap (product 7 (power 7 α (8 * e * i)))
-      (ap (octet e) (h i l) ∙ values-eight e (λ j. at cs (8 * i + j)) (λ j m. symbol-lt cs b _)))
-      ∙ segments 8 16 (at cs) e
-      ∙ sum-suc 127 (λ i. product 7 (power 7 α (e * i)) (at cs i))
-      ∙ ap (add (weighted 7 127 (at cs) e)) (ap (product 7 (power 7 α (e * 127))) (past-end cs 127 (omega (arith, size))) ∙ F .product-zero _)
+      (ap (octet e) (h i l .held) ∙ values-eight e (λ j. at cs (8 * i + j)) (h i l .bytes)))
+      ∙ segments 8 16 (λ i. at cs i % 128) e
+      ∙ sum-suc 127 (λ i. product 7 (power 7 α (e * i)) (at cs i % 128))
+      ∙ ap (add (weighted 7 127 (λ i. at cs i % 128) e))
+      (ap (λ (x : ℕ). product 7 (power 7 α (e * 127)) (x % 128)) (past-end cs 127 (omega (arith, size))) ∙ F .product-zero _)
       ∙ F .add-zero _
 
   -- a sum, from the packed symbols and the byte r of their sum p
-  pub sum-of-packed : (R : ℕ → Type 0) (ws : List ℕ) (a : ℕ) → ((i : ℕ) → i < 16 → at ws i ≡ lanes 8 (λ j. at cs (8 * i + j)))
+  pub sum-of-packed : (R : ℕ → Type 0) (ws : List ℕ) (a : ℕ) → ((i : ℕ) → i < 16 → Block 8 cs (8 * i) (at ws i))
       → Packed R ws a → (e p r : ℕ) → R (8 * e) → R (4 * e) → R (2 * e) → R e
-      → ((f : ℕ → ℕ) → Below 128 8 f → a ≡ lanes 8 f → p ≡ weighted 7 8 f e) → r ≡ p % 256 → r ≡ weighted 7 127 (at cs) e
+      → ((f : ℕ → ℕ) → Below 128 8 f → a ≡ lanes 8 f → p ≡ weighted 7 8 f e) → r ≡ p % 256 → r ≡ weighted 7 127 (λ i. at cs i % 128) e
   sum-of-packed R ws a h k e p r p8 p4 p2 p1 fold byte =
       byte ∙ mod-eq-of-lt (subst (λ (y : ℕ). y < 256) (sym is) (lt-trans (sum-lt F 127 _ (λ i h. F .product-lt _ _)) (omega arith))) ∙ is
     where
-      is : p ≡ weighted 7 127 (at cs) e
+      is : p ≡ weighted 7 127 (λ i. at cs i % 128) e
       is = fold (k .symbols) (k .below) (k .held) ∙ k .same e p8 p4 p2 p1 ∙ octets ws h e

@@ -1,7 +1,9 @@
 -- Arithmetic on bytes below the questions: what it gives on every byte, symbol or not. Each byte stands for a width and for a symbol there,
 -- a width and a symbol for themselves (proofs/Bytes.antt). Assumes nothing.
+use mathlib.Core.Path.{_≡_}
 use mathlib.Core.Bool.{cond}
-use Prim.Native.Nat.{ℕ, _%_, _≤_}
+use Prim.Native.Nat.{ℕ, _+_, _*_, _/_, _%_, _^_, _≤_, _<_}
+use lib.Dec.{eqb}
 use Rattle.field.specs.Field.{order, product, power, inverse, α}
 use Rattle.field.specs.Question.{isWidth}
 
@@ -25,6 +27,14 @@ inverted m a = inverse (widthFor m) (symbolFor m a)
 -- times the power k of α
 unfoldable pub shifted : ℕ → ℕ → ℕ → ℕ
 shifted m a k = product (widthFor m) (power (widthFor m) α k) (symbolFor m a)
+
+-- the symbol other than 0 that a byte stands for at width 7: its own, and 1 where that is 0
+unfoldable pub unitFor : ℕ → ℕ
+unitFor a = cond (eqb (a % 128) 0) 1 (a % 128)
+
+-- the exponents of α, in the bytes of r, at which its powers at width 7 are the units of 8·k and the seven numbers after it
+abbrev pub Logarithms : ℕ → ℕ → Type 0
+Logarithms k r = (i : ℕ) → i < 8 → (r / 2 ^ (i * 8) % 128 < 127) × (power 7 α (r / 2 ^ (i * 8) % 128) ≡ unitFor (8 * k + i))
 
 -- the widths without tables: 3, 4 and 5
 abbrev pub Small : ℕ → Type 0

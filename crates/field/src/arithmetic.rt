@@ -1,13 +1,12 @@
 // Arithmetic below the questions: plain bytes in and out. These functions are no entry points: they ask nothing, and their contracts say
 // what they give on every byte. A byte that is no width stands for width 7, and one that is no symbol for its lowest digits.
 ghost use mathlib.Core.Path.{_≡_};
-ghost use mathlib.Core.Logic.{_≢_};
 ghost use mathlib.Core.Bool.{true};
 ghost use Prim.Native.Nat.{ℕ, _%_, _≤_, _<_};
 ghost use Rattle.field.specs.Field.{order, polynomial, double as doubleM, product as productM, power as powerM, α};
 ghost use Rattle.field.specs.Question.{isWidth};
 ghost use Rattle.field.specs.Answer.{Operand, orderOf};
-ghost use Rattle.field.specs.Bytes.{Small, multiplied, raised, inverted};
+ghost use Rattle.field.specs.Bytes.{Small, symbolFor, multiplied, raised, inverted, unitFor};
 use crate::Exponent;
 use crate::table::logarithm;
 use crate::table::power_of_alpha;
@@ -22,6 +21,18 @@ pub fn order_of(width: u8) -> u8
         5 => 32,
         7 => 128,
         _ => 0,
+    }
+}
+
+// The symbol that a byte stands for: its lowest digits.
+pub(crate) fn symbol_of(width: u8, a: u8) -> u8
+    ensures { λ r. ⌜ r ≡ symbolFor width a ⌝ }
+{
+    match width {
+        3 => a % 8,
+        4 => a % 16,
+        5 => a % 32,
+        _ => a % 128,
     }
 }
 
@@ -98,9 +109,9 @@ pub fn multiply(width: u8, a: u8, b: u8) -> u8
     }
 }
 
-// The exponent of α at which its power times a is b, at width 7, where a and b are other than 0.
+// The exponent of α at which its power times the unit of a is the unit of b, at width 7. There is one below 127 (`ratio-unique`).
 pub fn ratio_exponent(a: u8, b: u8) -> Exponent
-    ensures { λ r. ⌜ (r .0 < 127) × (a % 128 ≢ 0 → b % 128 ≢ 0 → productM 7 (powerM 7 α (r .0)) (a % 128) ≡ b % 128) ⌝ }
+    ensures { λ r. ⌜ (r .0 < 127) × (productM 7 (powerM 7 α (r .0)) (unitFor a) ≡ unitFor b) ⌝ }
 {
     let i = logarithm(a).0;
     let j = logarithm(b).0;

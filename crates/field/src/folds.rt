@@ -1,13 +1,11 @@
 // The five sums over the 127 data symbols of width 7, by folds: sixteen numbers hold eight neighbouring symbols each. The upper numbers are
 // added at lower places, by a relation between the powers of α, until seven or eight are left; these are cut into halves, and so on until
-// each is one symbol.
+// each is one symbol. A byte that is no symbol is cut at the end alone: exclusive or treats its digits apart.
 ghost use mathlib.Core.Path.{_≡_};
-ghost use mathlib.Core.Bool.{true};
 ghost use lib.ListN.{length};
 ghost use Prim.Native.Nat.{ℕ, _+_, _*_, _%_, _<_};
-ghost use Rattle.field.specs.Question.{allBelow};
 ghost use Rattle.field.specs.Sum.{five, weighted, at};
-ghost use Rattle.field.specs.Lanes.{lanes, Below, Times};
+ghost use Rattle.field.specs.Lanes.{lanes, Below, Times, Block};
 ghost use Rattle.field.specs.Folds.{Seventh, Eighth, Folded, Halved, Packed};
 use crate::lanes::by16;
 use crate::lanes::byte;
@@ -18,7 +16,7 @@ use crate::lanes::shift;
 // The symbols, eight to a number; the 128th is 0.
 fn words(cs: &[u8]) -> [u64; 16]
     requires { ⌜ length (now cs) ≡ 127 ⌝ }
-    ensures { λ r. ⌜ ((i : ℕ) → i < 16 → at r i ≡ lanes 8 (λ j. at (now (cs .entry)) (8 * i + j))) ⌝ }
+    ensures { λ r. ⌜ ((i : ℕ) → i < 16 → Block 8 (now (cs .entry)) (8 * i) (at r i)) ⌝ }
 {
     let mut w = [eight(cs, 119) / 256; 16];
     let mut i: usize = 0;
@@ -158,7 +156,7 @@ fn sum4(a: u64) -> u64
 // For k from 0 to 4 the field sum over i of α^(k·i) times symbol i.
 pub fn by_folds(cs: &[u8]) -> [u8; 5]
     requires { ⌜ length (now cs) ≡ 127 ⌝ }
-    ensures { λ r. ⌜ (allBelow 128 (now (cs .entry)) ≡ true → r ≡ five (weighted 7 127 (at (now (cs .entry))))) ⌝ }
+    ensures { λ r. ⌜ r ≡ five (weighted 7 127 (λ i. at (now (cs .entry)) i % 128)) ⌝ }
 {
     let w = words(cs);
     let a = sevenths(w);

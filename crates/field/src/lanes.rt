@@ -6,7 +6,7 @@ ghost use Rattle.field.specs.Sum.{weighted, at};
 ghost use Rattle.field.specs.Lanes.{lanes, Below, Times, Block};
 
 // Each lane times the power k of α: its low 7 - k digits move up, the k above them come back at x^0 and at x^3.
-pub fn shift(a: u64, k: u64) -> u64
+pub(crate) fn shift(a: u64, k: u64) -> u64
     requires { ⌜ k ≤ 4 ⌝ }
     ensures { λ r. ⌜ Times k a r ⌝ }
 {
@@ -37,7 +37,7 @@ pub(crate) fn fold0(a: u64) -> u64
 }
 
 // The lowest lane.
-pub fn byte(a: u64) -> u8
+pub(crate) fn byte(a: u64) -> u8
     ensures { λ r. ⌜ r ≡ a % 256 ⌝ }
 {
     (a % 256) as u8

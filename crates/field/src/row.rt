@@ -1,11 +1,10 @@
 // Rows of six symbols of width 7, as a linear system has them, in six lanes: a row is multiplied by shifts alone, where each product by the
 // tables would read three of them. These functions are no entry points.
 ghost use mathlib.Core.Path.{_≡_};
-ghost use Prim.Native.Nat.{ℕ, _+_, _*_, _%_, _<_};
+ghost use Prim.Native.Nat.{_+_, _*_, _%_, _<_};
 ghost use Rattle.field.specs.Polynomial.{add};
-ghost use Rattle.field.specs.Field.{product};
 ghost use Rattle.field.specs.Sum.{at};
-ghost use Rattle.field.specs.Lanes.{lanes, Below, six, Multiples};
+ghost use Rattle.field.specs.Lanes.{lanes, lane, Below, six, Multiples, named};
 use crate::lanes::byte;
 use crate::lanes::shift;
 
@@ -26,7 +25,7 @@ fn packed(row: [u8; 6]) -> u64
 
 // And back.
 fn unpacked(a: u64) -> [u8; 6]
-    ensures { λ r. ⌜ ((f : ℕ → ℕ) → Below 256 6 f → a ≡ lanes 6 f → r ≡ six f) ⌝ }
+    ensures { λ r. ⌜ r ≡ six (lane a) ⌝ }
 {
     let b0 = byte(a);
     let b1 = byte(a / 256);
@@ -35,6 +34,13 @@ fn unpacked(a: u64) -> [u8; 6]
     let b4 = byte(a / 4294967296);
     let b5 = byte(a / 1099511627776);
     [b0, b1, b2, b3, b4, b5]
+}
+
+// The symbols that the bytes of a row stand for, in lanes.
+fn symbols(row: [u8; 6]) -> u64
+    ensures { λ r. ⌜ r ≡ lanes 6 (λ j. at row j % 128) ⌝ }
+{
+    packed(row) & 0x7f7f7f7f7f7f7f7f
 }
 
 // a where the lowest digit of k is 1, else 0.
@@ -49,9 +55,9 @@ fn when(k: u64, a: u64) -> u64
 
 // The row in lanes, times each of the first seven powers of α: from these every multiple of the row is added up.
 pub fn multiples(row: [u8; 6]) -> [u64; 7]
-    ensures { λ r. ⌜ (Below 128 6 (at row) → Multiples (at row) r) ⌝ }
+    ensures { λ r. ⌜ Multiples (λ j. at row j % 128) r ⌝ }
 {
-    let a = packed(row);
+    let a = symbols(row);
     let b = shift(a, 4);
     let s1 = shift(a, 1);
     let s2 = shift(a, 2);
@@ -63,7 +69,7 @@ pub fn multiples(row: [u8; 6]) -> [u64; 7]
 
 // The row times k, in lanes: those of its multiples are added up that the digits of k name.
 fn scaled(k: u64, ms: [u64; 7]) -> u64
-    ensures { λ r. ⌜ ((f : ℕ → ℕ) → k < 128 → Multiples f ms → r ≡ lanes 6 (λ j. product 7 k (f j))) ⌝ }
+    ensures { λ r. ⌜ r ≡ named k ms ⌝ }
 {
     let w0 = when(k, ms[0]);
     let w1 = when(k / 2, ms[1]);
@@ -75,10 +81,9 @@ fn scaled(k: u64, ms: [u64; 7]) -> u64
     w0 ^ w1 ^ w2 ^ w3 ^ w4 ^ w5 ^ w6
 }
 
-// The row with k times another row added, of which the multiples are given.
+// The row with those of the seven numbers added that the digits of k name: k times another row, where its multiples are given (`multiple-row`).
 pub fn add_multiple(row: [u8; 6], k: u8, ms: [u64; 7]) -> [u8; 6]
-    ensures { λ r.
-        ⌜ ((f : ℕ → ℕ) → k < 128 → Multiples f ms → r ≡ six (λ j. add (at row j) (product 7 k (f j)))) ⌝ }
+    ensures { λ r. ⌜ r ≡ six (λ j. add (at row j) (lane (named k ms) j)) ⌝ }
 {
     unpacked(packed(row) ^ scaled(k as u64, ms))
 }

@@ -1,9 +1,9 @@
 // The tables of width 7: the powers of α, and the logarithms to the base α. These functions are no entry points.
 ghost use mathlib.Core.Path.{_≡_};
-ghost use mathlib.Core.Logic.{_≢_};
 ghost use mathlib.Core.List.{_∷_, []};
-ghost use Prim.Native.Nat.{_*_, _%_, _<_};
+ghost use Prim.Native.Nat.{_*_, _<_};
 ghost use Rattle.field.specs.Field.{power as powerM, α};
+ghost use Rattle.field.specs.Bytes.{unitFor, Logarithms};
 use crate::Exponent;
 
 // α to the exponents 0 to 253: two logarithms can be added without a reduction modulo 127.
@@ -264,138 +264,6 @@ const POWERS: [u8; 254] = [
     68, // exponent 253
 ];
 
-// The exponent at which the power of α is the symbol. The symbol 0 has none; its entry is not used.
-const LOGARITHMS: [u8; 128] = [
-    0, // symbol 0
-    0,
-    1,
-    31,
-    2,
-    62,
-    32,
-    103,
-    3,
-    7,
-    63,
-    15,
-    33,
-    84,
-    104,
-    93,
-    4, // symbol 16
-    124,
-    8,
-    121,
-    64,
-    79,
-    16,
-    115,
-    34,
-    11,
-    85,
-    38,
-    105,
-    46,
-    94,
-    51,
-    5, // symbol 32
-    82,
-    125,
-    60,
-    9,
-    44,
-    122,
-    77,
-    65,
-    67,
-    80,
-    42,
-    17,
-    69,
-    116,
-    23,
-    35, // symbol 48
-    118,
-    12,
-    28,
-    86,
-    25,
-    39,
-    57,
-    106,
-    19,
-    47,
-    89,
-    95,
-    71,
-    52,
-    110,
-    6, // symbol 64
-    14,
-    83,
-    92,
-    126,
-    30,
-    61,
-    102,
-    10,
-    37,
-    45,
-    50,
-    123,
-    120,
-    78,
-    114,
-    66, // symbol 80
-    41,
-    68,
-    22,
-    81,
-    59,
-    43,
-    76,
-    18,
-    88,
-    70,
-    109,
-    117,
-    27,
-    24,
-    56,
-    36, // symbol 96
-    49,
-    119,
-    113,
-    13,
-    91,
-    29,
-    101,
-    87,
-    108,
-    26,
-    55,
-    40,
-    21,
-    58,
-    75,
-    107, // symbol 112
-    54,
-    20,
-    74,
-    48,
-    112,
-    90,
-    100,
-    96,
-    97,
-    72,
-    98,
-    53,
-    73,
-    111,
-    99,
-];
-
 // α to the power e at width 7.
 pub(crate) fn power_of_alpha(e: Exponent) -> u8
     requires { ⌜ e .0 < 254 ⌝ }
@@ -426,17 +294,37 @@ pub fn first_powers(e: Exponent) -> [u8; 5]
     ]
 }
 
-// The entry of the table of logarithms at a.
-fn logarithm_at(a: usize) -> u8
-    requires { ⌜ a < 128 ⌝ }
-    ensures { λ r. ⌜ (r < 127) × (a ≢ 0 → powerM 7 α r ≡ a) ⌝ }
+// The logarithms of the symbols 8k to 8k + 7, the first in the lowest byte: the exponent at which the power of α is the symbol. The symbol 0
+// has none; its entry is that of 1. A `match` is not copied at a read, as a constant array is.
+fn eight_logarithms(k: u64) -> u64
+    requires { ⌜ k < 16 ⌝ }
+    ensures { λ r. ⌜ Logarithms k r ⌝ }
 {
-    LOGARITHMS[a]
+    match k {
+        0 => 0x67203e021f010000,
+        1 => 0x5d6854210f3f0703,
+        2 => 0x73104f4079087c04,
+        3 => 0x335e2e6926550b22,
+        4 => 0x4d7a2c093c7d5205,
+        5 => 0x177445112a504341,
+        6 => 0x392719561c0c7623,
+        7 => 0x6e34475f592f136a,
+        8 => 0x663d1e7e5c530e06,
+        9 => 0x724e787b322d250a,
+        10 => 0x4c2b3b5116442942,
+        11 => 0x38181b756d465812,
+        12 => 0x651d5b0d71773124,
+        13 => 0x4b3a1528371a6c57,
+        14 => 0x645a70304a14366b,
+        _ => 0x636f493562486160,
+    }
 }
 
-// The exponent of α at which its power at width 7 is the symbol of a, where that is not 0.
+// The exponent of α at which its power at width 7 is the unit of a.
 pub(crate) fn logarithm(a: u8) -> Exponent
-    ensures { λ r. ⌜ (r .0 < 127) × (a % 128 ≢ 0 → powerM 7 α (r .0) ≡ a % 128) ⌝ }
+    ensures { λ r. ⌜ (r .0 < 127) × (powerM 7 α (r .0) ≡ unitFor a) ⌝ }
 {
-    Exponent(logarithm_at((a % 128) as usize) as u16)
+    let i = (a % 128) as u64;
+    let e = (eight_logarithms(i / 8) >> (i % 8 * 8)) % 128;
+    Exponent(e as u16)
 }

@@ -6,6 +6,7 @@ use Prim.Native.Nat.{ℕ}
 use native.Mathlib.Omega.{arith}
 use lib.ListN.{length}
 use lib.Seq.{length-take-le}
+use Rattle.field.proofs.Evaluation.{sums-own}
 use Rattle.code.specs.Word.{five, weighted, at}
 use Rattle.code.proofs.Loops.{two-parts}
 use Rattle.code.proofs.write_codeword.Statement.{statement}
@@ -51,7 +52,7 @@ returns c = λ w size b.
     let a = u .before .before .before .before .before .before .args in
     let l : 5 ≡ length (p .result) = search needs in
     two-parts 5 (a .word .now) (p .result) (a .message .now) _ _ (u .copy .ensures) (c .before .before .copy2 .ensures) (sym l)
-    ∙ ap (λ (ps : List ℕ). ps ++ a .message .now) (p .ensures w b ∙ ap (λ (n : ℕ). five (weighted (a .width) n (at (a .message .now)))) size))
+    ∙ ap (λ (ps : List ℕ). ps ++ a .message .now) (p .ensures ∙ sums-own (a .width) (a .message .now) w b ∙ ap (λ (n : ℕ). five (weighted (a .width) n (at (a .message .now)))) size))
 
 pub write-codeword-spec : {M : Type 1} → statement M
 write-codeword-spec =

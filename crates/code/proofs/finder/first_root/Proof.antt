@@ -1,6 +1,7 @@
 -- `code::finder::first_root` meets its contract. Assumes nothing.
 use borrow.Author.Needs.{needs}
 use native.Mathlib.Omega.{arith}
+use Rattle.field.proofs.Bytes.{ratio-own}
 use Rattle.code.proofs.Scanning.{ratio-scanned}
 use Rattle.code.proofs.finder.first_root.Statement.{statement}
 use Rattle.code.proofs.finder.first_root.Tie as tie
@@ -15,7 +16,7 @@ returns : tie.Need-returns
 returns c =
     let t = c .before .if1 .taken in
     let R = c .before .before .has-ratio .ensures t in
-    (omega (arith, R .all, c .ratio-exponent .ensures .0), λ a b w C. ratio-scanned R (c .ratio-exponent .ensures .0) (c .ratio-exponent .ensures .1) C)
+    (omega (arith, R .all, c .ratio-exponent .ensures .0), λ a b w C. ratio-scanned R (c .ratio-exponent .ensures .0) (ratio-own _ _ _ (c .ratio-exponent .ensures .1)) C)
 
 root-from-requires : tie.Need-root-from-requires
 root-from-requires c κs = search needs

@@ -4,6 +4,7 @@ use borrow.Kind.Array.{eInt, good-length}
 use mir.Syntax.{w8}
 use mathlib.Core.Path.{_≡_, sym, ap, _∙_}
 use Prim.Native.Nat.{ℕ}
+use Rattle.field.proofs.Scaling.{multiple-row}
 use Rattle.code.specs.Word.{at}
 use Rattle.code.specs.Matrix.{rowAdd}
 use Rattle.code.proofs.RowLaws.{below-order, six-rowAdd}
@@ -20,7 +21,8 @@ returns c =
     let seven : a .width ≡ 7 = c .before .if1 .taken in
     let long = good-length (eInt w8) 6 (a .row) _ (start .good .1 .0) in
     let wide = good-length (eInt w8) 6 (a .by) _ (start .good .1 .1 .1 .0) in
-    λ k y M. c .add-multiple .ensures (at (a .by)) (below-order seven k) (M seven (λ j h. below-order seven (y j h)))
+    λ k y M. c .add-multiple .ensures
+    ∙ multiple-row (a .k) (at (a .by)) (a .ms) (M seven (λ j h. below-order seven (y j h))) (a .row) (below-order seven k)
     ∙ six-rowAdd 7 (a .row) (a .k) (a .by) long wide
     ∙ ap (λ (m : ℕ). rowAdd m (a .row) (a .k) (a .by)) (sym seven)
 

@@ -1,5 +1,6 @@
 -- `code::solver::clear_column` meets its contract. The loop clears row after row, and the row of the pivot is put in last. Assumes nothing.
 use borrow.Author.Needs.{needs}
+use Rattle.field.proofs.Scaling.{multiples-own}
 use native.Mathlib.Omega.{arith}
 use Prim.Native.Nat.{_-_}
 use Rattle.code.specs.Matrix.{rows}
@@ -65,7 +66,7 @@ loop-again c =
     let many = turn .before in
     let scaled = many .before in
     clearing-on _ _ _ _ (omega arith) (omega arith) _ _ (scaled .before .invert .ensures) (scaled .scale-row .ensures) _ _ (turn .loop .inv)
-    (omega arith) _ (λ o y. c .add-row .ensures o y (λ e b. many .multiples .ensures b))
+    (omega arith) _ (λ o y. c .add-row .ensures o y (λ e b. multiples-own (scaled .scale-row .result) (many .multiples .result) b (many .multiples .ensures)))
 
 mul-out-2 : tie.Need-mul-out-2 Inv-loop μ-loop
 mul-out-2 c = search needs

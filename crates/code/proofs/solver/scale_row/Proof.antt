@@ -1,5 +1,6 @@
 -- `code::solver::scale_row` meets its contract. Assumes nothing.
 use borrow.Author.Needs.{needs}
+use Rattle.field.proofs.Scaling.{multiples-own}
 use borrow.Kind.Array.{eInt, good-length}
 use mir.Syntax.{w8}
 use mathlib.Core.Path.{_∙_}
@@ -19,7 +20,7 @@ returns c =
     let start = c .before .before in
     let a = start .args in
     let long = good-length (eInt w8) 6 (a .row) _ (start .good .1 .1 .0) in
-    λ k y. c .add-row .ensures k y (λ e b. c .before .multiples .ensures b) ∙ zero-rowAdd (field-of (a .width) (k .width)) (a .k) (a .row) long
+    λ k y. c .add-row .ensures k y (λ e b. multiples-own (a .row) (c .before .multiples .result) b (c .before .multiples .ensures)) ∙ zero-rowAdd (field-of (a .width) (k .width)) (a .k) (a .row) long
 
 pub scale-row-spec : {M : Type 1} → statement M
 scale-row-spec = tie.close (tie.spec multiples-requires add-row-requires returns)

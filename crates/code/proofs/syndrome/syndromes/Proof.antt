@@ -5,7 +5,7 @@ use Prim.Native.Nat.{ℕ, _<_}
 use lib.Dec.{lit<}
 use Rattle.field.specs.Polynomial.{add}
 use Rattle.field.proofs.Bytes.{xor-add}
-use Rattle.field.proofs.Evaluation.{five-of}
+use Rattle.field.proofs.Evaluation.{five-of, sums-own}
 use Rattle.code.specs.Word.{checks, at, syndrome}
 use Rattle.code.proofs.Parities.{syndromes-of}
 use Rattle.code.proofs.syndrome.syndromes.Statement.{statement}
@@ -60,7 +60,7 @@ returns c = λ w size b.
     let m = a .width in
     let word = a .word .now in
     let s : (k : ℕ) → k < checks → add (at word k) (at (p .parities .result) k) ≡ syndrome m (at word) k =
-    syndromes-of m word (p .parities .result) size b (λ d. p .parities .ensures w d) in
+    syndromes-of m word (p .parities .result) size b (λ d. p .parities .ensures ∙ sums-own m _ w d) in
     five-of (syndrome m (at word)) _ _ _ _ _
     (xor-add _ _ ∙ s 0 (lit< tt))
     (xor-add _ _ ∙ s 1 (lit< tt))

@@ -5,7 +5,7 @@ use Prim.Native.Nat.{ℕ, _-_, _%_}
 use native.Mathlib.Omega.{arith}
 use Rattle.field.specs.Field.{order, power, inverse}
 use Rattle.field.specs.Bytes.{Small}
-use Rattle.field.proofs.Bytes.{width-own, width-large, small-width, raised-at, inverted-at, operand-low}
+use Rattle.field.proofs.Bytes.{width-own, width-large, small-width, raised-at, inverted-at, operand-low, unit-own}
 use Rattle.field.proofs.Steps.{inverse-exponent, zero-power-ne}
 use Rattle.field.proofs.Widths.{fieldAt, Width.seven}
 use Rattle.field.proofs.arithmetic.invert.Statement.{statement}
@@ -56,7 +56,7 @@ returns-3 c =
     let a = s .before .args .a in
     c .power-of-alpha .ensures
     ∙ inverse-exponent 7 (fieldAt seven) (a % 128) (i .result .0) (operand-low 7 a refl .symbol) (omega (arith, i .ensures .0))
-    (i .ensures .1 (c .before .before .before .if3 .left))
+    (i .ensures .1 ∙ unit-own _ (c .before .before .before .if3 .left))
     ∙ sym (inverted-at _ 7 (width-large _ (λ l. l .taken) (λ g. g .1 .left) (s .if1 .came)) _)
 
 pub invert-spec : {M : Type 1} → statement M

@@ -5,6 +5,7 @@ use Prim.Native.Nat.{ℕ, _%_}
 use native.Mathlib.Omega.{arith}
 use Rattle.field.specs.Field.{product}
 use Rattle.field.proofs.Ring.{product-zero-l, product-zero-r}
+use Rattle.field.proofs.Bytes.{unit-own}
 use Rattle.field.proofs.Widths.{fieldAt, Width.seven}
 use Rattle.field.proofs.Steps.{product-exponents}
 use Rattle.field.proofs.arithmetic.multiply7.Statement.{statement}
@@ -33,8 +34,8 @@ returns-3 c =
     let i = c .before .before .logarithm in
     let j = c .before .logarithm2 in
     c .power-of-alpha .ensures
-    ∙ product-exponents 7 (fieldAt seven) _ _ (i .result .0) (j .result .0) (i .ensures .1 (c .before .before .before .before .if1 .left))
-    (j .ensures .1 (c .before .before .before .if2 .left))
+    ∙ product-exponents 7 (fieldAt seven) _ _ (i .result .0) (j .result .0) (i .ensures .1 ∙ unit-own _ (c .before .before .before .before .if1 .left))
+    (j .ensures .1 ∙ unit-own _ (c .before .before .before .if2 .left))
 
 pub multiply7-spec : {M : Type 1} → statement M
 multiply7-spec =

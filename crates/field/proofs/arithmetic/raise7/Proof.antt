@@ -7,6 +7,7 @@ use native.Mathlib.Nat.{mul-le-mul, lt-of-le-of-lt}
 use lib.Dec.{lit<}
 use Rattle.field.specs.Field.{power}
 use Rattle.field.proofs.Powers.{power-zero}
+use Rattle.field.proofs.Bytes.{unit-own}
 use Rattle.field.proofs.Widths.{fieldAt, Width.seven}
 use Rattle.field.proofs.Steps.{power-exponent, zero-power-ne}
 use Rattle.field.proofs.arithmetic.raise7.Statement.{statement}
@@ -46,7 +47,7 @@ returns-3 c =
     let s = c .before .before .before .before .before in
     let i = c .before .before .logarithm in
     c .power-of-alpha .ensures
-    ∙ power-exponent 7 (fieldAt seven) (s .args .a % 128) (s .args .e .0) (i .result .0) (i .ensures .1 (c .before .before .before .if2 .left))
+    ∙ power-exponent 7 (fieldAt seven) (s .args .a % 128) (s .args .e .0) (i .result .0) (i .ensures .1 ∙ unit-own _ (c .before .before .before .if2 .left))
 
 pub raise7-spec : {M : Type 1} → statement M
 raise7-spec =

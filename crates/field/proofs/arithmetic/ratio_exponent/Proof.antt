@@ -23,7 +23,7 @@ returns c =
     let i = c .before .logarithm in
     let j = c .logarithm2 in (
       omega arith,
-      λ na nb. ratio-exponents 7 (fieldAt seven) _ _ (i .result .0) (j .result .0) (omega (arith, i .ensures .0)) (i .ensures .1 na) (j .ensures .1 nb),
+      ratio-exponents 7 (fieldAt seven) _ _ (i .result .0) (j .result .0) (omega (arith, i .ensures .0)) (i .ensures .1) (j .ensures .1),
     )
 
 pub ratio-exponent-spec : {M : Type 1} → statement M

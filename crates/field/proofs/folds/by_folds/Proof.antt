@@ -1,5 +1,6 @@
 -- `field::folds::by_folds` meets its contract. Assumes nothing.
 use borrow.Author.Needs.{needs}
+use Prim.Native.Nat.{_%_}
 use Rattle.field.specs.Sum.{weighted, at}
 use Rattle.field.specs.Folds.{Seventh, Eighth}
 use Rattle.field.proofs.Evaluation.{five-of}
@@ -48,8 +49,8 @@ byte-requires-5 : tie.Need-byte-requires-5
 byte-requires-5 c κs = search needs
 
 returns : tie.Need-returns
-returns c = λ b.
-    (let b4 = c .before in
+returns c =
+    let b4 = c .before in
     let b3 = b4 .before in
     let b2 = b3 .before in
     let b1 = b2 .before in
@@ -70,12 +71,12 @@ returns c = λ b.
     let y = e .eighths .result in
     let kx = s .sevenths .ensures in
     let ky = e .eighths .ensures in
-    five-of (weighted 7 127 (at cs)) _ _ _ _ _
-    (sum-of-packed cs b size Eighth ws y held ky 0 (s0 .fold0 .result) (b1 .byte .result) (cubes .0) (cubes .0) (cubes .0) (cubes .0) (s0 .fold0 .ensures) (b1 .byte .ensures))
-    (sum-of-packed cs b size Seventh ws x held kx 1 (s1 .sum1 .result) (b2 .byte2 .result) (conjugates .3) (conjugates .2) (conjugates .1) (conjugates .0) (s1 .sum1 .ensures) (b2 .byte2 .ensures))
-    (sum-of-packed cs b size Seventh ws x held kx 2 (s2 .sum2 .result) (b3 .byte3 .result) (conjugates .4) (conjugates .3) (conjugates .2) (conjugates .1) (s2 .sum2 .ensures) (b3 .byte3 .ensures))
-    (sum-of-packed cs b size Eighth ws y held ky 3 (s3 .sum3 .result) (b4 .byte4 .result) (cubes .4) (cubes .3) (cubes .2) (cubes .1) (s3 .sum3 .ensures) (b4 .byte4 .ensures))
-    (sum-of-packed cs b size Seventh ws x held kx 4 (s4 .sum4 .result) (c .byte5 .result) (conjugates .5) (conjugates .4) (conjugates .3) (conjugates .2) (s4 .sum4 .ensures) (c .byte5 .ensures)))
+    five-of (weighted 7 127 (λ i. at cs i % 128)) _ _ _ _ _
+    (sum-of-packed cs size Eighth ws y held ky 0 (s0 .fold0 .result) (b1 .byte .result) (cubes .0) (cubes .0) (cubes .0) (cubes .0) (s0 .fold0 .ensures) (b1 .byte .ensures))
+    (sum-of-packed cs size Seventh ws x held kx 1 (s1 .sum1 .result) (b2 .byte2 .result) (conjugates .3) (conjugates .2) (conjugates .1) (conjugates .0) (s1 .sum1 .ensures) (b2 .byte2 .ensures))
+    (sum-of-packed cs size Seventh ws x held kx 2 (s2 .sum2 .result) (b3 .byte3 .result) (conjugates .4) (conjugates .3) (conjugates .2) (conjugates .1) (s2 .sum2 .ensures) (b3 .byte3 .ensures))
+    (sum-of-packed cs size Eighth ws y held ky 3 (s3 .sum3 .result) (b4 .byte4 .result) (cubes .4) (cubes .3) (cubes .2) (cubes .1) (s3 .sum3 .ensures) (b4 .byte4 .ensures))
+    (sum-of-packed cs size Seventh ws x held kx 4 (s4 .sum4 .result) (c .byte5 .result) (conjugates .5) (conjugates .4) (conjugates .3) (conjugates .2) (s4 .sum4 .ensures) (c .byte5 .ensures))
 
 pub by-folds-spec : {M : Type 1} → statement M
 by-folds-spec =

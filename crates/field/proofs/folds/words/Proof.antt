@@ -1,20 +1,19 @@
 -- `field::folds::words` meets its contract: the first i numbers hold their symbols, and so does the last. Assumes nothing.
 use borrow.Author.Needs.{needs}
-use mathlib.Core.Path.{_≡_, _∙_}
-use Prim.Native.Nat.{ℕ, _+_, _-_, _*_, _≤_, _<_}
+use mathlib.Core.Path.{_≡_, sym, subst}
+use Prim.Native.Nat.{ℕ, _-_, _*_, _≤_, _<_}
 use native.Mathlib.Omega.{arith}
 use lib.ListN.{length}
 use lib.Seq.{getD-set-other}
 use Rattle.field.specs.Sum.{at}
-use Rattle.field.specs.Lanes.{lanes}
+use Rattle.field.specs.Lanes.{Block}
 use Rattle.field.proofs.Filling.{set-more, last-number, all-sixteen}
 use Rattle.field.proofs.folds.words.Statement.{statement}
 use Rattle.field.proofs.folds.words.Tie as tie
 
 abbrev Inv-loop : tie.InvT-loop
 Inv-loop cs w₀ i₀ w i =
-    (i ≤ 15) × (length cs ≡ 127) × (length w ≡ 16) × ((m : ℕ) → m < i → at w m ≡ lanes 8 (λ j. at cs (8 * m + j)))
-    × (at w 15 ≡ lanes 8 (λ j. at cs (8 * 15 + j)))
+    (i ≤ 15) × (length cs ≡ 127) × (length w ≡ 16) × ((m : ℕ) → m < i → Block 8 cs (8 * m) (at w m)) × Block 8 cs (8 * 15) (at w 15)
 
 abbrev μ-loop : tie.MeasureT-loop
 μ-loop cs w₀ i₀ w i = 15 - i
@@ -53,15 +52,15 @@ loop-again c =
       search needs,
       search needs,
       search needs,
-      set-more (λ m. lanes 8 (λ j. at cs (8 * m + j))) i (c .eight2 .result) w (omega (arith, size)) (c .eight2 .ensures .held) (l .loop .inv .3),
-      getD-set-other w i 15 _ 0 (λ e. omega arith) ∙ l .loop .inv .4,
+      set-more (λ m x. Block 8 cs (8 * m) x) i (c .eight2 .result) w (omega (arith, size)) (c .eight2 .ensures) (l .loop .inv .3),
+      subst (Block 8 cs (8 * 15)) (sym (getD-set-other w i 15 _ 0 (λ e. omega arith))) (l .loop .inv .4),
     )
 
 returns : tie.Need-returns Inv-loop μ-loop
 returns c =
     let l = c .before in
     let cs = l .before .before .before .args .cs .now in
-    all-sixteen (λ m. lanes 8 (λ j. at cs (8 * m + j))) (l .loop .w) (λ m h. l .loop .inv .3 m (omega arith)) (l .loop .inv .4)
+    all-sixteen (λ m x. Block 8 cs (8 * m) x) (l .loop .w) (λ m h. l .loop .inv .3 m (omega arith)) (l .loop .inv .4)
 
 pub words-spec : {M : Type 1} → statement M
 words-spec =

@@ -1,12 +1,9 @@
 -- `field::horner::one_by_one` meets its contract: the sums over the symbols from i on, by Horner's rule. Assumes nothing.
 use borrow.Author.Needs.{needs}
 use mathlib.Core.Path.{_≡_}
-use mathlib.Core.Bool.{true}
 use Prim.Native.Nat.{_≤_}
 use native.Mathlib.Omega.{arith}
 use lib.ListN.{length, drop}
-use Rattle.field.specs.Field.{order}
-use Rattle.field.specs.Question.{isWidth, allBelow}
 use Rattle.field.specs.Sum.{five}
 use Rattle.field.proofs.Evaluation.{evaluate, pass-start, pass-small, pass-on, pass-end}
 use Rattle.field.proofs.horner.one_by_one.Statement.{statement}
@@ -14,14 +11,13 @@ use Rattle.field.proofs.horner.one_by_one.Tie as tie
 
 abbrev Inv-loop : tie.InvT-loop
 Inv-loop width symbols s₀ i₀ s i =
-    (i ≤ length symbols)
-    × (isWidth width ≡ true → allBelow (order width) symbols ≡ true → s ≡ five (evaluate width (drop i symbols)))
+    (i ≤ length symbols) × (s ≡ five (evaluate width (drop i symbols)))
 
 abbrev μ-loop : tie.MeasureT-loop
 μ-loop width symbols s₀ i₀ s i = i
 
 loop-holds : tie.Need-loop-holds Inv-loop μ-loop
-loop-holds c = (search needs, λ w b. pass-start (c .before .args .width) w (c .before .args .symbols .now) b)
+loop-holds c = (search needs, pass-start (c .before .args .width) (c .before .args .symbols .now))
 
 sub-i : tie.Need-sub-i Inv-loop μ-loop
 sub-i c = search needs
@@ -44,17 +40,15 @@ loop-again c =
     let s = l .loop .s in
     let i = l .loop .i in (
       omega (arith, l .loop .inv .0),
-      λ w b. (
-          let e = l .loop .inv .1 w b in
-          pass-on m w cs b s (c .step .result) i e (search needs) (l .loop .inv .0)
-          (c .step .ensures w (λ k h. pass-small m w cs b s i k e (l .loop .inv .0) h))),
+      pass-on m cs s (c .step .result) i (l .loop .inv .1) (search needs) (l .loop .inv .0)
+          (c .step .ensures (λ k h. pass-small m cs s i k (l .loop .inv .1) h)),
     )
 
 returns : tie.Need-returns Inv-loop μ-loop
-returns c = λ w b.
-    (let l = c .before in
+returns c =
+    let l = c .before in
     let a = l .before .before .args in
-    pass-end (a .width) w (a .symbols .now) b (l .loop .s) (l .loop .i) (l .loop .inv .1 w b) (omega arith))
+    pass-end (a .width) (a .symbols .now) (l .loop .s) (l .loop .i) (l .loop .inv .1) (omega arith)
 
 pub one-by-one-spec : {M : Type 1} → statement M
 one-by-one-spec =

@@ -1,11 +1,12 @@
 -- `field::horner::step` meets its contract. Assumes nothing.
 use borrow.Author.Needs.{needs}
-use mathlib.Core.Path.{ap, _∙_}
+use mathlib.Core.Path.{ap₂, _∙_}
 use Prim.Native.Nat.{ℕ}
 use lib.Dec.{lit<}
 use Rattle.field.specs.Polynomial.{add}
 use Rattle.field.specs.Field.{product, power, α}
-use Rattle.field.proofs.Bytes.{xor-add, shifted-product}
+use Rattle.field.proofs.Bytes.{xor-add, shifted-symbol}
+use Rattle.field.specs.Bytes.{widthFor, symbolFor}
 use Rattle.field.specs.Sum.{at}
 use Rattle.field.proofs.Evaluation.{five-of, first-shift}
 use Rattle.field.proofs.horner.step.Statement.{statement}
@@ -35,23 +36,28 @@ array-read-shift-4 c = search needs
 shift-requires-4 : tie.Need-shift-requires-4
 shift-requires-4 c κs = search needs
 
-array-read-t11 : tie.Need-array-read-t11
-array-read-t11 c = search needs
+symbol-of-requires : tie.Need-symbol-of-requires
+symbol-of-requires c κs = search needs
+
+array-read-t12 : tie.Need-array-read-t12
+array-read-t12 c = search needs
 
 returns : tie.Need-returns
-returns c = λ w h.
-    (let l3 = c .before in
+returns c = λ h.
+    (let x = c .symbol-of in
+    let l4 = c .before in
+    let l3 = l4 .before in
     let l2 = l3 .before in
     let l1 = l2 .before in
     let a = l1 .before .args in
-    let m = a .width in
-    let plus : (x : ℕ) → ℕ = λ x. add x (a .c) in
-    five-of (λ k. add (product m (power m α k) (at (a .t2) k)) (a .c)) _ _ _ _ _
-    (xor-add _ _ ∙ ap plus (first-shift m _ w (h 0 (lit< tt))))
-    (xor-add _ _ ∙ ap plus (l1 .shift .ensures ∙ shifted-product (record { width = w; symbol = h 1 (lit< tt) }) 1))
-    (xor-add _ _ ∙ ap plus (l2 .shift2 .ensures ∙ shifted-product (record { width = w; symbol = h 2 (lit< tt) }) 2))
-    (xor-add _ _ ∙ ap plus (l3 .shift3 .ensures ∙ shifted-product (record { width = w; symbol = h 3 (lit< tt) }) 3))
-    (xor-add _ _ ∙ ap plus (c .shift4 .ensures ∙ shifted-product (record { width = w; symbol = h 4 (lit< tt) }) 4)))
+    let m : ℕ = a .width in
+    let n : ℕ = widthFor m in
+    five-of (λ k. add (product n (power n α k) (at (a .t2) k)) (symbolFor m (a .c))) _ _ _ _ _
+    (xor-add _ _ ∙ ap₂ add (first-shift m _ (h 0 (lit< tt))) (x .ensures))
+    (xor-add _ _ ∙ ap₂ add (l1 .shift .ensures ∙ shifted-symbol m _ 1 (h 1 (lit< tt))) (x .ensures))
+    (xor-add _ _ ∙ ap₂ add (l2 .shift2 .ensures ∙ shifted-symbol m _ 2 (h 2 (lit< tt))) (x .ensures))
+    (xor-add _ _ ∙ ap₂ add (l3 .shift3 .ensures ∙ shifted-symbol m _ 3 (h 3 (lit< tt))) (x .ensures))
+    (xor-add _ _ ∙ ap₂ add (l4 .shift4 .ensures ∙ shifted-symbol m _ 4 (h 4 (lit< tt))) (x .ensures)))
 
 pub step-spec : {M : Type 1} → statement M
 step-spec =
@@ -65,5 +71,6 @@ step-spec =
     shift-requires-3
     array-read-shift-4
     shift-requires-4
-    array-read-t11
+    symbol-of-requires
+    array-read-t12
     returns)

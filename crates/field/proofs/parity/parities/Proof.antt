@@ -1,11 +1,7 @@
 -- `field::parity::parities` meets its contract. Assumes nothing.
 use borrow.Author.Needs.{needs}
-use mathlib.Core.Path.{_≡_, sym, ap₂, _∙_, subst}
-use mathlib.Core.Bool.{true}
-use Prim.Native.Nat.{ℕ}
-use Rattle.field.specs.Field.{order}
-use Rattle.field.specs.Question.{allBelow}
-use Rattle.field.specs.Sum.{five, weighted, at}
+use mathlib.Core.Path.{_∙_}
+use Rattle.field.proofs.Evaluation.{sums-seven}
 use Rattle.field.proofs.parity.parities.Statement.{statement}
 use Rattle.field.proofs.parity.parities.Tie as tie
 
@@ -13,12 +9,10 @@ by-folds-requires : tie.Need-by-folds-requires
 by-folds-requires c κs = search needs
 
 returns : tie.Need-returns
-returns c = λ w b.
-    (let t = c .before .before in
+returns c =
+    let t = c .before .before in
     let a = t .before .before .args in
-    let xs = a .symbols .now in
-    c .by-folds .ensures (subst (λ (m : ℕ). allBelow (order m) xs ≡ true) (t .if1 .taken) b)
-    ∙ ap₂ (λ (m n : ℕ). five (weighted m n (at xs))) (sym (t .if1 .taken)) (sym (c .before .if2 .taken)))
+    c .by-folds .ensures ∙ sums-seven (a .width) (a .symbols .now) (t .if1 .taken) (c .before .if2 .taken)
 
 one-by-one-requires : tie.Need-one-by-one-requires
 one-by-one-requires c κs = search needs

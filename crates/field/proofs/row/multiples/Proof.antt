@@ -1,12 +1,15 @@
 -- `field::row::multiples` meets its contract. Assumes nothing.
 use borrow.Author.Needs.{needs}
+use Prim.Native.Nat.{_%_}
+use native.Mathlib.Nat.{mod-lt}
+use native.Mathlib.Omega.{arith}
 use Rattle.field.specs.Sum.{at}
 use Rattle.field.proofs.Scaling.{multiples-of}
 use Rattle.field.proofs.row.multiples.Statement.{statement}
 use Rattle.field.proofs.row.multiples.Tie as tie
 
-packed-requires : tie.Need-packed-requires
-packed-requires c κs = search needs
+symbols-requires : tie.Need-symbols-requires
+symbols-requires c κs = search needs
 
 shift-requires : tie.Need-shift-requires
 shift-requires c κs = search needs
@@ -27,21 +30,21 @@ shift-requires-6 : tie.Need-shift-requires-6
 shift-requires-6 c κs = search needs
 
 returns : tie.Need-returns
-returns c = λ b.
-    (let s5 = c .before in
+returns c =
+    let s5 = c .before in
     let s4 = s5 .before in
     let s3 = s4 .before in
     let s2 = s3 .before in
     let s1 = s2 .before in
     let p = s1 .before in
-    multiples-of (at (p .before .args .row)) _ _ _ _ _ _ _ b (p .packed .ensures .0) (s2 .shift2 .ensures) (s3 .shift3 .ensures) (s4 .shift4 .ensures)
-    (s1 .shift .ensures) (s5 .shift5 .ensures) (c .shift6 .ensures))
+    multiples-of (λ j. at (p .before .args .row) j % 128) _ _ _ _ _ _ _ (λ j h. mod-lt _ (omega arith)) (p .symbols .ensures) (s2 .shift2 .ensures) (s3 .shift3 .ensures) (s4 .shift4 .ensures)
+    (s1 .shift .ensures) (s5 .shift5 .ensures) (c .shift6 .ensures)
 
 pub multiples-spec : {M : Type 1} → statement M
 multiples-spec =
     tie.close
     (tie.spec
-    packed-requires
+    symbols-requires
     shift-requires
     shift-requires-2
     shift-requires-3

@@ -1,7 +1,10 @@
 -- `field::row::unpacked` meets its contract. Assumes nothing.
 use borrow.Author.Needs.{needs}
-use mathlib.Core.Path.{_∙_}
-use Rattle.field.proofs.Packing.{digits-of, six-of}
+use mathlib.Core.Path.{_≡_, _∙_}
+use Prim.Native.Nat.{ℕ, _/_, _%_}
+use native.Mathlib.Omega.{arith}
+use Rattle.field.specs.Lanes.{lane}
+use Rattle.field.proofs.Packing.{six-of}
 use Rattle.field.proofs.row.unpacked.Statement.{statement}
 use Rattle.field.proofs.row.unpacked.Tie as tie
 
@@ -24,15 +27,15 @@ byte-requires-6 : tie.Need-byte-requires-6
 byte-requires-6 c κs = search needs
 
 returns : tie.Need-returns
-returns c = λ f b e.
-    (let b5 = c .before in
+returns c =
+    let b5 = c .before in
     let b4 = b5 .before in
     let b3 = b4 .before in
     let b2 = b3 .before in
     let b1 = b2 .before in
-    let d = digits-of f _ b e in
-    six-of f (b1 .byte .ensures ∙ d .0) (b2 .byte2 .ensures ∙ d .1) (b3 .byte3 .ensures ∙ d .2) (b4 .byte4 .ensures ∙ d .3)
-    (b5 .byte5 .ensures ∙ d .4) (c .byte6 .ensures ∙ d .5))
+    let a : ℕ = b1 .before .args .a in
+    let one : a % 256 ≡ a / 1 % 256 = omega arith in
+    six-of (lane a) (b1 .byte .ensures ∙ one) (b2 .byte2 .ensures) (b3 .byte3 .ensures) (b4 .byte4 .ensures) (b5 .byte5 .ensures) (c .byte6 .ensures)
 
 pub unpacked-spec : {M : Type 1} → statement M
 unpacked-spec =
