@@ -20,6 +20,28 @@ fn block_below(xs: &[u8], i: usize, q: u8) -> bool
     eight(xs, i) & (0x0101010101010101 * (256 - q as u64)) == 0
 }
 
+// Is every byte below q? A yes holds; a no is given also where the list has fewer than eight. The last eight bytes come first, so that no byte
+// is left over, and what is found is looked at once.
+fn all_below(xs: &[u8], q: u8) -> bool
+    ensures { λ r. ⌜ (r ≡ true → (p : ℕ) → p < length (now (xs .entry)) → at (now (xs .entry)) p < q) ⌝ }
+{
+    let n = xs.len();
+    if n < 8 {
+        return false;
+    }
+    if q == 0 {
+        return false;
+    }
+    let mask = 0x0101010101010101 * (256 - q as u64);
+    let mut found = eight(xs, n - 8) & mask;
+    let mut p: usize = 0;
+    while 8 <= n - p {
+        found = found | (eight(xs, p) & mask);
+        p += 8;
+    }
+    found == 0
+}
+
 // A place, from i on, before which every byte from i on is below q: after the last block of eight that is.
 pub fn pass_below(xs: &[u8], i: usize, q: u8) -> usize
     requires { ⌜ i ≤ length (now xs) ⌝ }
@@ -34,6 +56,16 @@ pub fn pass_below(xs: &[u8], i: usize, q: u8) -> usize
         }
     }
     p
+}
+
+// The same from the first byte on: the end, where every byte is below q.
+pub fn pass_all_below(xs: &[u8], q: u8) -> usize
+    ensures { λ r. ⌜ Run (λ p. at (now (xs .entry)) p < q) 0 (length (now (xs .entry))) r ⌝ }
+{
+    if all_below(xs, q) {
+        return xs.len();
+    }
+    pass_below(xs, 0, q)
 }
 
 // A place, from i on, before which the two lists agree from i on: after the last block of eight in which they do.

@@ -5,13 +5,14 @@ ghost use Rattle.code.specs.Call.{allZero};
 ghost use Rattle.code.specs.Erasure.{member, distinct, symbolsFrom};
 ghost use Prim.Native.Nat.{_≤_};
 ghost use lib.ListN.{length};
+use crate::block::pass_all_below;
 use crate::block::pass_below;
 
 // Is every symbol below n?
 pub fn below(xs: &[u8], n: u8) -> bool
     ensures { λ r. ⌜ r ≡ allBelow n (now (xs .entry)) ⌝ }
 {
-    let mut i = pass_below(xs, 0, n);
+    let mut i = pass_all_below(xs, n);
     while i < xs.len() {
         if xs[i] < n {
             i += 1;
@@ -64,7 +65,7 @@ pub(crate) fn symbols_below(word: &[u8], erasures: &[u8], q: u8) -> bool
     requires { ⌜ length (now word) ≤ 256 ⌝ }
     ensures { λ r. ⌜ r ≡ symbolsFrom q (now (erasures .entry)) 0 (now (word .entry)) ⌝ }
 {
-    let mut i = pass_below(word, 0, q);
+    let mut i = pass_all_below(word, q);
     while i < word.len() {
         if q <= word[i] {
             if contains(erasures, i as u8) {} else {

@@ -20,7 +20,7 @@ set-more P i x ws l e h m b = go (ℕ-discrete m i)
     go (no q) = subst (P m) (sym (getD-set-other ws i m x 0 q)) (h m (omega (arith, q)))
 
 -- the first i numbers of ws are cut at p
-abbrev pub Cut : ℕ → List ℕ → ℕ → List ℕ → Type 0
+abbrev Cut : ℕ → List ℕ → ℕ → List ℕ → Type 0
 Cut p ws i us = (m : ℕ) → m < i → (at us (2 * m) ≡ at ws m % p) × (at us (2 * m + 1) ≡ at ws m / p)
 
 pub cut-more : (p i : ℕ) (ws us : List ℕ) → i < 8 → length us ≡ 16 → Cut p ws i us

@@ -20,10 +20,10 @@ pub F : IsField 7
 F = fieldAt seven
 
 -- the digits that stay, moved up by k, and the k digits that leave
-abbrev pub staying : ℕ → ℕ → ℕ
+abbrev staying : ℕ → ℕ → ℕ
 staying k b = bitAnd b (127 / 2 ^ k) * 2 ^ k
 
-abbrev pub leaving : ℕ → ℕ → ℕ
+abbrev leaving : ℕ → ℕ → ℕ
 leaving k b = bitAnd b (127 - 127 / 2 ^ k) / 2 ^ (7 - k)
 
 abbrev multiplied : ℕ → ℕ → ℕ
@@ -119,7 +119,7 @@ module _ (k n : ℕ) (f : ℕ → ℕ) (hk : k ≤ 4) (hn : n ≤ 8) (b : Below 
       ∙ ap (λ (x : ℕ). x % 18446744073709551616) (sym (lanes-times n 8 (λ j. leaving k (f j))))
       ∙ lanes-64 n (λ j. leaving k (f j) * 8) hn (λ j h. omega (arith, each j h .leaves))
 
-  pub lanewise : shifted k (lanes n f) ≡ lanes n (λ j. product 7 (power 7 α k) (f j))
+  lanewise : shifted k (lanes n f) ≡ lanes n (λ j. product 7 (power 7 α k) (f j))
   lanewise =
       ap₂ add (ap₂ add stays leaves ∙ lanes-add n _ _ (λ j h. omega (arith, each j h .stays)) (λ j h. omega (arith, each j h .leaves))) comes
       ∙ lanes-add n (λ j. add (staying k (f j)) (leaving k (f j))) (λ j. leaving k (f j) * 8)

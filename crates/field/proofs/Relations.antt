@@ -27,7 +27,7 @@ term d p x = product 7 (power 7 α (d * p)) x
 -- ---- the relation
 
 -- s, and x counted at each place t + b
-pub terms : ℕ → ℕ → ℕ → ℕ → List ℕ → ℕ
+terms : ℕ → ℕ → ℕ → ℕ → List ℕ → ℕ
 terms s d t x [] = s
 terms s d t x (b ∷ bs) = add (terms s d t x bs) (term d (t + b) x)
 
@@ -43,7 +43,7 @@ terms-powers s d t x (b ∷ bs) =
     exponent : d * (t + b) ≡ d * t + d * b
     exponent = omega arith
 
-pub relation : (s d a t x : ℕ) (bs : List ℕ) → power 7 α (d * a) ≡ powers d bs → terms s d t x bs ≡ add s (term d (t + a) x)
+relation : (s d a t x : ℕ) (bs : List ℕ) → power 7 α (d * a) ≡ powers d bs → terms s d t x bs ≡ add s (term d (t + a) x)
 relation s d a t x bs r =
     terms-powers s d t x bs
     ∙ ap (add s) (sym (ap (λ (e : ℕ). product 7 (power 7 α e) x) exponent ∙ power-apply (d * t) (d * a) x
@@ -89,7 +89,7 @@ module _ (v : ℕ → ℕ) (additive : Additive v) (d : ℕ) where
   total-before n p y ws h =
       sum-cong n _ _ (λ i l. ap (λ (z : ℕ). term d i (v z)) (getD-set-other ws p i y 0 (λ e. omega arith)))
 
-  pub total-added : (n p x : ℕ) (ws : List ℕ) → p < n → p < length ws
+  total-added : (n p x : ℕ) (ws : List ℕ) → p < n → p < length ws
       → total v d n (set ws p (add (at ws p) x)) ≡ add (total v d n ws) (term d p (v x))
   unfolding sum
   total-added zero p x ws h l = absurd (not-suc-le-zero h)
@@ -167,7 +167,7 @@ module _ (v : ℕ → ℕ) (additive : Additive v) (d : ℕ) where
       e7 = omega (arith, hp, hs)
 
   -- a number that is 0 counts nothing
-  pub zero-value : v 0 ≡ 0
+  zero-value : v 0 ≡ 0
   zero-value = ap v (sym (F .add-self 0)) ∙ additive 0 0 ∙ F .add-self (v 0)
 
   -- the numbers that are left, and a 0

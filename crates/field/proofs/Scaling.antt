@@ -79,7 +79,7 @@ module _ (k : ℕ) (f : ℕ → ℕ) where
     partial (suc i) h = one-more i _ _ _ (partial i (omega arith)) (M i (omega arith)) refl
 
     -- those of the multiples that the digits of k name are k times the row
-    pub multiple-named : k < 128 → named k ms ≡ lanes 6 (λ j. product 7 k (f j))
+    multiple-named : k < 128 → named k ms ≡ lanes 6 (λ j. product 7 k (f j))
     multiple-named l = partial 7 (omega arith) ∙ lanes-cong 6 _ _ (λ j i. whole k (f j) l)
 
     pub multiple-row : (row : List ℕ) → k < 128 → six (λ j. add (at row j) (lane (named k ms) j)) ≡ six (λ j. add (at row j) (product 7 k (f j)))

@@ -21,7 +21,7 @@ use Rattle.field.proofs.Relations.{term}
 
 -- ---- values take sums to sums, and give symbols
 
-pub additive-half : (k d : ℕ) (v : ℕ → ℕ) → Additive v → Additive (half (2 ^ k) d v)
+additive-half : (k d : ℕ) (v : ℕ → ℕ) → Additive v → Additive (half (2 ^ k) d v)
 unfolding add
 additive-half k d v a x y =
     ap₂ add (ap v (xor-mod x y k) ∙ a _ _) (ap (product 7 (power 7 α d)) (ap v (xor-shr x y k) ∙ a _ _) ∙ F .product-add _ _ _)
@@ -30,17 +30,17 @@ additive-half k d v a x y =
     regroup : (p q r s : ℕ) → add (add p q) (add r s) ≡ add (add p r) (add q s)
     regroup p q r s = simp (F .add-assoc, F .add-left-comm)
 
-pub additive-single : Additive single
+additive-single : Additive single
 unfolding add
 additive-single x y = xor-mod x y 7
 
-pub additive-pair : (e : ℕ) → Additive (pair e)
+additive-pair : (e : ℕ) → Additive (pair e)
 additive-pair e = additive-half 8 e single additive-single
 
-pub additive-quad : (e : ℕ) → Additive (quad e)
+additive-quad : (e : ℕ) → Additive (quad e)
 additive-quad e = additive-half 16 (2 * e) (pair e) (additive-pair e)
 
-pub additive-octet : (e : ℕ) → Additive (octet e)
+additive-octet : (e : ℕ) → Additive (octet e)
 additive-octet e = additive-half 32 (4 * e) (quad e) (additive-quad e)
 
 -- a sum by halves
@@ -73,7 +73,7 @@ values-one e f b = ap (λ (x : ℕ). x % 128) plain ∙ sym (weighted-one e (λ 
     plain : 0 * 256 + f 0 ≡ f 0
     plain = omega arith
 
-pub values-eight : (e : ℕ) → Values 8 e (octet e)
+values-eight : (e : ℕ) → Values 8 e (octet e)
 values-eight e = values-half 4 32 e (quad e) refl (values-half 2 16 e (pair e) refl values-two)
   where
     once : 1 * e ≡ e

@@ -14,13 +14,13 @@ Inv-loop xs n i₀ i = allBelow n xs ≡ allBelow n (drop i xs)
 abbrev μ-loop : tie.MeasureT-loop
 μ-loop xs n i₀ i = length xs - i
 
-pass-below-requires : tie.Need-pass-below-requires Inv-loop μ-loop
-pass-below-requires c κs = search needs
+pass-all-below-requires : tie.Need-pass-all-below-requires Inv-loop μ-loop
+pass-all-below-requires c κs = search needs
 
 loop-holds : tie.Need-loop-holds Inv-loop μ-loop
 loop-holds c =
     let s = c .before .before .args in
-    allBelow-run (s .n) (s .xs .now) 0 (c .pass-below .result) (c .pass-below .ensures) refl
+    allBelow-run (s .n) (s .xs .now) 0 (c .pass-all-below .result) (c .pass-all-below .ensures) refl
 
 shared-slice-read-if1 : tie.Need-shared-slice-read-if1 Inv-loop μ-loop
 shared-slice-read-if1 c = search needs
@@ -46,7 +46,7 @@ below-spec =
     (tie.spec
     Inv-loop
     μ-loop
-    pass-below-requires
+    pass-all-below-requires
     loop-holds
     shared-slice-read-if1
     add-i

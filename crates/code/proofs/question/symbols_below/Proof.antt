@@ -15,13 +15,13 @@ Inv-loop word erasures q i₀ i = (i ≤ length word) × (symbolsFrom q erasures
 abbrev μ-loop : tie.MeasureT-loop
 μ-loop word erasures q i₀ i = length word - i
 
-pass-below-requires : tie.Need-pass-below-requires Inv-loop μ-loop
-pass-below-requires c κs = search needs
+pass-all-below-requires : tie.Need-pass-all-below-requires Inv-loop μ-loop
+pass-all-below-requires c κs = search needs
 
 loop-holds : tie.Need-loop-holds Inv-loop μ-loop
 loop-holds c =
     let s = c .before .before .before .args in
-    let a = c .pass-below in
+    let a = c .pass-all-below in
     (a .ensures .within, symbols-run (s .q) (s .erasures .now) (s .word .now) 0 (a .result) (a .ensures) refl)
 
 shared-slice-read-if1 : tie.Need-shared-slice-read-if1 Inv-loop μ-loop
@@ -39,8 +39,8 @@ returns c = search (needs, symbols-stop)
 add-pass-below : tie.Need-add-pass-below Inv-loop μ-loop
 add-pass-below c = search needs
 
-pass-below-requires-2 : tie.Need-pass-below-requires-2 Inv-loop μ-loop
-pass-below-requires-2 c κs = search needs
+pass-below-requires : tie.Need-pass-below-requires Inv-loop μ-loop
+pass-below-requires c κs = search needs
 
 loop-less : tie.Need-loop-less Inv-loop μ-loop
 loop-less c = search needs
@@ -52,7 +52,7 @@ loop-again c =
     let w = s .word .now in
     let es = s .erasures .now in
     let i : ℕ = l .loop .i in
-    let a = c .pass-below2 in
+    let a = c .pass-below in
     let next : symbolsFrom (s .q) es 0 w ≡ symbolsFrom (s .q) es (i + 1) (drop (i + 1) w) =
     ⊎-elim (λ v. search (needs, symbols-erased)) (λ v. search (needs, symbols-on)) (c .before .if1 .came)
     in
@@ -67,14 +67,14 @@ symbols-below-spec =
     (tie.spec
     Inv-loop
     μ-loop
-    pass-below-requires
+    pass-all-below-requires
     loop-holds
     shared-slice-read-if1
     cast-contains
     contains-requires
     returns
     add-pass-below
-    pass-below-requires-2
+    pass-below-requires
     loop-less
     loop-again
     returns-2)
