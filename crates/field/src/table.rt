@@ -273,8 +273,8 @@ pub(crate) fn power_of_alpha(e: Exponent) -> u8
     POWERS[i]
 }
 
-// The powers 0 to 4 of α^e at width 7. No entry point: it requires that e is below 127. The table is named once, since each use of a constant array copies it; of the exponents below 127
-// alone, since what is never read is not copied.
+// The powers 0 to 4 of α^e at width 7. No entry point: it requires that e is below 127. The table is named once, since each use of a constant
+// array copies it; of the exponents below 127 alone, since what is never read is not copied.
 pub fn first_powers(e: Exponent) -> [u8; 5]
     requires { ⌜ e .0 < 127 ⌝ }
     ensures { λ r.
