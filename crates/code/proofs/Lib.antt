@@ -49,3 +49,4 @@ pub mod BesideWays  -- the ways out of the search beside erasures
 pub mod CheckPlaces  -- the check places that come into question beside erasures
 -- and what is restored
 pub mod Repairing  -- from a search to the contract of the restorer: `restores-clean`, `restores-found`, `restores-none`
+pub mod Writing

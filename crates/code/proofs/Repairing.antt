@@ -75,7 +75,7 @@ module _ (n c : ℕ) (xs zs : List ℕ) (lx : c ≤ length xs) (lz : c ≤ lengt
       (allBelow-means n (take c xs) b (i - 1) (omega (arith, length-take-le c xs lx)))
 
   -- the part from i - 1 on of the first c entries
-  part : (ys : List ℕ) → c ≤ length ys → drop (i - 1) (take c ys) ≡ getD ys (i - 1) 0 ∷ drop i (take c ys)
+  pub part : (ys : List ℕ) → c ≤ length ys → drop (i - 1) (take c ys) ≡ getD ys (i - 1) 0 ∷ drop i (take c ys)
   part ys l =
       let back : suc (i - 1) ≡ i = omega arith in
       drop-cons (take c ys) (i - 1) 0 (omega (arith, length-take-le c ys l))
