@@ -121,6 +121,7 @@ module _ {m : ℕ} {w : List ℕ} {t : Trial} (R : Ready m w t) (none : tried t 
     amends-corrects n h c A =
         record {
           below = subst (λ (xs : List ℕ). allBelow (places m) xs ≡ true) (sym (A .places)) bs;
+          distinct = subst (λ (xs : List ℕ). distinct xs ≡ true) (sym (A .places)) ds;
           codeword = word;
           extra = ls;
           few = h;

@@ -284,7 +284,15 @@ module _ (m : ℕ) (t : Trial) (few : t .count ≤ unknowns) (a : List (List ℕ
   attempted f S = record {
     none = λ e. tried-none (means e);
     one = λ e. (let O = tried-one (means e) in
-        record { below = R .lent .below; codeword = O .codeword; extra = []; few = le-refl 0; agrees = O .agrees; only = O .only });
+        record {
+          below = R .lent .below;
+          distinct = R .lent .distinct;
+          codeword = O .codeword;
+          extra = [];
+          few = le-refl 0;
+          agrees = O .agrees;
+          only = O .only;
+        });
     several = λ e. record { extra = []; few = le-refl 0; two = tried-several (means e) };
   }
     where

@@ -108,7 +108,15 @@ pub searched-last : {m : ℕ} {w ls : List ℕ} {n r : ℕ} {Far Other : Type 0}
 searched-last h o S = record {
   none = λ g. o (S .none g);
   one = λ g. let C = S .one g in
-      record { below = C .below; codeword = C .codeword; extra = C .extra; few = le-trans (C .few) h; agrees = C .agrees; only = C .only };
+      record {
+        below = C .below;
+        distinct = C .distinct;
+        codeword = C .codeword;
+        extra = C .extra;
+        few = le-trans (C .few) h;
+        agrees = C .agrees;
+        only = C .only;
+      };
   several = λ g. let A = S .several g in record { extra = A .extra; few = le-trans (A .few) h; two = A .two };
 }
 
@@ -128,6 +136,7 @@ searched-place m w t u n Far c p E S = record {
   one = λ g. (let C = T .one g in
       record {
         below = C .below;
+        distinct = C .distinct;
         codeword = C .codeword;
         extra = C .extra ++ (p ∷ []);
         few = more (C .extra) (C .few);

@@ -96,9 +96,11 @@ pub record SeveralAt (m : ℕ) (w ls : List ℕ) : Type 0 where
 
 -- ---- a search for a correction
 
--- the corrected word is the one codeword that agrees with w outside the places ls and certain extra ones, at most n
+-- the corrected word is the one codeword that agrees with w outside the places ls and certain extra ones, at most n; the places written are
+-- distinct
 pub record Corrects (m : ℕ) (w ls : List ℕ) (n : ℕ) (c : Correction) : Type 0 where
   pub below : allBelow (places m) (take (c .count) (c .places)) ≡ true
+  pub distinct : distinct (take (c .count) (c .places)) ≡ true
   pub codeword : Codeword m (corrected w c)
   pub extra : List ℕ
   pub few : length extra ≤ n
