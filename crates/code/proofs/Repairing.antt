@@ -5,9 +5,8 @@ use mathlib.Core.Logic.{_≢_}
 use mathlib.Core.Bool.{Bool, true, false, cond, _||_, or-true}
 use mathlib.Core.List.{List, [], _∷_, _++_}
 use Prim.Native.Nat.{ℕ, zero, suc, _+_, _-_, _≤_, _<_, zero-le}
-use native.Mathlib.Nat.{le-refl, le-trans, add-zero}
+use native.Mathlib.Nat.{le-refl, le-trans}
 use native.Mathlib.Decide.{decLt}
-use native.Mathlib.Numerals.{add-one}
 use native.Mathlib.Omega.{arith}
 use borrow.Author.Tests.{eq-eqb}
 use lib.Dec.{eqb}
@@ -20,7 +19,6 @@ use Rattle.field.specs.declared.Question.{Question}
 use Rattle.field.specs.declared.Verdict.{Verdict}
 use Rattle.field.specs.declared.Verdict.the-variants.{Passed, Refused as RefusedBy}
 use Rattle.field.proofs.Widths.{field-of, order-small}
-use Rattle.code.specs.Block.{Run}
 use Rattle.field.proofs.Below.{allBelow-means, allBelow-holds}
 use Rattle.field.proofs.Evaluation.{five-cong}
 use Rattle.code.specs.declared.Repair.{Repair}
@@ -34,7 +32,6 @@ use Rattle.code.specs.Call.{allZero, written, done, shown, Displays, dec
 use Rattle.code.specs.Demands.{Passes, PassesWithin, TwoNear}
 use Rattle.code.specs.Correction.{fill, Lent, tried, Ready, corrected, SeveralAt, Corrects, Ambiguous, NoneWithin, Workable}
 use Rattle.code.specs.Matrix.{unknowns}
-use Rattle.code.proofs.Loops.{run-on}
 use Rattle.code.proofs.Sums.{syndrome-cong}
 use Rattle.code.proofs.Unique.{differ-eq, differ-ne, differ-le}
 use Rattle.code.proofs.Filling.{Each, length-fill, fill-each, masked-lt, agrees-changes}
@@ -155,19 +152,6 @@ pub change-here : (t b : Bool) (x y : ℕ) → b ≡ t → b ≡ false → x ≢
 change-here t b x y e h n = sym (ap (λ (s : Bool). cond s 0 (differ x y)) (sym e ∙ h) ∙ differ-ne x y n)
 
 module _ (es w c : List ℕ) where
-  pub changes-none : 0 ≡ changesBelow 0 es w c
-  unfolding total
-  changes-none = refl
-
-  pub changes-on : (p k d : ℕ) → k ≡ changesBelow p es w c → d ≡ cond (member p es) 0 (differ (at w p) (at c p)) → k + d ≡ changesBelow (p + 1) es w c
-  unfolding total
-  changes-on p k d e f = ap₂ _+_ e f ∙ ap (λ (n : ℕ). changesBelow n es w c) (sym (add-one p))
-
-  pub changes-run : (p r k : ℕ) → Run (λ i. at w i ≡ at c i) p (length w) r → k ≡ changesBelow p es w c → k ≡ changesBelow r es w c
-  changes-run p r k =
-      run-on (λ i. k ≡ changesBelow i es w c) (λ i. at w i ≡ at c i) p (length w) r
-      (λ i h t e. sym (add-zero k) ∙ changes-on i k 0 e (change-same (member i es) (at w i) (at c i) t))
-
   -- no more changes than places
   pub changes-le : (n : ℕ) → changesBelow n es w c ≤ n
   unfolding total

@@ -11,7 +11,7 @@ use native.Mathlib.Omega.{arith}
 use lib.ListN.{length, getD, set, take, drop, drop-of-length-le}
 use lib.Seq.{length-take-le, getD-set-same, getD-set-other}
 use Rattle.field.specs.Question.{allBelow}
-use Rattle.sums.proofs.Below.{below-head, below-tail}
+use Rattle.field.proofs.Below.{below-head, below-tail}
 use Rattle.code.specs.Word.{at}
 use Rattle.code.specs.Erasure.{member, distinct, differ, total, changesBelow}
 use Rattle.code.specs.Correction.{fill}
@@ -92,11 +92,11 @@ written-end {c} {ps} {vs} {es} {w} {u} {k} {i} W z =
     let e : u ≡ fill w (take c ps) (take c vs) = W .word ∙ ap (λ (j : ℕ). fill w (drop j (take c ps)) (drop j (take c vs))) z in
     (e, W .changed ∙ ap (changesBelow (length w) es w) e)
 
+pub written-size : {c : ℕ} {ps vs es w u : List ℕ} {k i : ℕ} → Written c ps vs es w u k i → length u ≡ length w
+written-size W = ap length (W .word) ∙ length-fill _ _ _
+
 module _ {c : ℕ} {ps vs es w u : List ℕ} {k i : ℕ} (lp : c ≤ length ps) (lv : c ≤ length vs) (bs : allBelow (length w) (take c ps) ≡ true)
     (ds : distinct (take c ps) ≡ true) (W : Written c ps vs es w u k i) (h : 0 < i) where
-  pub written-size : length u ≡ length w
-  written-size = ap length (W .word) ∙ length-fill w _ _
-
   -- the next place
   abbrev p : ℕ
   p = getD ps (i - 1) 0
@@ -105,7 +105,7 @@ module _ {c : ℕ} {ps vs es w u : List ℕ} {k i : ℕ} (lp : c ≤ length ps) 
   v = getD vs (i - 1) 0
 
   pub written-below : p < length u
-  written-below = omega (arith, written-size, place-below (length w) c ps vs lp lv bs i h (W .within))
+  written-below = omega (arith, written-size W, place-below (length w) c ps vs lp lv bs i h (W .within))
 
   next : (ys : List ℕ) → c ≤ length ys → drop (i - 1) (take c ys) ≡ getD ys (i - 1) 0 ∷ drop i (take c ys)
   next = part (length w) c ps vs lp lv bs i h (W .within)
@@ -118,7 +118,7 @@ module _ {c : ℕ} {ps vs es w u : List ℕ} {k i : ℕ} (lp : c ≤ length ps) 
 
   module _ (d : ℕ) (e : d ≡ cond (member p es) 0 (differ (at u p) v)) where
     counted : k + d ≡ changesBelow (length w) es w (set u p v)
-    counted = changes-set (length w) es w u p v k d (omega (arith, written-size, written-below)) written-below still (W .changed) e
+    counted = changes-set (length w) es w u p v k d (omega (arith, written-size W, written-below)) written-below still (W .changed) e
 
     pub written-fits : k + d ≤ length w
     written-fits = omega (arith, counted, changes-le es w (set u p v) (length w))

@@ -10,7 +10,7 @@ ghost use Rattle.field.specs.Field.{order, product};
 ghost use Rattle.field.specs.Question.{isWidth, allBelow};
 ghost use Rattle.code.specs.Word.{checks, five, places, longest, at};
 ghost use Rattle.code.specs.Place.{column as columnM};
-ghost use Rattle.code.specs.Erasure.{member, differ, changesBelow, syndromesOf};
+ghost use Rattle.code.specs.Erasure.{member, distinct, differ, changesBelow, syndromesOf};
 ghost use Rattle.code.specs.Call.{allZero};
 ghost use Rattle.code.specs.Matrix.{rows, unknowns, columnOf};
 ghost use Rattle.code.specs.Correction.{fill, Lent, tried, Ready, SystemColumns, SystemMatrix, corrected};
@@ -352,23 +352,12 @@ fn change_at(erasures: &[u8], p: Place, x: u8, y: u8) -> u8
     1
 }
 
-// The number of places outside the erasures at which the words differ.
-pub fn count_changes(word: &[u8], other: &[u8], erasures: &[u8]) -> u8
-    requires { ⌜ (length (now word) ≡ length (now other)) × (length (now word) ≤ longest) ⌝ }
-    ensures { λ r. ⌜ r ≡ changesBelow (length (now (word .entry))) (now (erasures .entry)) (now (word .entry)) (now (other .entry)) ⌝ }
-{
-    let mut k: u8 = 0;
-    let mut p = pass_equal(word, other, 0);
-    while p < word.len() {
-        k += change_at(erasures, Place(p as u8), word[p], other[p]);
-        p = pass_equal(word, other, p + 1);
-    }
-    k
-}
-
-// Writes the corrected word, and counts the changes outside the erasures.
+// Writes the corrected word, at the places of the correction alone, and counts the changes outside the erasures.
 pub fn write(word: &mut [u8], erasures: &[u8], c: Correction) -> u8
-    requires { ⌜ (c .count ≤ unknowns) × (length (now word) ≤ longest) × (allBelow (length (now word)) (take (c .count) (c .places)) ≡ true) ⌝ }
+    requires { ⌜
+        (c .count ≤ unknowns) × (length (now word) ≤ longest) × (allBelow (length (now word)) (take (c .count) (c .places)) ≡ true)
+        × (distinct (take (c .count) (c .places)) ≡ true)
+        ⌝ }
     ensures { λ r.
         ⌜
         (now (word .exit) ≡ corrected (now (word .entry)) c)
@@ -376,11 +365,16 @@ pub fn write(word: &mut [u8], erasures: &[u8], c: Correction) -> u8
         ⌝ }
 {
     let places = c.places;
-    let count = c.count;
     let values = c.values;
-    let n = word.len();
-    let row = filled(copied(word), n, places, count, values);
-    let k = count_changes(word, &row[..n], erasures);
-    copy(word, &row[..n]);
+    let mut k: u8 = 0;
+    let mut i = c.count;
+    while 0 < i {
+        i -= 1;
+        let place = places[i];
+        let p = place as usize;
+        let value = values[i];
+        k += change_at(erasures, Place(place), word[p], value);
+        word[p] = value;
+    }
     k
 }

@@ -86,6 +86,7 @@ write-requires c κs =
       work (start (began s)) .short,
       subst (λ (n : ℕ). allBelow n (take (x .result .count) (x .result .places)) ≡ true) (sym (ready (began s) .lent .size))
           (found s .one e .below),
+      found s .one e .distinct,
     )
 
 enum-told-3 : tie.Need-enum-told-3
