@@ -15,7 +15,7 @@ use Rattle.field.specs.Question.{isWidth, allBelow}
 use Rattle.field.proofs.Laws.{IsField}
 use Rattle.field.proofs.Widths.{field-of, cubes-of}
 use Rattle.field.proofs.Evaluation.{five-at}
-use Rattle.code.specs.declared.restorer.Correction.{Correction}
+use Rattle.code.specs.declared.correction.Correction.{Correction}
 use Rattle.code.specs.Word.{checks, places, items, five, at}
 use Rattle.code.specs.Erasure.{member}
 use Rattle.code.specs.Near.{radius}
@@ -27,8 +27,8 @@ use Rattle.code.proofs.Points.{one-injective, two-injective}
 use Rattle.code.proofs.Extra.{within-agrees}
 use Rattle.code.proofs.Trying.{searched-none, searched-last}
 use Rattle.code.specs.declared.solver.Solutions.the-variants.{None}
-use Rattle.code.specs.declared.finder.Scan.{Scan}
-use Rattle.code.specs.declared.finder.Span.{Span}
+use Rattle.code.specs.declared.roots.Scan.{Scan}
+use Rattle.code.specs.declared.beside.Span.{Span}
 use Rattle.code.specs.Scan.{valueAt, Carried, Scanned}
 use Rattle.code.specs.Locate.{point}
 use Rattle.code.specs.Beside.{Injective, eliminate, Step, Arranged, Rows, OneRoot, NoneRoot, NoneData, Only, Between, Apart}

@@ -21,8 +21,8 @@ use Rattle.code.proofs.Algebra.{add-of-eq, power-times, square}
 use Rattle.code.proofs.Questions.{not-member-head, not-member-tail}
 use Rattle.code.proofs.Extra.{Falling, falling-le}
 use Rattle.code.specs.declared.place.Place.{Place}
-use Rattle.code.specs.declared.finder.Scan.{Scan}
-use Rattle.code.specs.declared.finder.Few.{Few}
+use Rattle.code.specs.declared.roots.Scan.{Scan}
+use Rattle.code.specs.declared.errors.Few.{Few}
 use Rattle.code.specs.Scan.{valueAt, Carried, Scanned}
 use Rattle.code.specs.Locate.{Zeros, point, Ratio, TwoErrors, full, Lists}
 use Rattle.code.proofs.Pattern.{falling-out, falling-at}

@@ -15,11 +15,11 @@ use Rattle.field.proofs.Widths.{field-of}
 use Rattle.field.proofs.Below.{below-head}
 use Rattle.field.proofs.Evaluation.{five-at, five-cong}
 use Rattle.code.specs.declared.place.Place.{Place}
-use Rattle.code.specs.declared.restorer.Trial.{Trial}
-use Rattle.code.specs.declared.restorer.Correction.{Correction}
-use Rattle.code.specs.declared.finder.Scan.{Scan}
-use Rattle.code.specs.declared.finder.Few.{Few}
-use Rattle.code.specs.declared.finder.Pair.{Pair}
+use Rattle.code.specs.declared.trial.Trial.{Trial}
+use Rattle.code.specs.declared.correction.Correction.{Correction}
+use Rattle.code.specs.declared.roots.Scan.{Scan}
+use Rattle.code.specs.declared.errors.Few.{Few}
+use Rattle.code.specs.declared.errors.Pair.{Pair}
 use Rattle.code.specs.declared.solver.Solutions.the-variants.{None, One}
 use Rattle.code.specs.Word.{checks, five, places, items, at}
 use Rattle.code.specs.Place.{column}

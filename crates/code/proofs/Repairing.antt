@@ -23,8 +23,8 @@ use Rattle.field.proofs.Below.{allBelow-means, allBelow-holds}
 use Rattle.field.proofs.Evaluation.{five-cong}
 use Rattle.code.specs.declared.Repair.{Repair}
 use Rattle.code.specs.declared.Repair.the-variants.{Restored, Refused}
-use Rattle.code.specs.declared.restorer.Trial.{Trial}
-use Rattle.code.specs.declared.restorer.Correction.{Correction}
+use Rattle.code.specs.declared.trial.Trial.{Trial}
+use Rattle.code.specs.declared.correction.Correction.{Correction}
 use Rattle.code.specs.Word.{checks, five, places, at, syndrome, Codeword}
 use Rattle.code.specs.Erasure.{member, differ, total, changesBelow, changes, masked, maskedSyndrome, syndromesOf}
 use Rattle.code.specs.Near.{distance, Near, Restoration, none, one, several, restoration}

@@ -11,7 +11,7 @@ use Rattle.field.specs.Question.{allBelow}
 use Rattle.code.specs.Word.{checks, places, items}
 use Rattle.code.specs.Erasure.{member}
 use Rattle.code.specs.Correction.{NoneAt, NoneBeside}
-use Rattle.code.specs.declared.finder.Span.{Span}
+use Rattle.code.specs.declared.beside.Span.{Span}
 use Rattle.code.specs.Scan.{valueAt}
 use Rattle.code.specs.Locate.{point}
 

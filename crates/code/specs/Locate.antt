@@ -10,9 +10,9 @@ use lib.ListN.{length, getD, take}
 use Rattle.field.specs.Polynomial.{add}
 use Rattle.field.specs.Field.{order, product, power, inverse, α}
 use Rattle.field.specs.Question.{allBelow}
-use Rattle.code.specs.declared.restorer.Correction.{Correction}
-use Rattle.code.specs.declared.finder.Few.{Few}
-use Rattle.code.specs.declared.finder.Pair.{Pair}
+use Rattle.code.specs.declared.correction.Correction.{Correction}
+use Rattle.code.specs.declared.errors.Few.{Few}
+use Rattle.code.specs.declared.errors.Pair.{Pair}
 use Rattle.code.specs.Word.{checks, places, at}
 use Rattle.code.specs.Place.{column}
 use Rattle.code.specs.Erasure.{member}

@@ -4,7 +4,7 @@ use mathlib.Core.Logic.{_≢_}
 use Prim.Native.Nat.{ℕ, _*_, _≤_, _<_}
 use Rattle.field.specs.Polynomial.{add}
 use Rattle.field.specs.Field.{product, power, α}
-use Rattle.code.specs.declared.finder.Scan.{Scan}
+use Rattle.code.specs.declared.roots.Scan.{Scan}
 
 -- a·x² + b·x + c at x = α^i
 abbrev pub valueAt : ℕ → ℕ → ℕ → ℕ → ℕ → ℕ

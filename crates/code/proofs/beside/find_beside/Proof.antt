@@ -1,0 +1,65 @@
+-- `code::beside::find_beside` meets its contract. Assumes nothing.
+use borrow.Author.Needs.{needs}
+use Prim.Native.Nat.{zero-le}
+use native.Mathlib.Nat.{le-refl}
+use Rattle.field.proofs.Widths.{field-of}
+use Rattle.code.specs.Word.{at}
+use Rattle.code.proofs.Trying.{sums-at, searched-nothing, searched-found, searched-last}
+use Rattle.code.proofs.Beside.{none-beside}
+use Rattle.code.proofs.beside.find_beside.Statement.{statement}
+use Rattle.code.proofs.beside.find_beside.Tie as tie
+
+attempt-alone-requires : tie.Need-attempt-alone-requires
+attempt-alone-requires c κs = search needs
+
+solved-requires : tie.Need-solved-requires
+solved-requires c κs = search needs
+
+returns : tie.Need-returns
+returns c =
+    let y = c .before .solved in
+    let x = c .before .before .attempt-alone in
+    (x .ensures .0, λ R cube. searched-found zero-le (y .result) (y .ensures) (c .if1 .taken) (x .ensures .1 _ R))
+
+try-data-requires : tie.Need-try-data-requires
+try-data-requires c κs = search needs
+
+solved-requires-2 : tie.Need-solved-requires-2
+solved-requires-2 c κs = search needs
+
+returns-2 : tie.Need-returns-2
+returns-2 c =
+    let y = c .before .solved2 in
+    let x = c .before .before .try-data in
+    (x .ensures .0, λ R cube. searched-found (le-refl 1) (y .result) (y .ensures) (c .if2 .taken) (x .ensures .1 R cube))
+
+try-checks-requires : tie.Need-try-checks-requires
+try-checks-requires c κs = search needs
+
+returns-3 : tie.Need-returns-3
+returns-3 c =
+    let l2 = c .before in
+    let d = l2 .before .before in
+    let l1 = d .before in
+    let x = l1 .before .before in
+    let a = x .before .before .args in (
+      c .try-checks .ensures .0,
+      λ R cube. searched-last (le-refl 1)
+          (λ checks. none-beside (field-of (a .width) (R .width)) (R .lent) (at (a .t .sums)) (sums-at R)
+          (x .attempt-alone .ensures .1 _ R .none (searched-nothing (x .attempt-alone .result) _ (l1 .before .solved .ensures) (l1 .if1 .left))) checks
+          (d .try-data .ensures .1 R cube .none (searched-nothing (d .try-data .result) _ (l2 .before .solved2 .ensures) (l2 .if2 .left))))
+          (c .try-checks .ensures .1 R),
+    )
+
+pub find-beside-spec : {M : Type 1} → statement M
+find-beside-spec =
+    tie.close
+    (tie.spec
+    attempt-alone-requires
+    solved-requires
+    returns
+    try-data-requires
+    solved-requires-2
+    returns-2
+    try-checks-requires
+    returns-3)

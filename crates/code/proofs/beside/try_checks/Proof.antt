@@ -1,0 +1,79 @@
+-- `code::beside::try_checks` meets its contract. Assumes nothing.
+use borrow.Author.Needs.{needs}
+use Prim.Native.Nat.{_-_}
+use native.Mathlib.Nat.{le-refl}
+use Rattle.code.specs.Correction.{Ready, tried, NoneBeside}
+use Rattle.code.proofs.Loops.{Sought, sought-start, sought-on}
+use Rattle.code.proofs.Trying.{searched-none, searched-nothing, searched-found}
+use Rattle.code.proofs.CheckPlaces.{window-tried}
+use Rattle.code.proofs.beside.try_checks.Statement.{statement}
+use Rattle.code.proofs.beside.try_checks.Tie as tie
+
+abbrev Inv-loop : tie.InvT-loop
+Inv-loop width word t high p₀ p = Ready width word t → Sought (λ i. NoneBeside width word i (tried t)) p₀ p
+
+abbrev μ-loop : tie.MeasureT-loop
+μ-loop width word t high p₀ p = high - p
+
+window-beside-requires : tie.Need-window-beside-requires Inv-loop μ-loop
+window-beside-requires c κs = search needs
+
+loop-holds : tie.Need-loop-holds Inv-loop μ-loop
+loop-holds c = λ R. sought-start _ _
+
+try-place-requires : tie.Need-try-place-requires Inv-loop μ-loop
+try-place-requires c κs = search needs
+
+solved-requires : tie.Need-solved-requires Inv-loop μ-loop
+solved-requires c κs = search needs
+
+returns : tie.Need-returns Inv-loop μ-loop
+returns c =
+    let y = c .before .solved in
+    let x = c .before .before .try-place in
+    (x .ensures .0, λ R. searched-found (le-refl 1) (y .result) (y .ensures) (c .if1 .taken) (x .ensures .1 R))
+
+add-p : tie.Need-add-p Inv-loop μ-loop
+add-p c = search needs
+
+loop-less : tie.Need-loop-less Inv-loop μ-loop
+loop-less c = search needs
+
+loop-again : tie.Need-loop-again Inv-loop μ-loop
+loop-again c = λ R.
+    (let y = c .before .solved in
+    let x = c .before .before .try-place in
+    let l = c .before .before .before .before in
+    sought-on _ _ (l .loop .p) (l .loop .inv R)
+    (x .ensures .1 R .none (searched-nothing (x .result) (y .result) (y .ensures) (c .if1 .left))))
+
+nothing-requires : tie.Need-nothing-requires Inv-loop μ-loop
+nothing-requires c κs = search needs
+
+returns-2 : tie.Need-returns-2 Inv-loop μ-loop
+returns-2 c =
+    let l = c .before .before in
+    let f = l .before in
+    let a = f .before .before .args in (
+      c .nothing .ensures .0,
+      λ R. searched-none (c .nothing .ensures .1)
+          (window-tried (a .width) (a .word .now) (tried (a .t)) (f .window-beside .result .low) (f .window-beside .result .high) (l .loop .p)
+          (f .window-beside .ensures (a .word .now) R) (c .before .loop-test .left) (l .loop .inv R)),
+    )
+
+pub try-checks-spec : {M : Type 1} → statement M
+try-checks-spec =
+    tie.close
+    (tie.spec
+    Inv-loop
+    μ-loop
+    window-beside-requires
+    loop-holds
+    try-place-requires
+    solved-requires
+    returns
+    add-p
+    loop-less
+    loop-again
+    nothing-requires
+    returns-2)

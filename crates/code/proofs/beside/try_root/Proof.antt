@@ -1,0 +1,57 @@
+-- `code::beside::try_root` meets its contract. Assumes nothing.
+use borrow.Author.Needs.{needs}
+use mathlib.Core.Path.{ap}
+use native.Mathlib.Omega.{arith}
+use Rattle.code.specs.Correction.{tried}
+use Rattle.code.proofs.BesideWays.{root-out, root-place}
+use Rattle.code.proofs.beside.try_root.Statement.{statement}
+use Rattle.code.proofs.beside.try_root.Tie as tie
+
+items-of-requires : tie.Need-items-of-requires
+items-of-requires c κs = search needs
+
+first-root-requires : tie.Need-first-root-requires
+first-root-requires c κs = search needs
+
+nothing-requires : tie.Need-nothing-requires
+nothing-requires c κs = search needs
+
+returns : tie.Need-returns
+returns c =
+    let r = c .before .before .before .before in
+    let i = r .before .items-of in
+    let a = r .before .before .before .args in (
+      c .nothing .ensures .0,
+      λ R. root-out (a .width) (R .width) (a .word .now) (tried (a .t)) (a .square) (a .linear) (a .constant) _ (i .result)
+          (omega (arith, R .lent .size, i .ensures .0)) (r .first-root .result) (r .first-root .ensures .1) (c .nothing .ensures .1) (c .before .if1 .taken),
+    )
+
+place-of-requires : tie.Need-place-of-requires
+place-of-requires c κs = search needs
+
+try-place-requires : tie.Need-try-place-requires
+try-place-requires c κs = search needs
+
+returns-2 : tie.Need-returns-2
+returns-2 c =
+    let p = c .before in
+    let r = p .before .before .before .before in
+    let i = r .before .items-of in
+    let a = r .before .before .before .args in (
+      c .try-place .ensures .0,
+      λ R. root-place (a .width) (R .width) (a .word .now) (tried (a .t)) (a .square) (a .linear) (a .constant) _ (i .result)
+          (omega (arith, R .lent .size, i .ensures .0)) (r .first-root .result) (r .first-root .ensures .1) (p .place-of .result .0)
+          (ap (λ q. q .0) (p .place-of .ensures)) (c .try-place .ensures .1 R),
+    )
+
+pub try-root-spec : {M : Type 1} → statement M
+try-root-spec =
+    tie.close
+    (tie.spec
+    items-of-requires
+    first-root-requires
+    nothing-requires
+    returns
+    place-of-requires
+    try-place-requires
+    returns-2)

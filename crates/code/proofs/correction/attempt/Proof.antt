@@ -1,0 +1,22 @@
+-- `code::correction::attempt` meets its contract. Assumes nothing.
+use borrow.Author.Needs.{needs}
+use Rattle.code.proofs.Correcting.{attempted}
+use Rattle.code.proofs.correction.attempt.Statement.{statement}
+use Rattle.code.proofs.correction.attempt.Tie as tie
+
+matrix-of-requires : tie.Need-matrix-of-requires
+matrix-of-requires c κs = search needs
+
+solve-requires : tie.Need-solve-requires
+solve-requires c κs = search needs
+
+returns : tie.Need-returns
+returns c =
+    let s = c .before in
+    let a = s .before .before .before .before in (
+      a .pre,
+      λ w R. attempted (a .args .width) (a .args .t) (a .pre) _ (s .before .matrix-of .ensures) _ w R (s .solve .result .found) (s .solve .ensures),
+    )
+
+pub attempt-spec : {M : Type 1} → statement M
+attempt-spec = tie.close (tie.spec matrix-of-requires solve-requires returns)

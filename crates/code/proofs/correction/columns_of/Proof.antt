@@ -1,0 +1,67 @@
+-- `code::correction::columns_of` meets its contract: the first j columns are filled in. Assumes nothing.
+use borrow.Author.Needs.{needs}
+use mathlib.Core.Path.{_≡_, subst}
+use Prim.Native.Nat.{ℕ, _-_, _≤_}
+use native.Mathlib.Omega.{arith}
+use lib.ListN.{length, take}
+use Rattle.code.specs.Matrix.{unknowns}
+use Rattle.code.specs.Correction.{SystemColumns}
+use Rattle.code.proofs.Correcting.{columns-start, columns-on}
+use Rattle.code.proofs.correction.columns_of.Statement.{statement}
+use Rattle.code.proofs.correction.columns_of.Tie as tie
+
+abbrev Inv-loop : tie.InvT-loop
+Inv-loop width count places columns₀ j₀ columns j = (j ≤ count) × SystemColumns width (take j places) columns
+
+abbrev μ-loop : tie.MeasureT-loop
+μ-loop width count places columns₀ j₀ columns j = count - j
+
+loop-holds : tie.Need-loop-holds Inv-loop μ-loop
+loop-holds c = (omega arith, columns-start _ (c .args .t2))
+
+array-read-t12 : tie.Need-array-read-t12 Inv-loop μ-loop
+array-read-t12 c = search needs
+
+whole-column-requires : tie.Need-whole-column-requires Inv-loop μ-loop
+whole-column-requires c κs = search needs
+
+mul-columns : tie.Need-mul-columns Inv-loop μ-loop
+mul-columns c = search needs
+
+array-set-from-columns : tie.Need-array-set-from-columns Inv-loop μ-loop
+array-set-from-columns c = search needs
+
+add-j : tie.Need-add-j Inv-loop μ-loop
+add-j c = search needs
+
+loop-less : tie.Need-loop-less Inv-loop μ-loop
+loop-less c = search needs
+
+loop-again : tie.Need-loop-again Inv-loop μ-loop
+loop-again c =
+    let turn = c .before .before in
+    let a = turn .before .args in
+    let n : length (a .t2) ≡ unknowns = search needs in
+    (omega arith, columns-on _ (a .t2) (turn .loop .j) (omega (arith, turn .before .pre)) (turn .loop .inv .1) (omega (arith, turn .before .pre)) (c .whole-column .ensures))
+
+returns : tie.Need-returns Inv-loop μ-loop
+returns c =
+    let a = c .before .before .args in
+    let e : c .before .loop .j ≡ a .count = omega arith in
+    subst (λ (n : ℕ). SystemColumns (a .width) (take n (a .t2)) (c .before .loop .columns)) e (c .before .loop .inv .1)
+
+pub columns-of-spec : {M : Type 1} → statement M
+columns-of-spec =
+    tie.close
+    (tie.spec
+    Inv-loop
+    μ-loop
+    loop-holds
+    array-read-t12
+    whole-column-requires
+    mul-columns
+    array-set-from-columns
+    add-j
+    loop-less
+    loop-again
+    returns)

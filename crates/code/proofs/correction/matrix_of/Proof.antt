@@ -1,0 +1,80 @@
+-- `code::correction::matrix_of` meets its contract. Assumes nothing.
+use borrow.Author.Needs.{needs}
+use borrow.Kind.Array.{eInt, good-length}
+use mathlib.Core.Path.{refl}
+use native.Mathlib.Omega.{arith}
+use lib.ListN.{take}
+use Rattle.code.specs.Word.{at}
+use Rattle.code.specs.Correction.{SystemRow}
+use Rattle.code.proofs.Correcting.{each-row, system-row}
+use mir.Syntax.{w8}
+use Rattle.code.proofs.correction.matrix_of.Statement.{statement}
+use Rattle.code.proofs.correction.matrix_of.Tie as tie
+
+columns-of-requires : tie.Need-columns-of-requires
+columns-of-requires c κs = search needs
+
+array-read-row-at : tie.Need-array-read-row-at
+array-read-row-at c = search needs
+
+row-at-requires : tie.Need-row-at-requires
+row-at-requires c κs = search needs
+
+array-read-row-at-2 : tie.Need-array-read-row-at-2
+array-read-row-at-2 c = search needs
+
+row-at-requires-2 : tie.Need-row-at-requires-2
+row-at-requires-2 c κs = search needs
+
+array-read-row-at-3 : tie.Need-array-read-row-at-3
+array-read-row-at-3 c = search needs
+
+row-at-requires-3 : tie.Need-row-at-requires-3
+row-at-requires-3 c κs = search needs
+
+array-read-row-at-4 : tie.Need-array-read-row-at-4
+array-read-row-at-4 c = search needs
+
+row-at-requires-4 : tie.Need-row-at-requires-4
+row-at-requires-4 c κs = search needs
+
+array-read-row-at-5 : tie.Need-array-read-row-at-5
+array-read-row-at-5 c = search needs
+
+row-at-requires-5 : tie.Need-row-at-requires-5
+row-at-requires-5 c κs = search needs
+
+returns : tie.Need-returns
+returns c =
+    let r5 = c .before in
+    let r4 = r5 .before in
+    let r3 = r4 .before in
+    let r2 = r3 .before in
+    let made = r2 .before in
+    let a = made .before .args in
+    let s = made .columns-of .ensures in
+    record {
+      room = good-length (eInt w8) 5 (a .places) _ (made .before .good .1 .0);
+      tall = refl;
+      each = each-row (λ k row. SystemRow (a .width) (take (a .count) (a .places)) (at (a .t4) k) k row) _ _ _ _ _
+          (system-row s (omega arith) (r2 .row-at .ensures)) (system-row s (omega arith) (r3 .row-at2 .ensures))
+          (system-row s (omega arith) (r4 .row-at3 .ensures)) (system-row s (omega arith) (r5 .row-at4 .ensures))
+          (system-row s (omega arith) (c .row-at5 .ensures));
+    }
+
+pub matrix-of-spec : {M : Type 1} → statement M
+matrix-of-spec =
+    tie.close
+    (tie.spec
+    columns-of-requires
+    array-read-row-at
+    row-at-requires
+    array-read-row-at-2
+    row-at-requires-2
+    array-read-row-at-3
+    row-at-requires-3
+    array-read-row-at-4
+    row-at-requires-4
+    array-read-row-at-5
+    row-at-requires-5
+    returns)

@@ -1,0 +1,30 @@
+-- `code::trial::extended` meets its contract. Assumes nothing.
+use borrow.Author.Needs.{needs}
+use mathlib.Core.Path.{refl}
+use Rattle.code.proofs.Trying.{extended-symbol, extended-ready}
+use Rattle.code.proofs.trial.extended.Statement.{statement}
+use Rattle.code.proofs.trial.extended.Tie as tie
+
+prepended-requires : tie.Need-prepended-requires
+prepended-requires c κs = search needs
+
+add-t9 : tie.Need-add-t9
+add-t9 c = search needs
+
+masked-requires : tie.Need-masked-requires
+masked-requires c κs = search needs
+
+returns : tie.Need-returns
+returns c =
+    let a = c .before .before .before .before .args in
+    let e = c .before .prepended .ensures in (
+      refl,
+      λ w R h o ex. (
+        e,
+        extended-ready (a .width) w (a .t) _ (a .p .0) (a .x) R h o ex e
+            (c .masked .ensures (R .width) (extended-symbol (a .width) w (a .t) (a .t) (a .p .0) (a .x) R h o ex)),
+      ),
+    )
+
+pub extended-spec : {M : Type 1} → statement M
+extended-spec = tie.close (tie.spec prepended-requires add-t9 masked-requires returns)

@@ -1,0 +1,55 @@
+-- `code::trial::masked_sums` meets its contract. Assumes nothing.
+use borrow.Author.Needs.{needs}
+use mathlib.Core.Path.{_≡_, sym, _∙_}
+use mathlib.Core.List.{List, [], _∷_}
+use Prim.Native.Nat.{ℕ}
+use native.Mathlib.Omega.{arith}
+use lib.ListN.{length, take}
+use lib.Seq.{length-take-le}
+use Rattle.code.proofs.Repairing.{filled-word, filled-size, masked-sums, zero-values}
+use Rattle.code.proofs.trial.masked_sums.Statement.{statement}
+use Rattle.code.proofs.trial.masked_sums.Tie as tie
+
+-- the row is filled: its first bytes are as many as the word's
+abbrev start : tie.After-filled → tie.Start
+start s = s .before .before .before
+
+size : (s : tie.After-filled) → length (start s .args .word .now) ≡ length (take (length (start s .args .word .now)) (s .filled .result))
+size s = filled-size _ _ _ _ _ (s .before .copied .ensures) (s .filled .ensures)
+
+copied-requires : tie.Need-copied-requires
+copied-requires c κs = search needs
+
+filled-requires : tie.Need-filled-requires
+filled-requires c κs = search needs
+
+array-share-prefix-row : tie.Need-array-share-prefix-row
+array-share-prefix-row c = search needs
+
+slice-aggregate-syndromes : tie.Need-slice-aggregate-syndromes
+slice-aggregate-syndromes c = size (c .before)
+
+syndromes-requires : tie.Need-syndromes-requires
+syndromes-requires c κs = omega (arith, size (c .before), start (c .before) .pre)
+
+returns : tie.Need-returns
+returns c = λ v W.
+    (let s = c .before .before in
+    let a = start s .args in
+    let five : length (a .places) ≡ 5 = search needs in
+    let zs : List ℕ = take (a .count) (0 ∷ 0 ∷ 0 ∷ 0 ∷ 0 ∷ []) in
+    let same : length zs ≡ length (take (a .count) (a .places)) = length-take-le (a .count) (0 ∷ 0 ∷ 0 ∷ 0 ∷ 0 ∷ []) (omega (arith, start s .pre))
+    ∙ sym (length-take-le (a .count) (a .places) (omega (arith, start s .pre))) in
+    masked-sums (a .width) v (a .word .now) (take (a .count) (a .places)) zs _ W same (zero-values (a .count))
+    (filled-word _ _ _ _ _ (s .before .copied .ensures) (s .filled .ensures)) (c .syndromes .result) (c .syndromes .ensures v))
+
+pub masked-sums-spec : {M : Type 1} → statement M
+masked-sums-spec =
+    tie.close
+    (tie.spec
+    copied-requires
+    filled-requires
+    array-share-prefix-row
+    slice-aggregate-syndromes
+    syndromes-requires
+    returns)

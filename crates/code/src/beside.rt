@@ -1,0 +1,417 @@
+// One wrong place beside one or two erasures: a place that is named is tried. These functions are no entry points.
+ghost use mathlib.Core.Path.{_≡_};
+ghost use mathlib.Core.Logic.{_≢_};
+ghost use mathlib.Core.Bool.{true};
+ghost use mathlib.Core.List.{List, [], _∷_};
+ghost use Prim.Native.Nat.{ℕ, _+_, _≤_, _<_};
+ghost use lib.ListN.{length};
+ghost use Rattle.field.specs.Polynomial.{add};
+ghost use Rattle.field.specs.Field.{order, product, power};
+ghost use Rattle.field.specs.Question.{isWidth, allBelow};
+ghost use Rattle.code.specs.Word.{checks, five, longest, at};
+ghost use Rattle.code.specs.Matrix.{unknowns};
+ghost use Rattle.code.specs.Correction.{NoneAt, tried, Ready, NoneBeside, Searched, NoneWithin};
+ghost use Rattle.code.specs.Locate.{point};
+ghost use Rattle.code.specs.Beside.{Injective, eliminate, Arranged, NoneRoot, NoneCheck, NoneOutside, Tell, NoneData, Only, Between, Apart};
+use crate::correction::Correction;
+use crate::correction::attempt;
+use crate::correction::nothing;
+use crate::correction::solved;
+use crate::place::Place;
+use crate::place::column;
+use crate::place::place_of;
+use crate::roots::first_root;
+use crate::roots::items_of;
+use crate::solver::add_times;
+use crate::trial::Trial;
+use crate::trial::column_times;
+use crate::trial::extended;
+use crate::trial::listed;
+
+// The trial with the extra place p.
+fn try_place(width: u8, word: &[u8], t: Trial, p: Place) -> Correction
+    requires { ⌜ t .count < unknowns ⌝ }
+    ensures { λ r.
+        ⌜
+        (r .count ≤ unknowns)
+        × (Ready width (now (word .entry)) t
+        → Searched width (now (word .entry)) (tried t) 1 (NoneBeside width (now (word .entry)) (p .0) (tried t)) r)
+        ⌝ }
+{
+    let i = p.0 as usize;
+    let places = t.places;
+    let count = t.count;
+    if word.len() <= i {
+        return nothing();
+    }
+    if listed(places, count, p) {
+        return nothing();
+    }
+    attempt(width, extended(width, t, p, word[i]))
+}
+
+// The trial with the extra data place at which the quadratic is 0.
+fn try_root(width: u8, word: &[u8], t: Trial, square: u8, linear: u8, constant: u8) -> Correction
+    requires { ⌜ (t .count < unknowns) × (checks ≤ length (now word)) × (length (now word) ≤ longest) ⌝ }
+    ensures { λ r.
+        ⌜
+        (r .count ≤ unknowns)
+        × (Ready width (now (word .entry)) t
+        → Searched width (now (word .entry)) (tried t) 1 (NoneRoot width (now (word .entry)) (tried t) square linear constant) r)
+        ⌝ }
+{
+    let n = items_of(word);
+    let f = first_root(width, square, linear, constant, n);
+    let e = f.at;
+    if n <= e.0 {
+        return nothing();
+    }
+    try_place(width, word, t, place_of(e))
+}
+
+// Check places, from `low` on and below `high`. Syndromes at which no check place is wrong come from the erasures alone, and what is left of
+// them without these is 0: so what is left and is not 0 tells that the wrong one is among its syndromes.
+pub struct Window {
+    pub low: u8,
+    pub high: u8,
+}
+
+// The window's places among the n from k on, if x is not 0.
+fn narrowed(f: Window, k: u8, n: u8, x: u8) -> Window
+    requires { ⌜ k + n ≤ checks ⌝ }
+    ensures { λ r.
+        ⌜
+        (
+        (m : ℕ) (w es : List ℕ) → NoneOutside m w es (f .low) (f .high) → (x ≢ 0 → NoneOutside m w es k (k + n))
+        → NoneOutside m w es (r .low) (r .high)
+        )
+        ⌝ }
+{
+    if x == 0 {
+        return f;
+    }
+    let high = f.high;
+    let end = k + n;
+    if high < end {
+        return Window { low: k, high };
+    }
+    Window { low: k, high: end }
+}
+
+// The check places that are among the n from k on, for each row k that is not 0.
+fn window_of(rows: [u8; 5], n: u8) -> Window
+    requires { ⌜ (0 < n) × (n ≤ checks) ⌝ }
+    ensures { λ r. ⌜ ((m : ℕ) (w es : List ℕ) → Tell m w es n (at rows) → NoneOutside m w es (r .low) (r .high)) ⌝ }
+{
+    let end = 6 - n;
+    let mut f = Window { low: 0, high: 5 };
+    let mut k: u8 = 0;
+    while k < end {
+        f = narrowed(f, k, n, rows[k as usize]);
+        k += 1;
+    }
+    f
+}
+
+// The rows with the data place a eliminated: to each, times the point of a, the next is added.
+fn differences(width: u8, rows: [u8; 5], a: Place) -> [u8; 5]
+    ensures { λ r.
+        ⌜
+        (
+        isWidth width ≡ true → checks ≤ a .0 → ((k : ℕ) → k < checks → at rows k < order width)
+        → r ≡ five (eliminate width 1 (point width (a .0)) (at rows))
+        )
+        ⌝ }
+{
+    let by = [rows[0], rows[1], rows[2], rows[3], rows[4], 0];
+    let next = [rows[1], rows[2], rows[3], rows[4], 0, 0];
+    let r = add_times(width, next, column(width, a, 1), by);
+    [r[0], r[1], r[2], r[3], r[4]]
+}
+
+// The check places that come into question beside the erased place p. The syndrome of an erased check place tells nothing.
+fn window_one(width: u8, t: Trial, p: Place) -> Window
+    ensures { λ r. ⌜ ((w : List ℕ) → Ready width w t → tried t ≡ p .0 ∷ [] → NoneOutside width w (tried t) (r .low) (r .high)) ⌝ }
+{
+    let mut rows = t.sums;
+    let i = p.0;
+    if 5 <= i {
+        return window_of(differences(width, rows, p), 2);
+    }
+    rows[i as usize] = 0;
+    window_of(rows, 1)
+}
+
+// The same beside the erased places p and q.
+fn window_two(width: u8, t: Trial, p: Place, q: Place) -> Window
+    ensures { λ r. ⌜ ((w : List ℕ) → Ready width w t → tried t ≡ p .0 ∷ q .0 ∷ [] → NoneOutside width w (tried t) (r .low) (r .high)) ⌝ }
+{
+    let sums = t.sums;
+    if 5 <= p.0 {
+        if 5 <= q.0 {
+            return window_of(differences(width, differences(width, sums, p), q), 3);
+        }
+    }
+    Window { low: 0, high: 5 }
+}
+
+// The same beside the erasures.
+fn window_beside(width: u8, t: Trial) -> Window
+    ensures { λ r. ⌜ ((w : List ℕ) → Ready width w t → NoneOutside width w (tried t) (r .low) (r .high)) ⌝ }
+{
+    let places = t.places;
+    let count = t.count;
+    let p = places[0];
+    let q = places[1];
+    if count == 1 {
+        return window_one(width, t, Place(p));
+    }
+    if count == 2 {
+        return window_two(width, t, Place(p), Place(q));
+    }
+    Window { low: 0, high: 5 }
+}
+
+// A check place outside the window, or 5 where there is none.
+fn left_out(f: Window) -> u8
+    ensures { λ r. ⌜ (r < checks → (f .low ≤ r → r < f .high → ⊥)) ⌝ }
+{
+    if 0 < f.low {
+        return 0;
+    }
+    if f.high < 5 {
+        return 4;
+    }
+    5
+}
+
+// Do the erasures alone tell of no codeword? So it is where a check place that is not erased is outside the window: what rules the place
+// out rules out that nothing is wrong, too.
+fn is_hopeless(width: u8, t: Trial) -> bool
+    requires { ⌜ t .count ≤ unknowns ⌝ }
+    ensures { λ r. ⌜ (r ≡ true → (w : List ℕ) → Ready width w t → NoneAt width w (tried t)) ⌝ }
+{
+    let b = left_out(window_beside(width, t));
+    let places = t.places;
+    let count = t.count;
+    if b < 5 {
+        return !listed(places, count, Place(b));
+    }
+    false
+}
+
+// The trial with an extra check place that comes into question.
+fn try_checks(width: u8, word: &[u8], t: Trial) -> Correction
+    requires { ⌜ t .count < unknowns ⌝ }
+    ensures { λ r.
+        ⌜
+        (r .count ≤ unknowns)
+        × (Ready width (now (word .entry)) t
+        → Searched width (now (word .entry)) (tried t) 1 (NoneCheck width (now (word .entry)) (tried t)) r)
+        ⌝ }
+{
+    let f = window_beside(width, t);
+    let high = f.high;
+    let mut p = f.low;
+    while p < high {
+        let c = try_place(width, word, t, Place(p));
+        if solved(c) {
+            return c;
+        }
+        p += 1;
+    }
+    nothing()
+}
+
+// Rows `from` and `from` + gap.
+pub struct Span {
+    pub gap: u8,
+    pub from: u8,
+}
+
+// Rows beside the erased check places c and d, c not above d; 5 stands for none.
+fn rows_between(c: u8, d: u8) -> Span
+    requires { ⌜ c ≤ d ⌝ }
+    ensures { λ r. ⌜ Between c d r ⌝ }
+{
+    if 2 <= c {
+        return Span { gap: 1, from: 0 };
+    }
+    if d <= 2 {
+        return Span { gap: 1, from: 3 };
+    }
+    if c == 0 {
+        return Span { gap: 1, from: 1 };
+    }
+    if d == 4 {
+        return Span { gap: 1, from: 2 };
+    }
+    Span { gap: 2, from: 0 }
+}
+
+// Rows from which a data place is eliminated, the gap apart, beside the erased check place c; 5 stands for none.
+fn rows_beside(c: u8) -> Span
+    ensures { λ r. ⌜ Apart c r ⌝ }
+{
+    match c {
+        0 => Span { gap: 1, from: 1 },
+        1 => Span { gap: 1, from: 2 },
+        2 => Span { gap: 3, from: 0 },
+        _ => Span { gap: 1, from: 0 },
+    }
+}
+
+// The trial with the extra data place of which the syndromes tell, beside the erased check places c and d.
+fn try_between(width: u8, word: &[u8], t: Trial, c: u8, d: u8) -> Correction
+    requires { ⌜ (c ≤ d) × (t .count < unknowns) × (checks ≤ length (now word)) × (length (now word) ≤ longest) ⌝ }
+    ensures { λ r.
+        ⌜
+        (r .count ≤ unknowns)
+        × (Ready width (now (word .entry)) t → allBelow checks (tried t) ≡ true → Only (tried t) c d
+        → Searched width (now (word .entry)) (tried t) 1 (NoneData width (now (word .entry)) (tried t) (at (t .sums))) r)
+        ⌝ }
+{
+    let sums = t.sums;
+    let s = rows_between(c, d);
+    let gap = s.gap as usize;
+    let k = s.from as usize;
+    let low = sums[k];
+    let high = sums[gap + k];
+    if gap == 1 {
+        try_root(width, word, t, 0, low, high)
+    } else {
+        try_root(width, word, t, low, 0, high)
+    }
+}
+
+// high, with h powers of the point of the data place a times low taken away.
+fn eliminated(width: u8, a: Place, h: u8, low: u8, high: u8) -> u8
+    ensures { λ r.
+        ⌜
+        (
+        isWidth width ≡ true → checks ≤ a .0 → low < order width
+        → r ≡ add high (product width (power width (point width (a .0)) h) low)
+        )
+        ⌝ }
+{
+    high ^ column_times(width, a, h, low)
+}
+
+// The same beside the erased data place a and the erased check place c; 5 stands for none.
+fn try_eliminated(width: u8, word: &[u8], t: Trial, a: Place, c: u8) -> Correction
+    requires { ⌜ (t .count < unknowns) × (checks ≤ length (now word)) × (length (now word) ≤ longest) ⌝ }
+    ensures { λ r.
+        ⌜
+        (r .count ≤ unknowns)
+        × (Ready width (now (word .entry)) t
+        → ((cs : List ℕ) → Arranged (tried t) (a .0 ∷ cs) → checks ≤ a .0 → allBelow checks cs ≡ true → Only cs c c → (c ≡ 2 → Injective width 3)
+        → Searched width (now (word .entry)) (tried t) 1 (NoneData width (now (word .entry)) (tried t) (at (t .sums))) r))
+        ⌝ }
+{
+    let sums = t.sums;
+    let s = rows_beside(c);
+    let h = s.gap;
+    let k = s.from as usize;
+    let j = h as usize + k;
+    let low = eliminated(width, a, h, sums[k], sums[j]);
+    let high = eliminated(width, a, h, sums[k + 1], sums[j + 1]);
+    try_root(width, word, t, 0, low, high)
+}
+
+// The same beside the erased data places a and c.
+fn try_between_two(width: u8, word: &[u8], t: Trial, a: Place, c: Place) -> Correction
+    requires { ⌜ (t .count < unknowns) × (checks ≤ length (now word)) × (length (now word) ≤ longest) ⌝ }
+    ensures { λ r.
+        ⌜
+        (r .count ≤ unknowns)
+        × (Ready width (now (word .entry)) t → tried t ≡ a .0 ∷ c .0 ∷ [] → checks ≤ a .0 → checks ≤ c .0
+        → Searched width (now (word .entry)) (tried t) 1 (NoneData width (now (word .entry)) (tried t) (at (t .sums))) r)
+        ⌝ }
+{
+    let sums = t.sums;
+    let v = differences(width, sums, a);
+    let u = differences(width, v, c);
+    try_root(width, word, t, 0, u[0], u[1])
+}
+
+// The same beside the two erasures p and q. Where a data place and p_2 are erased, cubing has to be one to one.
+fn try_beside_two(width: u8, word: &[u8], t: Trial, p: Place, q: Place) -> Correction
+    requires { ⌜ (t .count < unknowns) × (checks ≤ length (now word)) × (length (now word) ≤ longest) ⌝ }
+    ensures { λ r.
+        ⌜
+        (r .count ≤ unknowns)
+        × (Ready width (now (word .entry)) t → tried t ≡ p .0 ∷ q .0 ∷ [] → Injective width 3
+        → Searched width (now (word .entry)) (tried t) 1 (NoneData width (now (word .entry)) (tried t) (at (t .sums))) r)
+        ⌝ }
+{
+    let i = p.0;
+    let j = q.0;
+    if i < 5 {
+        if 5 <= j {
+            return try_eliminated(width, word, t, q, i);
+        }
+        if i <= j {
+            return try_between(width, word, t, i, j);
+        }
+        return try_between(width, word, t, j, i);
+    }
+    if j < 5 {
+        return try_eliminated(width, word, t, p, j);
+    }
+    try_between_two(width, word, t, p, q)
+}
+
+// The same beside the erasures, of which there are one or two.
+fn try_data(width: u8, word: &[u8], t: Trial) -> Correction
+    requires { ⌜ (0 < t .count) × (t .count ≤ 2) × (checks ≤ length (now word)) × (length (now word) ≤ longest) ⌝ }
+    ensures { λ r.
+        ⌜
+        (r .count ≤ unknowns)
+        × (Ready width (now (word .entry)) t → (t .count ≡ 2 → Injective width 3)
+        → Searched width (now (word .entry)) (tried t) 1 (NoneData width (now (word .entry)) (tried t) (at (t .sums))) r)
+        ⌝ }
+{
+    let count = t.count;
+    let places = t.places;
+    let p = places[0];
+    let q = places[1];
+    if count == 2 {
+        return try_beside_two(width, word, t, Place(p), Place(q));
+    }
+    if p < 5 {
+        return try_between(width, word, t, p, 5);
+    }
+    try_eliminated(width, word, t, Place(p), 5)
+}
+
+// The trial as it is, where that is not hopeless.
+fn attempt_alone(width: u8, t: Trial) -> Correction
+    requires { ⌜ t .count ≤ unknowns ⌝ }
+    ensures { λ r. ⌜ (r .count ≤ unknowns) × ((w : List ℕ) → Ready width w t → Searched width w (tried t) 0 (NoneAt width w (tried t)) r) ⌝ }
+{
+    if is_hopeless(width, t) {
+        return nothing();
+    }
+    attempt(width, t)
+}
+
+// A correction with at most one extra place, beside one or two erasures.
+pub fn find_beside(width: u8, word: &[u8], t: Trial) -> Correction
+    requires { ⌜ (0 < t .count) × (t .count ≤ 2) × (checks ≤ length (now word)) × (length (now word) ≤ longest) ⌝ }
+    ensures { λ r.
+        ⌜
+        (r .count ≤ unknowns)
+        × (Ready width (now (word .entry)) t → (t .count ≡ 2 → Injective width 3)
+        → Searched width (now (word .entry)) (tried t) 1 (NoneWithin width (now (word .entry)) (tried t) 1) r)
+        ⌝ }
+{
+    let b = attempt_alone(width, t);
+    if solved(b) {
+        return b;
+    }
+    let c = try_data(width, word, t);
+    if solved(c) {
+        return c;
+    }
+    try_checks(width, word, t)
+}

@@ -1,0 +1,46 @@
+// The trying method: the erasures and a few extra places are taken as erased, one set of places after the other. No entry point.
+ghost use Prim.Native.Nat.{_+_, _≤_};
+ghost use lib.ListN.{length};
+ghost use Rattle.code.specs.Matrix.{unknowns};
+ghost use Rattle.code.specs.Correction.{tried, Ready, NoneFrom, Searched};
+use crate::correction::Correction;
+use crate::correction::attempt;
+use crate::correction::solved;
+use crate::place::Place;
+use crate::trial::Trial;
+use crate::trial::extended;
+use crate::trial::listed;
+
+// A correction with at most `left` extra places in rising order, the first of them the place `from` or a later one.
+pub fn search(width: u8, word: &[u8], t: Trial, from: usize, left: usize) -> Correction
+    requires { ⌜ (t .count + left ≤ unknowns) × (length (now word) ≤ 256) ⌝ }
+    ensures { λ r.
+        ⌜
+        (r .count ≤ unknowns)
+        × (Ready width (now (word .entry)) t
+        → Searched width (now (word .entry)) (tried t) left (NoneFrom width (now (word .entry)) (tried t) from left) r)
+        ⌝ }
+{
+    let c = attempt(width, t);
+    if solved(c) {
+        return c;
+    }
+    if left == 0 {
+        return c;
+    }
+    let places = t.places;
+    let count = t.count;
+    let mut p = from;
+    while p < word.len() {
+        let place = Place(p as u8);
+        if !listed(places, count, place) {
+            let u = extended(width, t, place, word[p]);
+            let d = search(width, word, u, p + 1, left - 1);
+            if solved(d) {
+                return d;
+            }
+        }
+        p += 1;
+    }
+    c
+}

@@ -1,0 +1,212 @@
+// A trial: places that are taken as erased, and the syndromes of the word without the symbols there. These functions are no entry points.
+ghost use mathlib.Core.Path.{_≡_};
+ghost use mathlib.Core.Bool.{true, false};
+ghost use mathlib.Core.List.{List, [], _∷_, _++_};
+ghost use Prim.Native.Nat.{ℕ, _+_, _≤_, _<_};
+ghost use lib.ListN.{length, take};
+ghost use Rattle.field.specs.Polynomial.{add};
+ghost use Rattle.field.specs.Field.{order, product};
+ghost use Rattle.field.specs.Question.{isWidth, allBelow};
+ghost use Rattle.code.specs.Word.{checks, five, places, longest, at};
+ghost use Rattle.code.specs.Place.{column as columnM};
+ghost use Rattle.code.specs.Erasure.{member, syndromesOf};
+ghost use Rattle.code.specs.Call.{allZero};
+ghost use Rattle.code.specs.Matrix.{unknowns};
+ghost use Rattle.code.specs.Correction.{fill, Lent, tried, Ready, Workable};
+use crate::place::Place;
+use crate::place::column;
+use crate::place::whole_column;
+use crate::question::all_zero;
+use crate::question::contains;
+use crate::slice::copy;
+use crate::solver::COLUMNS;
+use crate::solver::UNKNOWNS;
+use crate::solver::add_times;
+use crate::syndrome::syndromes;
+use field::arithmetic::multiply;
+
+// Places taken as erased, the first `count` of them, and the five syndromes of the other places.
+pub struct Trial {
+    pub places: [u8; UNKNOWNS],
+    pub count: usize,
+    pub sums: [u8; 5],
+}
+
+// The first `count` places with p in front.
+fn prepended(places: [u8; UNKNOWNS], count: usize, p: Place) -> [u8; UNKNOWNS]
+    requires { ⌜ count < unknowns ⌝ }
+    ensures { λ r. ⌜ take (count + 1) r ≡ p .0 ∷ take count places ⌝ }
+{
+    let first = p.0;
+    let mut out = [first; UNKNOWNS];
+    let mut j = 0;
+    while j < count {
+        out[j + 1] = places[j];
+        j += 1;
+    }
+    out
+}
+
+// Row k of the column at place p, times x.
+pub fn column_times(width: u8, p: Place, k: u8, x: u8) -> u8
+    ensures { λ r. ⌜ (isWidth width ≡ true → x < order width → r ≡ product width (columnM width (p .0) k) x) ⌝ }
+{
+    multiply(width, column(width, p, k), x)
+}
+
+// Five symbols as a row of the solver, with 0 behind them.
+fn padded(xs: [u8; 5]) -> [u8; COLUMNS]
+    ensures { λ r. ⌜ r ≡ five (at xs) ++ 0 ∷ [] ⌝ }
+{
+    [xs[0], xs[1], xs[2], xs[3], xs[4], 0]
+}
+
+// And back.
+fn first_five(row: [u8; COLUMNS]) -> [u8; 5]
+    ensures { λ r. ⌜ r ≡ five (at row) ⌝ }
+{
+    [row[0], row[1], row[2], row[3], row[4]]
+}
+
+// The syndromes without the symbol x at place p: x times the column is added to them, as one row to another.
+pub fn masked(width: u8, sums: [u8; 5], p: Place, x: u8) -> [u8; 5]
+    ensures { λ r.
+        ⌜
+        (
+        isWidth width ≡ true → x < order width
+        → r ≡ five (λ k. add (at sums k) (product width (columnM width (p .0) k) x))
+        )
+        ⌝ }
+{
+    let column = padded(whole_column(width, p));
+    first_five(add_times(width, padded(sums), x, column))
+}
+
+// The trial with one more place p, where the word holds x.
+pub fn extended(width: u8, t: Trial, p: Place, x: u8) -> Trial
+    requires { ⌜ t .count < unknowns ⌝ }
+    ensures { λ r.
+        ⌜
+        (r .count ≡ t .count + 1)
+        × ((w : List ℕ) → Ready width w t → p .0 < places width → member (p .0) (tried t) ≡ false → x ≡ at w (p .0) → (tried r ≡ p .0 ∷ tried t) × Ready width w r)
+        ⌝ }
+{
+    let places = t.places;
+    let count = t.count;
+    let sums = t.sums;
+    Trial {
+        places: prepended(places, count, p),
+        count: count + 1,
+        sums: masked(width, sums, p, x),
+    }
+}
+
+// Is p one of the first `count` places?
+pub fn listed(places: [u8; UNKNOWNS], count: usize, p: Place) -> bool
+    requires { ⌜ count ≤ unknowns ⌝ }
+    ensures { λ r. ⌜ r ≡ member (p .0) (take count places) ⌝ }
+{
+    contains(&places[..count], p.0)
+}
+
+// The word, copied to the front of an array that has room for the longest.
+fn copied(word: &[u8]) -> [u8; 132]
+    requires { ⌜ length (now word) ≤ longest ⌝ }
+    ensures { λ r. ⌜ take (length (now (word .entry))) r ≡ now (word .entry) ⌝ }
+{
+    let mut out = [0u8; 132];
+    let n = word.len();
+    copy(&mut out[..n], word);
+    out
+}
+
+// The values put in at the first `count` places of the row, whose first n bytes are the word.
+fn filled(
+    row: [u8; 132],
+    n: usize,
+    places: [u8; UNKNOWNS],
+    count: usize,
+    values: [u8; UNKNOWNS],
+) -> [u8; 132]
+    requires { ⌜ (count ≤ unknowns) × (n ≤ longest) × (allBelow n (take count places) ≡ true) ⌝ }
+    ensures { λ r. ⌜ take n r ≡ fill (take n row) (take count places) (take count values) ⌝ }
+{
+    let mut out = row;
+    let mut i = count;
+    while 0 < i {
+        i -= 1;
+        let p = places[i] as usize;
+        out[p] = values[i];
+    }
+    out
+}
+
+// The five syndromes of the word without the symbols at the first `count` places: zeros take their place.
+fn masked_sums(width: u8, word: &[u8], places: [u8; UNKNOWNS], count: usize) -> [u8; 5]
+    requires { ⌜
+        (count ≤ unknowns) × (checks ≤ length (now word)) × (length (now word) ≤ longest)
+        × (allBelow (length (now word)) (take count places) ≡ true)
+        ⌝ }
+    ensures { λ r.
+        ⌜
+        (
+        isWidth width ≡ true → Lent width (now (word .entry)) (take count places)
+        → r ≡ syndromesOf width (take count places) (now (word .entry))
+        )
+        ⌝ }
+{
+    let n = word.len();
+    let row = filled(copied(word), n, places, count, [0; UNKNOWNS]);
+    syndromes(width, &row[..n])
+}
+
+// The erasures, copied to the front of an array that has room for them.
+fn row_of_places(erasures: &[u8]) -> [u8; UNKNOWNS]
+    requires { ⌜ length (now erasures) ≤ unknowns ⌝ }
+    ensures { λ r. ⌜ take (length (now (erasures .entry))) r ≡ now (erasures .entry) ⌝ }
+{
+    let mut out = [0u8; UNKNOWNS];
+    let n = erasures.len();
+    copy(&mut out[..n], erasures);
+    out
+}
+
+// The trial of the erasures alone.
+pub fn started(width: u8, word: &[u8], erasures: &[u8]) -> Trial
+    requires { ⌜ Workable (now word) (now erasures) ⌝ }
+    ensures { λ r.
+        ⌜
+        (r .count ≡ length (now (erasures .entry)))
+        × (tried r ≡ now (erasures .entry))
+        × (isWidth width ≡ true → Lent width (now (word .entry)) (now (erasures .entry)) → Ready width (now (word .entry)) r)
+        ⌝ }
+{
+    let places = row_of_places(erasures);
+    let count = erasures.len();
+    if count == 0 {
+        let sums = syndromes(width, word);
+        return Trial {
+            places,
+            count,
+            sums,
+        };
+    }
+    let sums = masked_sums(width, word, places, count);
+    Trial {
+        places,
+        count,
+        sums,
+    }
+}
+
+// Has the trial no places, and are its syndromes zero? Then the word is a codeword.
+pub fn is_clean(t: Trial) -> bool
+    ensures { λ r. ⌜ (r ≡ true → (t .count ≡ 0) × (allZero (t .sums) ≡ true)) ⌝ }
+{
+    let count = t.count;
+    if 0 < count {
+        return false;
+    }
+    let sums = t.sums;
+    all_zero(&sums)
+}
