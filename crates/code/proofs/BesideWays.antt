@@ -1,4 +1,4 @@
--- The search beside erasures: the ways out of `try_root`, `try_between`, `try_eliminated`, `try_between_two` and `try_data`. Assumes nothing.
+-- The search beside erasures: the ways out of `try_root`, `try_data_beside_checks`, `try_data_beside_data_and_check`, `try_data_beside_two_data` and `try_data`. Assumes nothing.
 use mathlib.Core.Path.{_≡_, refl, sym, ap, ap₂, _∙_, subst}
 use mathlib.Core.Logic.{_≢_}
 use mathlib.Core.Bool.{true, false}

@@ -23,7 +23,7 @@ use Rattle.code.specs.Word.{checks, five, places, at}
 use Rattle.code.specs.Place.{column}
 use Rattle.code.specs.Erasure.{member, maskedSyndrome}
 use Rattle.code.specs.Matrix.{Operands, rowAdd}
-use Rattle.code.specs.Correction.{Lent, tried, Ready, NoneAt, NoneBeside}
+use Rattle.code.specs.Correction.{Lent, placesOf, Ready, NoneAt, NoneBeside}
 use Rattle.code.specs.Locate.{point}
 use Rattle.code.specs.Beside.{eliminate, NoneCheck, NoneOutside, Tell}
 use Rattle.code.proofs.Loops.{Sought}
@@ -37,12 +37,12 @@ use Rattle.code.proofs.Locating.{column-point}
 use Rattle.code.proofs.BesideWays.{below-one}
 use Rattle.code.proofs.Ratios.{term, column-term, eliminate-add, eliminate-term, eliminate-own, eliminate-rows}
 
--- ---- a window
+-- ---- a range of check places
 
 -- its places are tried in vain
-pub window-tried : (m : ℕ) (w es : List ℕ) (low high p : ℕ) → NoneOutside m w es low high → high ≤ p → Sought (λ i. NoneBeside m w i es) low p
+pub range-tried : (m : ℕ) (w es : List ℕ) (low high p : ℕ) → NoneOutside m w es low high → high ≤ p → Sought (λ i. NoneBeside m w i es) low p
     → NoneCheck m w es
-window-tried m w es low high p out h sought b hb = go (decLt b low) (decLt b high)
+range-tried m w es low high p out h sought b hb = go (decLt b low) (decLt b high)
   where
     go : Dec (b < low) → Dec (b < high) → NoneBeside m w b es
     go (yes l) d = out b hb (λ l′ u. omega arith)
@@ -142,18 +142,18 @@ module _ {m : ℕ} {w : List ℕ} {t : Trial} (R : Ready m w t) where
   F : IsField m
   F = field-of m (R .width)
 
-  pub rows-check : (c : ℕ) → tried t ≡ c ∷ [] → c < checks → Tell m w (tried t) 1 (at (set (t .sums) c 0))
+  pub rows-check : (c : ℕ) → placesOf t ≡ c ∷ [] → c < checks → Tell m w (placesOf t) 1 (at (set (t .sums) c 0))
   rows-check c E hc k h x = go (ℕ-discrete k c)
     where
-      go : Dec (k ≡ c) → NoneOutside m w (tried t) k (k + 1)
+      go : Dec (k ≡ c) → NoneOutside m w (placesOf t) k (k + 1)
       go (yes d) =
           absurd (x (ap (at (set (t .sums) c 0)) d ∙ getD-set-same (t .sums) c 0 0 (subst (λ (u : List ℕ). c < length u) (sym (R .sums)) hc)))
       go (no d) =
           tell-check F (R .lent) (at (t .sums)) (sums-at R) c E hc k (omega arith) d (λ z. x (getD-set-other (t .sums) c k 0 0 d ∙ z))
 
-  pub rows-one : (a : ℕ) → tried t ≡ a ∷ [] → checks ≤ a → (rows : List ℕ) → rows ≡ five (eliminate m 1 (point m a) (at (t .sums)))
-      → Tell m w (tried t) 2 (at rows)
-  rows-one a E ha rows e = tell-five m w (tried t) 2 _ rows (omega arith) e (tell-one F (R .lent) (at (t .sums)) (sums-at R) a E ha)
+  pub rows-one : (a : ℕ) → placesOf t ≡ a ∷ [] → checks ≤ a → (rows : List ℕ) → rows ≡ five (eliminate m 1 (point m a) (at (t .sums)))
+      → Tell m w (placesOf t) 2 (at rows)
+  rows-one a E ha rows e = tell-five m w (placesOf t) 2 _ rows (omega arith) e (tell-one F (R .lent) (at (t .sums)) (sums-at R) a E ha)
 
   module _ (a : ℕ) (first : List ℕ) (e : first ≡ five (eliminate m 1 (point m a) (at (t .sums)))) where
     first-at : (k : ℕ) → k < checks → at first k ≡ eliminate m 1 (point m a) (at (t .sums)) k
@@ -173,9 +173,9 @@ module _ {m : ℕ} {w : List ℕ} {t : Trial} (R : Ready m w t) where
     unfolding eliminate
     first-lt k h = subst (λ (n : ℕ). n < order m) (sym (first-at k h)) (F .add-lt _ _ (next-lt k h) (F .product-lt _ _))
 
-    pub rows-two : (c : ℕ) → tried t ≡ a ∷ c ∷ [] → checks ≤ a → checks ≤ c → (rows : List ℕ) → rows ≡ five (eliminate m 1 (point m c) (at first))
-        → Tell m w (tried t) 3 (at rows)
-    rows-two c E ha hc rows er = tell-five m w (tried t) 3 _ rows (omega arith) er (λ k h x.
+    pub rows-two : (c : ℕ) → placesOf t ≡ a ∷ c ∷ [] → checks ≤ a → checks ≤ c → (rows : List ℕ) → rows ≡ five (eliminate m 1 (point m c) (at first))
+        → Tell m w (placesOf t) 3 (at rows)
+    rows-two c E ha hc rows er = tell-five m w (placesOf t) 3 _ rows (omega arith) er (λ k h x.
         tell-two F (R .lent) (at (t .sums)) (sums-at R) a c E ha hc k h
         (λ z. x (eliminate-rows F 1 (point m c) (at first) (eliminate m 1 (point m a) (at (t .sums))) k (first-at k (omega arith)) (first-at (1 + k) (omega arith))
         ∙ z)))

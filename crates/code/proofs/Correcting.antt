@@ -26,7 +26,7 @@ use Rattle.code.specs.Word.{at, five}
 use Rattle.code.specs.Place.{column}
 use Rattle.code.specs.Erasure.{maskedSyndrome}
 use Rattle.code.specs.Matrix.{rows, unknowns, columns, entry, columnOf, Matrix, Operands, rowAdd, dot, Values, Means}
-use Rattle.code.specs.Correction.{fill, tried, Ready, systemEntry, SystemColumns, SystemRow, SystemMatrix, NoneAt, OneAt, SeveralAt, Searched}
+use Rattle.code.specs.Correction.{fill, placesOf, Ready, systemEntry, SystemColumns, SystemRow, SystemMatrix, NoneAt, OneAt, SeveralAt, Searched}
 use Rattle.code.proofs.Sums.{parity-lt}
 use Rattle.code.proofs.Columns.{combine, column-lt}
 use Rattle.code.proofs.Filling.{Each, Solution, fill-agrees, masked-lt, solution-values, solution-codeword, codeword-solution, codeword-fill}
@@ -177,24 +177,24 @@ module _ (m : ℕ) (t : Trial) (few : t .count ≤ unknowns) (a : List (List ℕ
   F : IsField m
   F = field-of m (R .width)
 
-  size : length (tried t) ≡ t .count
+  size : length (placesOf t) ≡ t .count
   size = length-take-le (t .count) (t .places) (omega (arith, A .room))
 
-  entries : (k j : ℕ) → k < rows → j < columns → entry a k j ≡ systemEntry m (tried t) (at (t .sums) k) k j
+  entries : (k j : ℕ) → k < rows → j < columns → entry a k j ≡ systemEntry m (placesOf t) (at (t .sums) k) k j
   entries k j h l = A .each k h .entries (R .width) j l
 
-  sum-lt : (k : ℕ) → k < rows → maskedSyndrome m (tried t) w k < order m
+  sum-lt : (k : ℕ) → k < rows → maskedSyndrome m (placesOf t) w k < order m
   sum-lt k h = F .add-lt _ _ (masked-lt F (R .lent) k (omega (arith, F .one-lt))) (parity-lt F _ k)
 
-  sum-at : (k : ℕ) → k < rows → at (t .sums) k ≡ maskedSyndrome m (tried t) w k
-  sum-at k h = ap (λ (u : List ℕ). at u k) (R .sums) ∙ five-at (maskedSyndrome m (tried t) w) k h
+  sum-at : (k : ℕ) → k < rows → at (t .sums) k ≡ maskedSyndrome m (placesOf t) w k
+  sum-at k h = ap (λ (u : List ℕ). at u k) (R .sums) ∙ five-at (maskedSyndrome m (placesOf t) w) k h
 
-  entry-lt : (b k j : ℕ) → b < order m → systemEntry m (tried t) b k j < order m
-  entry-lt b k j h = go (eqb j 0) (leb j (length (tried t)))
+  entry-lt : (b k j : ℕ) → b < order m → systemEntry m (placesOf t) b k j < order m
+  entry-lt b k j h = go (eqb j 0) (leb j (length (placesOf t)))
     where
-      go : (s t′ : Bool) → cond s b (cond t′ (column m (getD (tried t) (j - 1) 0) k) 0) < order m
+      go : (s t′ : Bool) → cond s b (cond t′ (column m (getD (placesOf t) (j - 1) 0) k) 0) < order m
       go true t′ = h
-      go false true = column-lt F (getD (tried t) (j - 1) 0) k
+      go false true = column-lt F (getD (placesOf t) (j - 1) 0) k
       go false false = omega (arith, F .one-lt)
 
   matrix : Matrix m a
@@ -206,84 +206,84 @@ module _ (m : ℕ) (t : Trial) (few : t .count ≤ unknowns) (a : List (List ℕ
   }
 
   columnsOf : ℕ → List ℕ
-  columnsOf k = map (λ l. column m l k) (tried t)
+  columnsOf k = map (λ l. column m l k) (placesOf t)
 
-  system : System a (t .count) (maskedSyndrome m (tried t) w) columnsOf
+  system : System a (t .count) (maskedSyndrome m (placesOf t) w) columnsOf
   unfolding columnsOf
   system = record {
     right = λ k h. entries k 0 h (omega arith) ∙ sum-at k h;
     left = λ k j h l.
         entries k (j + 1) h (omega arith)
-        ∙ entry-at m (tried t) (at (t .sums) k) k (j + 1) (λ e. omega arith) (omega (arith, size))
-        ∙ ap (λ (i : ℕ). column m (getD (tried t) i 0) k) (back j)
-        ∙ sym (getD-columns m k (tried t) j (omega (arith, size)));
+        ∙ entry-at m (placesOf t) (at (t .sums) k) k (j + 1) (λ e. omega arith) (omega (arith, size))
+        ∙ ap (λ (i : ℕ). column m (getD (placesOf t) i 0) k) (back j)
+        ∙ sym (getD-columns m k (placesOf t) j (omega (arith, size)));
   }
     where
       back : (j : ℕ) → j + 1 - 1 ≡ j
       back j = omega arith
 
-  solution-meets : (zs : List ℕ) → Solution m w (tried t) zs → Values m (t .count) zs × Meets m (maskedSyndrome m (tried t) w) columnsOf zs
+  solution-meets : (zs : List ℕ) → Solution m w (placesOf t) zs → Values m (t .count) zs × Meets m (maskedSyndrome m (placesOf t) w) columnsOf zs
   unfolding columnsOf
   solution-meets zs S = (
     record {
-      size = each-size (order m) (tried t) zs (S .values) ∙ size;
-      symbols = λ j h. each-at (λ z. z < order m) (tried t) zs (S .values) j (omega (arith, size));
+      size = each-size (order m) (placesOf t) zs (S .values) ∙ size;
+      symbols = λ j h. each-at (λ z. z < order m) (placesOf t) zs (S .values) j (omega (arith, size));
     },
-    λ k h. sym (combine-dot m (tried t) zs k) ∙ S .rows k h,
+    λ k h. sym (combine-dot m (placesOf t) zs k) ∙ S .rows k h,
   )
 
-  values-small : (zs : List ℕ) → Values m (t .count) zs → Each (λ p z. z < order m) (tried t) zs
-  values-small zs D = values-each (order m) (tried t) zs (D .size ∙ sym size) (λ j h. D .symbols j (omega (arith, size)))
+  values-small : (zs : List ℕ) → Values m (t .count) zs → Each (λ p z. z < order m) (placesOf t) zs
+  values-small zs D = values-each (order m) (placesOf t) zs (D .size ∙ sym size) (λ j h. D .symbols j (omega (arith, size)))
 
-  meets-solution : (zs : List ℕ) → Values m (t .count) zs → Meets m (maskedSyndrome m (tried t) w) columnsOf zs → Solution m w (tried t) zs
+  meets-solution : (zs : List ℕ) → Values m (t .count) zs → Meets m (maskedSyndrome m (placesOf t) w) columnsOf zs → Solution m w (placesOf t) zs
   unfolding columnsOf
-  meets-solution zs D S = record { values = values-small zs D; rows = λ k h. combine-dot m (tried t) zs k ∙ S k h }
+  meets-solution zs D S = record { values = values-small zs D; rows = λ k h. combine-dot m (placesOf t) zs k ∙ S k h }
 
   -- no solution: no codeword agrees outside the places
-  tried-none : Means m None a (t .count) vs → NoneAt m w (tried t)
-  tried-none N c C G =
-      let S = solution-meets (map (at c) (tried t)) (codeword-solution F (R .lent) C G) in
-      system-none m F a (t .count) (maskedSyndrome m (tried t) w) columnsOf system vs N (map (at c) (tried t)) (S .0) (S .1)
+  trial-none : Means m None a (t .count) vs → NoneAt m w (placesOf t)
+  trial-none N c C G =
+      let S = solution-meets (map (at c) (placesOf t)) (codeword-solution F (R .lent) C G) in
+      system-none m F a (t .count) (maskedSyndrome m (placesOf t) w) columnsOf system vs N (map (at c) (placesOf t)) (S .0) (S .1)
 
   -- one solution: the word filled with it is the one codeword that agrees outside the places
-  tried-one : Means m One a (t .count) vs → OneAt m w (tried t) (take (t .count) vs)
-  tried-one O = record {
+  trial-one : Means m One a (t .count) vs → OneAt m w (placesOf t) (take (t .count) vs)
+  trial-one O = record {
     codeword = solution-codeword F (R .lent)
-        (meets-solution zs (O .values) (system-solved m F a (t .count) (maskedSyndrome m (tried t) w) columnsOf system vs O));
-    agrees = fill-agrees m w (tried t) zs;
-    only = λ c C G. (let S = solution-meets (map (at c) (tried t)) (codeword-solution F (R .lent) C G) in
+        (meets-solution zs (O .values) (system-solved m F a (t .count) (maskedSyndrome m (placesOf t) w) columnsOf system vs O));
+    agrees = fill-agrees m w (placesOf t) zs;
+    only = λ c C G. (let S = solution-meets (map (at c) (placesOf t)) (codeword-solution F (R .lent) C G) in
         sym (codeword-fill F (R .lent) C G)
-        ∙ ap (fill w (tried t)) (O .only (map (at c) (tried t)) (S .0)
-        (meets-solves m F a (t .count) (maskedSyndrome m (tried t) w) columnsOf system (map (at c) (tried t)) (S .0) (S .1))));
+        ∙ ap (fill w (placesOf t)) (O .only (map (at c) (placesOf t)) (S .0)
+        (meets-solves m F a (t .count) (maskedSyndrome m (placesOf t) w) columnsOf system (map (at c) (placesOf t)) (S .0) (S .1))));
   }
     where
       zs : List ℕ
       zs = take (t .count) vs
 
   -- several solutions: the word filled with two of them is two codewords
-  tried-several : Means m Several a (t .count) vs → SeveralAt m w (tried t)
-  tried-several T = record {
-    first = fill w (tried t) (T .first);
-    second = fill w (tried t) (T .second);
+  trial-several : Means m Several a (t .count) vs → SeveralAt m w (placesOf t)
+  trial-several T = record {
+    first = fill w (placesOf t) (T .first);
+    second = fill w (placesOf t) (T .second);
     first-codeword = solution-codeword F (R .lent) (both .0);
     second-codeword = solution-codeword F (R .lent) (both .1);
-    first-agrees = fill-agrees m w (tried t) (T .first);
-    second-agrees = fill-agrees m w (tried t) (T .second);
+    first-agrees = fill-agrees m w (placesOf t) (T .first);
+    second-agrees = fill-agrees m w (placesOf t) (T .second);
     different = λ e. T .different
-        (sym (solution-values (R .lent) (both .0)) ∙ ap (λ (c : List ℕ). map (at c) (tried t)) e ∙ solution-values (R .lent) (both .1));
+        (sym (solution-values (R .lent) (both .0)) ∙ ap (λ (c : List ℕ). map (at c) (placesOf t)) e ∙ solution-values (R .lent) (both .1));
   }
     where
-      both : Solution m w (tried t) (T .first) × Solution m w (tried t) (T .second)
+      both : Solution m w (placesOf t) (T .first) × Solution m w (placesOf t) (T .second)
       both =
-          let S = system-several m F a (t .count) (maskedSyndrome m (tried t) w) columnsOf system vs T in
+          let S = system-several m F a (t .count) (maskedSyndrome m (placesOf t) w) columnsOf system vs T in
           (meets-solution (T .first) (T .first-values) (S .0), meets-solution (T .second) (T .second-values) (S .1))
 
   -- the solver's answer f, as a search with no extra places
-  pub attempted : (f : Solutions) → (isWidth m ≡ true → Matrix m a → Means m f a (t .count) vs)
-      → Searched m w (tried t) 0 (NoneAt m w (tried t)) (record { found = f; count = t .count; places = t .places; values = vs })
-  attempted f S = record {
-    none = λ e. tried-none (means e);
-    one = λ e. (let O = tried-one (means e) in
+  pub trial-solved : (f : Solutions) → (isWidth m ≡ true → Matrix m a → Means m f a (t .count) vs)
+      → Searched m w (placesOf t) 0 (NoneAt m w (placesOf t)) (record { found = f; count = t .count; places = t .places; values = vs })
+  trial-solved f S = record {
+    none = λ e. trial-none (means e);
+    one = λ e. (let O = trial-one (means e) in
         record {
           below = R .lent .below;
           distinct = R .lent .distinct;
@@ -293,7 +293,7 @@ module _ (m : ℕ) (t : Trial) (few : t .count ≤ unknowns) (a : List (List ℕ
           agrees = O .agrees;
           only = O .only;
         });
-    several = λ e. record { extra = []; few = le-refl 0; two = tried-several (means e) };
+    several = λ e. record { extra = []; few = le-refl 0; two = trial-several (means e) };
   }
     where
       means : {g : Solutions} → f ≡ g → Means m g a (t .count) vs

@@ -22,7 +22,7 @@ use Rattle.code.proofs.Questions.{not-member-head, not-member-tail}
 use Rattle.code.proofs.Extra.{Falling, falling-le}
 use Rattle.code.specs.declared.place.Place.{Place}
 use Rattle.code.specs.declared.roots.Scan.{Scan}
-use Rattle.code.specs.declared.errors.Few.{Few}
+use Rattle.code.specs.declared.errors.FirstTwo.{FirstTwo}
 use Rattle.code.specs.Scan.{valueAt, Carried, Scanned}
 use Rattle.code.specs.Locate.{Zeros, point, Ratio, TwoErrors, full, Lists}
 use Rattle.code.proofs.Pattern.{falling-out, falling-at}
@@ -34,13 +34,13 @@ use Rattle.code.proofs.Locating.{column-point, point-distinct}
 pub lists-none : Lists (record { count = 0; first = record { 0 = 0 }; second = record { 0 = 0 } }) []
 lists-none = record { count = refl; first = refl; second = refl }
 
-pub lists-same : (f : Few) (ls : List ℕ) (k x : ℕ) → x ≡ 0 → Lists f ls → Lists f (cond (eqb x 0) ls (k ∷ ls))
+pub lists-same : (f : FirstTwo) (ls : List ℕ) (k x : ℕ) → x ≡ 0 → Lists f ls → Lists f (cond (eqb x 0) ls (k ∷ ls))
 lists-same f ls k x e L = subst (λ (t : Bool). Lists f (cond t ls (k ∷ ls))) (sym (eq-eqb x 0 e)) L
 
-pub lists-cons : (f : Few) (ls : List ℕ) (p : Place) → Lists f ls → Lists (record { count = f .count + 1; first = p; second = f .first }) (p .0 ∷ ls)
+pub lists-cons : (f : FirstTwo) (ls : List ℕ) (p : Place) → Lists f ls → Lists (record { count = f .count + 1; first = p; second = f .first }) (p .0 ∷ ls)
 lists-cons f ls p L = record { count = omega (arith, L .count); first = refl; second = L .first }
 
-pub lists-more : (f : Few) (ls : List ℕ) (k x : ℕ) → (x ≡ 0 → ⊥) → Lists f ls
+pub lists-more : (f : FirstTwo) (ls : List ℕ) (k x : ℕ) → (x ≡ 0 → ⊥) → Lists f ls
     → Lists (record { count = f .count + 1; first = record { 0 = k }; second = f .first }) (cond (eqb x 0) ls (k ∷ ls))
 lists-more f ls k x n L =
     subst (λ (t : Bool). Lists (record { count = f .count + 1; first = record { 0 = k }; second = f .first }) (cond t ls (k ∷ ls))) (sym (ne-eqb x 0 n)) (lists-cons f ls (record { 0 = k }) L)

@@ -26,7 +26,7 @@ pub mod CaseTable  -- cases by a test that the prover computes
 pub mod FiveErasures  -- the cases with five erasures
 pub mod Cases  -- the table holds, and the distance at width 4 is not 5: `cases-hold`, `distance-not-five`
 -- the questions of the calls
-pub mod Asking  -- from the questions' answers to the calls' contracts
+pub mod Answers
 -- the solver
 pub mod RowLaws  -- entries of rows and columns, a row times values
 pub mod Elimination  -- a step keeps the solutions, and at the end they are read off
@@ -41,10 +41,10 @@ pub mod Pattern  -- errors as values at places: the syndromes combine the column
 pub mod Locating  -- of each codeword within two places a test names just its places
 pub mod Scanning  -- the search for roots, and the one root of a linear function
 pub mod Finding  -- the places found are those that the tests name
-pub mod Amending  -- what is added at a few places makes a codeword
+pub mod Adding
 pub mod PlainWays  -- the ways out of the search without erasures
 pub mod Ratios  -- erased places eliminated from the sums, and the ratio of what is left
-pub mod Beside  -- one wrong place beside erasures is a check place, or named by a ratio
+pub mod BesideErasures
 pub mod BesideWays  -- the ways out of the search beside erasures
 pub mod CheckPlaces  -- the check places that come into question beside erasures
 -- and what is restored

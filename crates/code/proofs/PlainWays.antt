@@ -1,4 +1,4 @@
--- The search without erasures: the ways out of `amended` and of what calls it. Assumes nothing.
+-- The search without erasures: the ways out of `correction_of` and of what calls it. Assumes nothing.
 use mathlib.Core.Path.{_≡_, refl, sym, ap, ap₂, _∙_, subst}
 use mathlib.Core.Bool.{Bool, true, false}
 use mathlib.Core.List.{List, [], _∷_}
@@ -18,16 +18,16 @@ use Rattle.code.specs.declared.place.Place.{Place}
 use Rattle.code.specs.declared.trial.Trial.{Trial}
 use Rattle.code.specs.declared.correction.Correction.{Correction}
 use Rattle.code.specs.declared.roots.Scan.{Scan}
-use Rattle.code.specs.declared.errors.Few.{Few}
+use Rattle.code.specs.declared.errors.FirstTwo.{FirstTwo}
 use Rattle.code.specs.declared.errors.Pair.{Pair}
 use Rattle.code.specs.declared.solver.Solutions.the-variants.{None, One}
 use Rattle.code.specs.Word.{checks, five, places, items, at}
 use Rattle.code.specs.Place.{column}
 use Rattle.code.specs.Erasure.{maskedSyndrome}
 use Rattle.code.specs.Call.{allZero}
-use Rattle.code.specs.Correction.{Lent, tried, Ready, Searched, NoneWithin}
+use Rattle.code.specs.Correction.{Lent, placesOf, Ready, Searched, NoneWithin}
 use Rattle.code.specs.Scan.{Carried, Scanned}
-use Rattle.code.specs.Locate.{point, without, Ratio, TwoErrors, full, Lists, Amends, NoRatio, NoPair, PairValues}
+use Rattle.code.specs.Locate.{point, without, Ratio, TwoErrors, full, Lists, AddsAt, NoRatio, NoPair, PairValues}
 use Rattle.code.proofs.Algebra.{add-of-eq}
 use Rattle.code.proofs.Questions.{both-ways}
 use Rattle.code.proofs.Members.{below-cons}
@@ -37,18 +37,18 @@ use Rattle.code.proofs.Trying.{sums-at, sums-lt, searched-none, searche
 use Rattle.code.proofs.Locator.{leading, middle, constant, second-value}
 use Rattle.code.proofs.Locating.{Named, by-zeros, by-low, by-high, by-pair, zeros-cong, column-point, none-named}
 use Rattle.code.proofs.Finding.{lists-cons, zeros-list, full-at, full-cong, least-root, carried-start, ratio-root, ratio-only, roots-leading, pair-points, distinct-points, roots-first, roots-second, roots-only}
-use Rattle.code.proofs.Amending.{bothOf, both-first, both-second, besides, besides-check, besides-data, checks-corrects, beside-corrects, pair-corrects}
+use Rattle.code.proofs.Adding.{bothOf, both-first, both-second, besides, besides-check, besides-data, checks-corrects, beside-corrects, pair-corrects}
 
 -- ---- what is added
 
 -- the correction that is made of at most two places, with a and b the symbols there
-pub amended-of : (w : List ℕ) (f : Few) (a b : ℕ) (c : Correction) → f .count ≤ 2 → c .count ≡ f .count
+pub correction-adds : (w : List ℕ) (f : FirstTwo) (a b : ℕ) (c : Correction) → f .count ≤ 2 → c .count ≡ f .count
     → c .places ≡ f .first .0 ∷ f .second .0 ∷ 0 ∷ 0 ∷ 0 ∷ [] → c .values ≡ a ∷ b ∷ 0 ∷ 0 ∷ 0 ∷ []
     → (ls : List ℕ) (e : ℕ → ℕ) → Lists f ls → a ≡ add (at w (f .first .0)) (e (f .first .0)) → b ≡ add (at w (f .second .0)) (e (f .second .0))
-    → Amends w ls e c
-amended-of w f a b c h en ep ev ls e L ea eb = go ls L
+    → AddsAt w ls e c
+correction-adds w f a b c h en ep ev ls e L ea eb = go ls L
   where
-    go : (ls : List ℕ) → Lists f ls → Amends w ls e c
+    go : (ls : List ℕ) → Lists f ls → AddsAt w ls e c
     go [] L = record {
       places = ap (λ (n : ℕ). take n (c .places)) (en ∙ L .count);
       values = ap (λ (n : ℕ). take n (c .values)) (en ∙ L .count);
@@ -65,16 +65,16 @@ amended-of w f a b c h en ep ev ls e L ea eb = go ls L
     go (p ∷ q ∷ r ∷ ls) L = absurd (omega (arith, L .count))
 
 -- c adds y and z at the places f
-abbrev Adds : List ℕ → Few → ℕ → ℕ → Correction → Type 0
-Adds w f y z c = (ls : List ℕ) (e : ℕ → ℕ) → Lists f ls → y ≡ e (f .first .0) → z ≡ e (f .second .0) → Amends w ls e c
+abbrev Adds : List ℕ → FirstTwo → ℕ → ℕ → Correction → Type 0
+Adds w f y z c = (ls : List ℕ) (e : ℕ → ℕ) → Lists f ls → y ≡ e (f .first .0) → z ≡ e (f .second .0) → AddsAt w ls e c
 
 -- ---- check places alone
 
-module _ (m : ℕ) (w : List ℕ) (t : Trial) (f : Few) (L : Lists f (full checks (at (t .sums)))) (reach : ℕ) (c : Correction) where
+module _ (m : ℕ) (w : List ℕ) (t : Trial) (f : FirstTwo) (L : Lists f (full checks (at (t .sums)))) (reach : ℕ) (c : Correction) where
   pub checks-over : c .found ≡ None → reach < f .count → Searched m w [] reach (reach < length (full checks (at (t .sums)))) c
   checks-over e h = searched-none e (omega (arith, L .count))
 
-  pub checks-found : Ready m w t → tried t ≡ [] → reach ≤ 2 → f .count ≤ reach → c .found ≡ One
+  pub checks-found : Ready m w t → placesOf t ≡ [] → reach ≤ 2 → f .count ≤ reach → c .found ≡ One
       → Adds w f (at (t .sums) (f .first .0)) (at (t .sums) (f .second .0)) c
       → Searched m w [] reach (reach < length (full checks (at (t .sums)))) c
   checks-found R n h l e A = searched-one e
@@ -91,7 +91,7 @@ module _ (m : ℕ) (w : List ℕ) (t : Trial) (f : Few) (L : Lists f (full check
 
 -- rest: the syndromes without y at p; f: those of them that are not 0
 module _ {m : ℕ} {w : List ℕ} {t : Trial} (R : Ready m w t) (p : Place) (y : ℕ) (rest : List ℕ)
-    (er : rest ≡ five (without m (at (t .sums)) (p .0) y)) (f : Few) (L : Lists f (full checks (at rest))) (reach : ℕ) (c : Correction) where
+    (er : rest ≡ five (without m (at (t .sums)) (p .0) y)) (f : FirstTwo) (L : Lists f (full checks (at rest))) (reach : ℕ) (c : Correction) where
   rest-at : (k : ℕ) → k < checks → at rest k ≡ without m (at (t .sums)) (p .0) y k
   rest-at k h = ap (λ (u : List ℕ). at u k) er ∙ five-at (without m (at (t .sums)) (p .0) y) k h
 
@@ -106,7 +106,7 @@ module _ {m : ℕ} {w : List ℕ} {t : Trial} (R : Ready m w t) (p : Place) (y :
   pub beside-over : c .found ≡ None → reach ≤ f .count → Searched m w [] reach (reach ≤ length (full checks (without m (at (t .sums)) (p .0) y))) c
   beside-over e h = searched-none e (omega (arith, L .count, ap length rest-full))
 
-  pub beside-found : tried t ≡ [] → checks ≤ p .0 → p .0 < places m → y < order m → reach ≤ 2 → f .count < reach → c .found ≡ One
+  pub beside-found : placesOf t ≡ [] → checks ≤ p .0 → p .0 < places m → y < order m → reach ≤ 2 → f .count < reach → c .found ≡ One
       → Adds w (record { count = f .count + 1; first = p; second = f .first }) y (at rest (f .first .0)) c
       → Searched m w [] reach (reach ≤ length (full checks (without m (at (t .sums)) (p .0) y))) c
   beside-found n hp lp hy h l e A = searched-one e
@@ -176,7 +176,7 @@ module _ {m : ℕ} (F : IsField m) (s : ℕ → ℕ) (small : (k : ℕ) → k < 
       }
 
 -- first, rest: the syndromes without the value at p, and without both
-module _ {m : ℕ} {w : List ℕ} {t : Trial} (R : Ready m w t) (none : tried t ≡ []) (p q : Place) (l : q .0 < p .0) (lp : p .0 < places m)
+module _ {m : ℕ} {w : List ℕ} {t : Trial} (R : Ready m w t) (none : placesOf t ≡ []) (p q : Place) (l : q .0 < p .0) (lp : p .0 < places m)
     (y : Pair) (Y : PairValues m (at (t .sums)) (p .0) (q .0) y) (first rest : List ℕ)
     (ef : first ≡ five (without m (at (t .sums)) (p .0) (y .first))) (er : rest ≡ five (without m (at first) (q .0) (y .second))) (c : Correction) where
   F″ : IsField m
@@ -268,7 +268,7 @@ module _ {m : ℕ} (wd : isWidth m ≡ true) (w ss : List ℕ) (c : Correction) 
 -- ---- all of them
 
 -- within r places, at most 2; what names two places is needed for two alone
-pub plain-none : {m : ℕ} {w : List ℕ} {t : Trial} → Ready m w t → tried t ≡ [] → (r : ℕ) → r ≤ 2 → r < length (full checks (at (t .sums)))
+pub plain-none : {m : ℕ} {w : List ℕ} {t : Trial} → Ready m w t → placesOf t ≡ [] → (r : ℕ) → r ≤ 2 → r < length (full checks (at (t .sums)))
     → NoRatio m (at (t .sums)) r 0 → (2 ≤ r → NoRatio m (at (t .sums)) r 2 × NoPairs m (at (t .sums))) → NoneWithin m w [] r
 plain-none {m} {w} {t} R e r h over n0 n2 =
     none-named (field-of m (R .width)) (subst (Lent m w) e (R .lent)) (at (t .sums))

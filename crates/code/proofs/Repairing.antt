@@ -30,7 +30,7 @@ use Rattle.code.specs.Erasure.{member, differ, total, changesBelow, chan
 use Rattle.code.specs.Near.{distance, Near, Restoration, none, one, several, restoration}
 use Rattle.code.specs.Call.{allZero, written, done, shown, Displays, decided, restored, restoreAsked, repair, withinAsked, RestoresWithin}
 use Rattle.code.specs.Demands.{Passes, PassesWithin, TwoNear}
-use Rattle.code.specs.Correction.{fill, Lent, tried, Ready, corrected, SeveralAt, Corrects, Ambiguous, NoneWithin, Workable}
+use Rattle.code.specs.Correction.{fill, Lent, placesOf, Ready, corrected, SeveralAt, Corrects, Ambiguous, NoneWithin, Workable}
 use Rattle.code.specs.Matrix.{unknowns}
 use Rattle.code.proofs.Sums.{syndrome-cong}
 use Rattle.code.proofs.Unique.{differ-eq, differ-ne, differ-le}
@@ -170,7 +170,7 @@ displays-refused m w es v q e p =
     let f : RefusedBy q ≡ restoreAsked m w es = sym p ∙ e in
     record { answer = ap done f; sums = ap (λ (u : Verdict). shown u (syndromesOf m es w)) f }
 
-pub displays-passed : (m : ℕ) (w es : List ℕ) → Passes m w es → (t : Trial) → tried t ≡ es → Ready m w t
+pub displays-passed : (m : ℕ) (w es : List ℕ) → Passes m w es → (t : Trial) → placesOf t ≡ es → Ready m w t
     → Displays m w es (record { verdict = Passed; sums = t .sums })
 displays-passed m w es p t e R = record {
   answer = ap done (sym p);
@@ -247,7 +247,7 @@ module _ (m : ℕ) (w es : List ℕ) (r : ℕ) (P : PassesWithin m w es r) where
       }
 
   -- a codeword without erasures
-  pub restores-clean : (t : Trial) → tried t ≡ es → Ready m w t → length es ≡ 0 → allZero (t .sums) ≡ true → (new : List ℕ) → new ≡ w
+  pub restores-clean : (t : Trial) → placesOf t ≡ es → Ready m w t → length es ≡ 0 → allZero (t .sums) ≡ true → (new : List ℕ) → new ≡ w
       → RestoresWithin m w es r (Restored 0) new
   restores-clean t et R l z new e =
       near-answers w near (few-only (omega arith) w near) 0 new (omega (arith, still)) e
@@ -265,7 +265,7 @@ module _ (m : ℕ) (w es : List ℕ) (r : ℕ) (P : PassesWithin m w es r) where
         symbols = λ p h. R .lent .symbols p h (ap (member p) (et ∙ empty es l));
         zero-syndromes = λ k h.
             sym (ap (λ (xs : List ℕ). maskedSyndrome m xs w k) (et ∙ empty es l))
-            ∙ five-zero (maskedSyndrome m (tried t) w) (sym (ap allZero (R .sums)) ∙ z) k h;
+            ∙ five-zero (maskedSyndrome m (placesOf t) w) (sym (ap allZero (R .sums)) ∙ z) k h;
       }
 
       near : Near m es w r w

@@ -20,7 +20,7 @@ use Rattle.code.specs.declared.correction.Correction.{Correction}
 use Rattle.code.specs.Word.{checks, five, places, at, Codeword}
 use Rattle.code.specs.Place.{column}
 use Rattle.code.specs.Erasure.{member, distinct, maskedSyndrome}
-use Rattle.code.specs.Correction.{Agrees, Lent, tried, Ready, corrected}
+use Rattle.code.specs.Correction.{Agrees, Lent, placesOf, Ready, corrected}
 use Rattle.code.specs.Correction.{NoneAt, SeveralAt, NoneFrom, isSolved, Corrects, Searched, NoneWithin}
 use Rattle.code.specs.declared.solver.Solutions.{Solutions}
 use Rattle.code.specs.declared.solver.Solutions.the-variants.{None, One, Several}
@@ -37,8 +37,8 @@ module _ {m : ℕ} {w : List ℕ} {t : Trial} (R : Ready m w t) where
   F : IsField m
   F = field-of m (R .width)
 
-  pub sums-at : (k : ℕ) → k < checks → at (t .sums) k ≡ maskedSyndrome m (tried t) w k
-  sums-at k h = ap (λ (u : List ℕ). at u k) (R .sums) ∙ five-at (maskedSyndrome m (tried t) w) k h
+  pub sums-at : (k : ℕ) → k < checks → at (t .sums) k ≡ maskedSyndrome m (placesOf t) w k
+  sums-at k h = ap (λ (u : List ℕ). at u k) (R .sums) ∙ five-at (maskedSyndrome m (placesOf t) w) k h
 
   pub sums-lt : (k : ℕ) → k < checks → at (t .sums) k < order m
   sums-lt k h = subst (λ (n : ℕ). n < order m) (sym (sums-at k h))
@@ -55,11 +55,11 @@ lent-more {m} {w} {ls} W p h o = record {
 }
 
 -- the trial u is t with one more place p, where the word holds x
-module _ (m : ℕ) (w : List ℕ) (t u : Trial) (p x : ℕ) (R : Ready m w t) (h : p < places m) (o : member p (tried t) ≡ false) (ex : x ≡ at w p) where
+module _ (m : ℕ) (w : List ℕ) (t u : Trial) (p x : ℕ) (R : Ready m w t) (h : p < places m) (o : member p (placesOf t) ≡ false) (ex : x ≡ at w p) where
   pub extended-symbol : x < order m
   extended-symbol = subst (λ (y : ℕ). y < order m) (sym ex) (R .lent .symbols p h o)
 
-  pub extended-ready : tried u ≡ p ∷ tried t → u .sums ≡ five (λ k. add (at (t .sums) k) (product m (column m p k) x)) → Ready m w u
+  pub extended-ready : placesOf u ≡ p ∷ placesOf t → u .sums ≡ five (λ k. add (at (t .sums) k) (product m (column m p k) x)) → Ready m w u
   extended-ready e f =
       let F = field-of m (R .width) in
       record {
@@ -67,7 +67,7 @@ module _ (m : ℕ) (w : List ℕ) (t u : Trial) (p x : ℕ) (R : Ready m w t) (h
         lent = subst (Lent m w) (sym e) (lent-more (R .lent) p h o);
         sums = f ∙ five-cong _ _ (λ k l.
             ap₂ (λ (y z : ℕ). add y (product m (column m p k) z)) (sums-at R k l) ex
-            ∙ sym (masked-more F (tried t) p h o (at w) k l (masked-lt F (R .lent) k (omega (arith, F .one-lt))))
+            ∙ sym (masked-more F (placesOf t) p h o (at w) k l (masked-lt F (R .lent) k (omega (arith, F .one-lt))))
             ∙ ap (λ (ls : List ℕ). maskedSyndrome m ls w k) (sym e));
       }
 
@@ -129,8 +129,8 @@ searched-found {c = c} h b e f S =
 
 -- a search with the trial u, which has the place p beside those of t, is one from t with one extra place more
 pub searched-place : (m : ℕ) (w : List ℕ) (t u : Trial) (n : ℕ) (Far : List ℕ → Type 0) (c : Correction) (p : ℕ)
-    → (tried u ≡ p ∷ tried t) × Ready m w u → (Ready m w u → Searched m w (tried u) n (Far (tried u)) c)
-    → Searched m w (tried t) (suc n) (member p (tried t) ≡ false → Far (p ∷ tried t)) c
+    → (placesOf u ≡ p ∷ placesOf t) × Ready m w u → (Ready m w u → Searched m w (placesOf u) n (Far (placesOf u)) c)
+    → Searched m w (placesOf t) (suc n) (member p (placesOf t) ≡ false → Far (p ∷ placesOf t)) c
 searched-place m w t u n Far c p E S = record {
   none = λ g o. T .none g;
   one = λ g. (let C = T .one g in
@@ -147,14 +147,14 @@ searched-place m w t u n Far c p E S = record {
       record { extra = A .extra ++ (p ∷ []); few = more (A .extra) (A .few); two = subst (SeveralAt m w) (moved (A .extra)) (A .two) });
 }
   where
-    T : Searched m w (p ∷ tried t) n (Far (p ∷ tried t)) c
+    T : Searched m w (p ∷ placesOf t) n (Far (p ∷ placesOf t)) c
     T = subst (λ (ls : List ℕ). Searched m w ls n (Far ls) c) (E .0) (S (E .1))
 
     more : (xs : List ℕ) → length xs ≤ n → length (xs ++ (p ∷ [])) ≤ suc n
     more xs h = simp length-append (omega arith)
 
-    moved : (xs : List ℕ) → xs ++ (p ∷ tried t) ≡ (xs ++ (p ∷ [])) ++ tried t
-    moved xs = sym (append-assoc xs (p ∷ []) (tried t))
+    moved : (xs : List ℕ) → xs ++ (p ∷ placesOf t) ≡ (xs ++ (p ∷ [])) ++ placesOf t
+    moved xs = sym (append-assoc xs (p ∷ []) (placesOf t))
 
 -- nothing is to be found with a place outside the word, nor with one that is tried already
 pub searched-outside : {m : ℕ} {w ls : List ℕ} {n : ℕ} {Far : Type 0} {c : Correction} (p : ℕ) → c .found ≡ None → places m ≤ p

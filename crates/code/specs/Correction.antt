@@ -39,14 +39,14 @@ pub record Lent (m : ℕ) (w ls : List ℕ) : Type 0 where
 -- ---- a trial: places taken as erased, the erasures and extra ones, with the syndromes of the rest
 
 -- the places of a trial
-abbrev pub tried : Trial → List ℕ
-tried t = take (t .count) (t .places)
+abbrev pub placesOf : Trial → List ℕ
+placesOf t = take (t .count) (t .places)
 
 -- the trial is one of the word w
 pub record Ready (m : ℕ) (w : List ℕ) (t : Trial) : Type 0 where
   pub width : isWidth m ≡ true
-  pub lent : Lent m w (tried t)
-  pub sums : t .sums ≡ syndromesOf m (tried t) w
+  pub lent : Lent m w (placesOf t)
+  pub sums : t .sums ≡ syndromesOf m (placesOf t) w
 
 -- the entry in row k and column j of the system of a trial: the right-hand side, then a column for each place, then zeros
 abbrev pub systemEntry : ℕ → List ℕ → ℕ → ℕ → ℕ → ℕ

@@ -11,7 +11,7 @@ use Rattle.field.specs.Polynomial.{add}
 use Rattle.field.specs.Field.{order, product, power, inverse, α}
 use Rattle.field.specs.Question.{allBelow}
 use Rattle.code.specs.declared.correction.Correction.{Correction}
-use Rattle.code.specs.declared.errors.Few.{Few}
+use Rattle.code.specs.declared.errors.FirstTwo.{FirstTwo}
 use Rattle.code.specs.declared.errors.Pair.{Pair}
 use Rattle.code.specs.Word.{checks, places, at}
 use Rattle.code.specs.Place.{column}
@@ -72,12 +72,12 @@ full zero f = []
 full (suc n) f = cond (eqb (f n) 0) (full n f) (n ∷ full n f)
 
 -- f is the list of places ls, of which it keeps the first two
-pub record Lists (f : Few) (ls : List ℕ) : Type 0 where
+pub record Lists (f : FirstTwo) (ls : List ℕ) : Type 0 where
   pub count : f .count ≡ length ls
   pub first : f .first .0 ≡ getD ls 0 0
   pub second : f .second .0 ≡ getD ls 1 0
 
 -- c has the places ls, and adds e there
-pub record Amends (w ls : List ℕ) (e : ℕ → ℕ) (c : Correction) : Type 0 where
+pub record AddsAt (w ls : List ℕ) (e : ℕ → ℕ) (c : Correction) : Type 0 where
   pub places : take (c .count) (c .places) ≡ ls
   pub values : take (c .count) (c .values) ≡ map (λ p. add (at w p) (e p)) ls

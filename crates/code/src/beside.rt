@@ -10,12 +10,12 @@ ghost use Rattle.field.specs.Field.{order, product, power};
 ghost use Rattle.field.specs.Question.{isWidth, allBelow};
 ghost use Rattle.code.specs.Word.{checks, five, longest, at};
 ghost use Rattle.code.specs.Matrix.{unknowns};
-ghost use Rattle.code.specs.Correction.{NoneAt, tried, Ready, NoneBeside, Searched, NoneWithin};
+ghost use Rattle.code.specs.Correction.{NoneAt, placesOf, Ready, NoneBeside, Searched, NoneWithin};
 ghost use Rattle.code.specs.Locate.{point};
 ghost use Rattle.code.specs.Beside.{Injective, eliminate, Arranged, NoneRoot, NoneCheck, NoneOutside, Tell, NoneData, Only, Between, Apart};
 use crate::correction::Correction;
-use crate::correction::attempt;
 use crate::correction::nothing;
+use crate::correction::solve_trial;
 use crate::correction::solved;
 use crate::place::Place;
 use crate::place::column;
@@ -35,7 +35,7 @@ fn try_place(width: u8, word: &[u8], t: Trial, p: Place) -> Correction
         ⌜
         (r .count ≤ unknowns)
         × (Ready width (now (word .entry)) t
-        → Searched width (now (word .entry)) (tried t) 1 (NoneBeside width (now (word .entry)) (p .0) (tried t)) r)
+        → Searched width (now (word .entry)) (placesOf t) 1 (NoneBeside width (now (word .entry)) (p .0) (placesOf t)) r)
         ⌝ }
 {
     let i = p.0 as usize;
@@ -47,7 +47,7 @@ fn try_place(width: u8, word: &[u8], t: Trial, p: Place) -> Correction
     if listed(places, count, p) {
         return nothing();
     }
-    attempt(width, extended(width, t, p, word[i]))
+    solve_trial(width, extended(width, t, p, word[i]))
 }
 
 // The trial with the extra data place at which the quadratic is 0.
@@ -57,7 +57,7 @@ fn try_root(width: u8, word: &[u8], t: Trial, square: u8, linear: u8, constant: 
         ⌜
         (r .count ≤ unknowns)
         × (Ready width (now (word .entry)) t
-        → Searched width (now (word .entry)) (tried t) 1 (NoneRoot width (now (word .entry)) (tried t) square linear constant) r)
+        → Searched width (now (word .entry)) (placesOf t) 1 (NoneRoot width (now (word .entry)) (placesOf t) square linear constant) r)
         ⌝ }
 {
     let n = items_of(word);
@@ -71,13 +71,13 @@ fn try_root(width: u8, word: &[u8], t: Trial, square: u8, linear: u8, constant: 
 
 // Check places, from `low` on and below `high`. Syndromes at which no check place is wrong come from the erasures alone, and what is left of
 // them without these is 0: so what is left and is not 0 tells that the wrong one is among its syndromes.
-pub struct Window {
+pub struct CheckRange {
     pub low: u8,
     pub high: u8,
 }
 
-// The window's places among the n from k on, if x is not 0.
-fn narrowed(f: Window, k: u8, n: u8, x: u8) -> Window
+// The range's places among the n from k on, if x is not 0.
+fn narrowed(f: CheckRange, k: u8, n: u8, x: u8) -> CheckRange
     requires { ⌜ k + n ≤ checks ⌝ }
     ensures { λ r.
         ⌜
@@ -93,18 +93,18 @@ fn narrowed(f: Window, k: u8, n: u8, x: u8) -> Window
     let high = f.high;
     let end = k + n;
     if high < end {
-        return Window { low: k, high };
+        return CheckRange { low: k, high };
     }
-    Window { low: k, high: end }
+    CheckRange { low: k, high: end }
 }
 
 // The check places that are among the n from k on, for each row k that is not 0.
-fn window_of(rows: [u8; 5], n: u8) -> Window
+fn range_of(rows: [u8; 5], n: u8) -> CheckRange
     requires { ⌜ (0 < n) × (n ≤ checks) ⌝ }
     ensures { λ r. ⌜ ((m : ℕ) (w es : List ℕ) → Tell m w es n (at rows) → NoneOutside m w es (r .low) (r .high)) ⌝ }
 {
     let end = 6 - n;
-    let mut f = Window { low: 0, high: 5 };
+    let mut f = CheckRange { low: 0, high: 5 };
     let mut k: u8 = 0;
     while k < end {
         f = narrowed(f, k, n, rows[k as usize]);
@@ -130,50 +130,50 @@ fn differences(width: u8, rows: [u8; 5], a: Place) -> [u8; 5]
 }
 
 // The check places that come into question beside the erased place p. The syndrome of an erased check place tells nothing.
-fn window_one(width: u8, t: Trial, p: Place) -> Window
-    ensures { λ r. ⌜ ((w : List ℕ) → Ready width w t → tried t ≡ p .0 ∷ [] → NoneOutside width w (tried t) (r .low) (r .high)) ⌝ }
+fn candidates_beside_one(width: u8, t: Trial, p: Place) -> CheckRange
+    ensures { λ r. ⌜ ((w : List ℕ) → Ready width w t → placesOf t ≡ p .0 ∷ [] → NoneOutside width w (placesOf t) (r .low) (r .high)) ⌝ }
 {
     let mut rows = t.sums;
     let i = p.0;
     if 5 <= i {
-        return window_of(differences(width, rows, p), 2);
+        return range_of(differences(width, rows, p), 2);
     }
     rows[i as usize] = 0;
-    window_of(rows, 1)
+    range_of(rows, 1)
 }
 
 // The same beside the erased places p and q.
-fn window_two(width: u8, t: Trial, p: Place, q: Place) -> Window
-    ensures { λ r. ⌜ ((w : List ℕ) → Ready width w t → tried t ≡ p .0 ∷ q .0 ∷ [] → NoneOutside width w (tried t) (r .low) (r .high)) ⌝ }
+fn candidates_beside_two(width: u8, t: Trial, p: Place, q: Place) -> CheckRange
+    ensures { λ r. ⌜ ((w : List ℕ) → Ready width w t → placesOf t ≡ p .0 ∷ q .0 ∷ [] → NoneOutside width w (placesOf t) (r .low) (r .high)) ⌝ }
 {
     let sums = t.sums;
     if 5 <= p.0 {
         if 5 <= q.0 {
-            return window_of(differences(width, differences(width, sums, p), q), 3);
+            return range_of(differences(width, differences(width, sums, p), q), 3);
         }
     }
-    Window { low: 0, high: 5 }
+    CheckRange { low: 0, high: 5 }
 }
 
 // The same beside the erasures.
-fn window_beside(width: u8, t: Trial) -> Window
-    ensures { λ r. ⌜ ((w : List ℕ) → Ready width w t → NoneOutside width w (tried t) (r .low) (r .high)) ⌝ }
+fn candidate_checks(width: u8, t: Trial) -> CheckRange
+    ensures { λ r. ⌜ ((w : List ℕ) → Ready width w t → NoneOutside width w (placesOf t) (r .low) (r .high)) ⌝ }
 {
     let places = t.places;
     let count = t.count;
     let p = places[0];
     let q = places[1];
     if count == 1 {
-        return window_one(width, t, Place(p));
+        return candidates_beside_one(width, t, Place(p));
     }
     if count == 2 {
-        return window_two(width, t, Place(p), Place(q));
+        return candidates_beside_two(width, t, Place(p), Place(q));
     }
-    Window { low: 0, high: 5 }
+    CheckRange { low: 0, high: 5 }
 }
 
-// A check place outside the window, or 5 where there is none.
-fn left_out(f: Window) -> u8
+// A check place outside the range, or 5 where there is none.
+fn excluded_check(f: CheckRange) -> u8
     ensures { λ r. ⌜ (r < checks → (f .low ≤ r → r < f .high → ⊥)) ⌝ }
 {
     if 0 < f.low {
@@ -185,13 +185,13 @@ fn left_out(f: Window) -> u8
     5
 }
 
-// Do the erasures alone tell of no codeword? So it is where a check place that is not erased is outside the window: what rules the place
+// Do the erasures alone tell of no codeword? So it is where a check place that is not erased is outside the range: what rules the place
 // out rules out that nothing is wrong, too.
-fn is_hopeless(width: u8, t: Trial) -> bool
+fn erasures_excluded(width: u8, t: Trial) -> bool
     requires { ⌜ t .count ≤ unknowns ⌝ }
-    ensures { λ r. ⌜ (r ≡ true → (w : List ℕ) → Ready width w t → NoneAt width w (tried t)) ⌝ }
+    ensures { λ r. ⌜ (r ≡ true → (w : List ℕ) → Ready width w t → NoneAt width w (placesOf t)) ⌝ }
 {
-    let b = left_out(window_beside(width, t));
+    let b = excluded_check(candidate_checks(width, t));
     let places = t.places;
     let count = t.count;
     if b < 5 {
@@ -207,10 +207,10 @@ fn try_checks(width: u8, word: &[u8], t: Trial) -> Correction
         ⌜
         (r .count ≤ unknowns)
         × (Ready width (now (word .entry)) t
-        → Searched width (now (word .entry)) (tried t) 1 (NoneCheck width (now (word .entry)) (tried t)) r)
+        → Searched width (now (word .entry)) (placesOf t) 1 (NoneCheck width (now (word .entry)) (placesOf t)) r)
         ⌝ }
 {
-    let f = window_beside(width, t);
+    let f = candidate_checks(width, t);
     let high = f.high;
     let mut p = f.low;
     while p < high {
@@ -262,13 +262,13 @@ fn rows_beside(c: u8) -> Span
 }
 
 // The trial with the extra data place of which the syndromes tell, beside the erased check places c and d.
-fn try_between(width: u8, word: &[u8], t: Trial, c: u8, d: u8) -> Correction
+fn try_data_beside_checks(width: u8, word: &[u8], t: Trial, c: u8, d: u8) -> Correction
     requires { ⌜ (c ≤ d) × (t .count < unknowns) × (checks ≤ length (now word)) × (length (now word) ≤ longest) ⌝ }
     ensures { λ r.
         ⌜
         (r .count ≤ unknowns)
-        × (Ready width (now (word .entry)) t → allBelow checks (tried t) ≡ true → Only (tried t) c d
-        → Searched width (now (word .entry)) (tried t) 1 (NoneData width (now (word .entry)) (tried t) (at (t .sums))) r)
+        × (Ready width (now (word .entry)) t → allBelow checks (placesOf t) ≡ true → Only (placesOf t) c d
+        → Searched width (now (word .entry)) (placesOf t) 1 (NoneData width (now (word .entry)) (placesOf t) (at (t .sums))) r)
         ⌝ }
 {
     let sums = t.sums;
@@ -298,14 +298,14 @@ fn eliminated(width: u8, a: Place, h: u8, low: u8, high: u8) -> u8
 }
 
 // The same beside the erased data place a and the erased check place c; 5 stands for none.
-fn try_eliminated(width: u8, word: &[u8], t: Trial, a: Place, c: u8) -> Correction
+fn try_data_beside_data_and_check(width: u8, word: &[u8], t: Trial, a: Place, c: u8) -> Correction
     requires { ⌜ (t .count < unknowns) × (checks ≤ length (now word)) × (length (now word) ≤ longest) ⌝ }
     ensures { λ r.
         ⌜
         (r .count ≤ unknowns)
         × (Ready width (now (word .entry)) t
-        → ((cs : List ℕ) → Arranged (tried t) (a .0 ∷ cs) → checks ≤ a .0 → allBelow checks cs ≡ true → Only cs c c → (c ≡ 2 → Injective width 3)
-        → Searched width (now (word .entry)) (tried t) 1 (NoneData width (now (word .entry)) (tried t) (at (t .sums))) r))
+        → ((cs : List ℕ) → Arranged (placesOf t) (a .0 ∷ cs) → checks ≤ a .0 → allBelow checks cs ≡ true → Only cs c c → (c ≡ 2 → Injective width 3)
+        → Searched width (now (word .entry)) (placesOf t) 1 (NoneData width (now (word .entry)) (placesOf t) (at (t .sums))) r))
         ⌝ }
 {
     let sums = t.sums;
@@ -319,13 +319,13 @@ fn try_eliminated(width: u8, word: &[u8], t: Trial, a: Place, c: u8) -> Correcti
 }
 
 // The same beside the erased data places a and c.
-fn try_between_two(width: u8, word: &[u8], t: Trial, a: Place, c: Place) -> Correction
+fn try_data_beside_two_data(width: u8, word: &[u8], t: Trial, a: Place, c: Place) -> Correction
     requires { ⌜ (t .count < unknowns) × (checks ≤ length (now word)) × (length (now word) ≤ longest) ⌝ }
     ensures { λ r.
         ⌜
         (r .count ≤ unknowns)
-        × (Ready width (now (word .entry)) t → tried t ≡ a .0 ∷ c .0 ∷ [] → checks ≤ a .0 → checks ≤ c .0
-        → Searched width (now (word .entry)) (tried t) 1 (NoneData width (now (word .entry)) (tried t) (at (t .sums))) r)
+        × (Ready width (now (word .entry)) t → placesOf t ≡ a .0 ∷ c .0 ∷ [] → checks ≤ a .0 → checks ≤ c .0
+        → Searched width (now (word .entry)) (placesOf t) 1 (NoneData width (now (word .entry)) (placesOf t) (at (t .sums))) r)
         ⌝ }
 {
     let sums = t.sums;
@@ -335,30 +335,30 @@ fn try_between_two(width: u8, word: &[u8], t: Trial, a: Place, c: Place) -> Corr
 }
 
 // The same beside the two erasures p and q. Where a data place and p_2 are erased, cubing has to be one to one.
-fn try_beside_two(width: u8, word: &[u8], t: Trial, p: Place, q: Place) -> Correction
+fn try_data_beside_two(width: u8, word: &[u8], t: Trial, p: Place, q: Place) -> Correction
     requires { ⌜ (t .count < unknowns) × (checks ≤ length (now word)) × (length (now word) ≤ longest) ⌝ }
     ensures { λ r.
         ⌜
         (r .count ≤ unknowns)
-        × (Ready width (now (word .entry)) t → tried t ≡ p .0 ∷ q .0 ∷ [] → Injective width 3
-        → Searched width (now (word .entry)) (tried t) 1 (NoneData width (now (word .entry)) (tried t) (at (t .sums))) r)
+        × (Ready width (now (word .entry)) t → placesOf t ≡ p .0 ∷ q .0 ∷ [] → Injective width 3
+        → Searched width (now (word .entry)) (placesOf t) 1 (NoneData width (now (word .entry)) (placesOf t) (at (t .sums))) r)
         ⌝ }
 {
     let i = p.0;
     let j = q.0;
     if i < 5 {
         if 5 <= j {
-            return try_eliminated(width, word, t, q, i);
+            return try_data_beside_data_and_check(width, word, t, q, i);
         }
         if i <= j {
-            return try_between(width, word, t, i, j);
+            return try_data_beside_checks(width, word, t, i, j);
         }
-        return try_between(width, word, t, j, i);
+        return try_data_beside_checks(width, word, t, j, i);
     }
     if j < 5 {
-        return try_eliminated(width, word, t, p, j);
+        return try_data_beside_data_and_check(width, word, t, p, j);
     }
-    try_between_two(width, word, t, p, q)
+    try_data_beside_two_data(width, word, t, p, q)
 }
 
 // The same beside the erasures, of which there are one or two.
@@ -368,7 +368,7 @@ fn try_data(width: u8, word: &[u8], t: Trial) -> Correction
         ⌜
         (r .count ≤ unknowns)
         × (Ready width (now (word .entry)) t → (t .count ≡ 2 → Injective width 3)
-        → Searched width (now (word .entry)) (tried t) 1 (NoneData width (now (word .entry)) (tried t) (at (t .sums))) r)
+        → Searched width (now (word .entry)) (placesOf t) 1 (NoneData width (now (word .entry)) (placesOf t) (at (t .sums))) r)
         ⌝ }
 {
     let count = t.count;
@@ -376,23 +376,23 @@ fn try_data(width: u8, word: &[u8], t: Trial) -> Correction
     let p = places[0];
     let q = places[1];
     if count == 2 {
-        return try_beside_two(width, word, t, Place(p), Place(q));
+        return try_data_beside_two(width, word, t, Place(p), Place(q));
     }
     if p < 5 {
-        return try_between(width, word, t, p, 5);
+        return try_data_beside_checks(width, word, t, p, 5);
     }
-    try_eliminated(width, word, t, Place(p), 5)
+    try_data_beside_data_and_check(width, word, t, Place(p), 5)
 }
 
-// The trial as it is, where that is not hopeless.
-fn attempt_alone(width: u8, t: Trial) -> Correction
+// The trial as it is, unless that is ruled out already.
+fn solve_erasures(width: u8, t: Trial) -> Correction
     requires { ⌜ t .count ≤ unknowns ⌝ }
-    ensures { λ r. ⌜ (r .count ≤ unknowns) × ((w : List ℕ) → Ready width w t → Searched width w (tried t) 0 (NoneAt width w (tried t)) r) ⌝ }
+    ensures { λ r. ⌜ (r .count ≤ unknowns) × ((w : List ℕ) → Ready width w t → Searched width w (placesOf t) 0 (NoneAt width w (placesOf t)) r) ⌝ }
 {
-    if is_hopeless(width, t) {
+    if erasures_excluded(width, t) {
         return nothing();
     }
-    attempt(width, t)
+    solve_trial(width, t)
 }
 
 // A correction with at most one extra place, beside one or two erasures.
@@ -402,10 +402,10 @@ pub fn find_beside(width: u8, word: &[u8], t: Trial) -> Correction
         ⌜
         (r .count ≤ unknowns)
         × (Ready width (now (word .entry)) t → (t .count ≡ 2 → Injective width 3)
-        → Searched width (now (word .entry)) (tried t) 1 (NoneWithin width (now (word .entry)) (tried t) 1) r)
+        → Searched width (now (word .entry)) (placesOf t) 1 (NoneWithin width (now (word .entry)) (placesOf t) 1) r)
         ⌝ }
 {
-    let b = attempt_alone(width, t);
+    let b = solve_erasures(width, t);
     if solved(b) {
         return b;
     }

@@ -9,7 +9,7 @@ ghost use Rattle.field.specs.Question.{allBelow};
 ghost use Rattle.code.specs.Word.{longest};
 ghost use Rattle.code.specs.Erasure.{member, distinct, differ, changesBelow};
 ghost use Rattle.code.specs.Matrix.{rows, unknowns, columnOf};
-ghost use Rattle.code.specs.Correction.{tried, Ready, SystemColumns, SystemMatrix, corrected, NoneAt, Searched, isSolved};
+ghost use Rattle.code.specs.Correction.{placesOf, Ready, SystemColumns, SystemMatrix, corrected, NoneAt, Searched, isSolved};
 ghost use Rattle.code.specs.declared.solver.Solutions.the-variants.{None};
 use crate::place::Place;
 use crate::place::whole_column;
@@ -103,9 +103,9 @@ fn matrix_of(
 }
 
 // The codeword that agrees with the word outside the places of the trial, if there is just one.
-pub fn attempt(width: u8, t: Trial) -> Correction
+pub fn solve_trial(width: u8, t: Trial) -> Correction
     requires { ⌜ t .count ≤ unknowns ⌝ }
-    ensures { λ r. ⌜ (r .count ≤ unknowns) × ((w : List ℕ) → Ready width w t → Searched width w (tried t) 0 (NoneAt width w (tried t)) r) ⌝ }
+    ensures { λ r. ⌜ (r .count ≤ unknowns) × ((w : List ℕ) → Ready width w t → Searched width w (placesOf t) 0 (NoneAt width w (placesOf t)) r) ⌝ }
 {
     let places = t.places;
     let count = t.count;
@@ -135,7 +135,7 @@ fn change_at(erasures: &[u8], p: Place, x: u8, y: u8) -> u8
 }
 
 // Writes the corrected word, at the places of the correction alone, and counts the changes outside the erasures.
-pub fn write(word: &mut [u8], erasures: &[u8], c: Correction) -> u8
+pub fn apply_correction(word: &mut [u8], erasures: &[u8], c: Correction) -> u8
     requires { ⌜
         (c .count ≤ unknowns) × (length (now word) ≤ longest) × (allBelow (length (now word)) (take (c .count) (c .places)) ≡ true)
         × (distinct (take (c .count) (c .places)) ≡ true)

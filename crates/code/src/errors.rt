@@ -12,9 +12,9 @@ ghost use Rattle.field.specs.Answer.{Operand};
 ghost use Rattle.code.specs.Word.{checks, places, longest, at};
 ghost use Rattle.code.specs.Place.{column as columnM};
 ghost use Rattle.code.specs.Matrix.{unknowns};
-ghost use Rattle.code.specs.Correction.{tried, Ready, Searched, NoneWithin};
+ghost use Rattle.code.specs.Correction.{placesOf, Ready, Searched, NoneWithin};
 ghost use Rattle.code.specs.declared.solver.Solutions.the-variants.{One};
-ghost use Rattle.code.specs.Locate.{without, full, Lists, Amends, NoRatio, NoPair, PairValues};
+ghost use Rattle.code.specs.Locate.{without, full, Lists, AddsAt, NoRatio, NoPair, PairValues};
 use crate::correction::Correction;
 use crate::correction::nothing;
 use crate::correction::solved;
@@ -34,14 +34,14 @@ use field::arithmetic::multiply;
 use field::shift::shift;
 
 // Places, the highest first; of more than two only the first two are kept.
-pub struct Few {
+pub struct FirstTwo {
     pub count: usize,
     pub first: Place,
     pub second: Place,
 }
 
 // The places with k in front, if x is not 0.
-fn noted(f: Few, k: u8, x: u8) -> Few
+fn with_nonzero(f: FirstTwo, k: u8, x: u8) -> FirstTwo
     requires { ⌜ f .count < checks ⌝ }
     ensures { λ r. ⌜ (r .count ≤ f .count + 1) × ((ls : List ℕ) → Lists f ls → Lists r (cond (eqb x 0) ls (k ∷ ls))) ⌝ }
 {
@@ -50,7 +50,7 @@ fn noted(f: Few, k: u8, x: u8) -> Few
     }
     let count = f.count;
     let first = f.first;
-    Few {
+    FirstTwo {
         count: count + 1,
         first: Place(k),
         second: first,
@@ -58,19 +58,19 @@ fn noted(f: Few, k: u8, x: u8) -> Few
 }
 
 // The check places at which the syndromes are not 0.
-fn nonzeros(sums: [u8; 5]) -> Few
+fn nonzeros(sums: [u8; 5]) -> FirstTwo
     ensures { λ r. ⌜ (r .count ≤ checks) × Lists r (full checks (at sums)) ⌝ }
 {
-    let f = Few {
+    let f = FirstTwo {
         count: 0,
         first: Place(0),
         second: Place(0),
     };
-    let f0 = noted(f, 0, sums[0]);
-    let f1 = noted(f0, 1, sums[1]);
-    let f2 = noted(f1, 2, sums[2]);
-    let f3 = noted(f2, 3, sums[3]);
-    noted(f3, 4, sums[4])
+    let f0 = with_nonzero(f, 0, sums[0]);
+    let f1 = with_nonzero(f0, 1, sums[1]);
+    let f2 = with_nonzero(f1, 2, sums[2]);
+    let f3 = with_nonzero(f2, 3, sums[3]);
+    with_nonzero(f3, 4, sums[4])
 }
 
 // The byte at a place; 0 behind the last.
@@ -82,13 +82,13 @@ fn byte_at(bytes: &[u8], p: Place) -> u8
 }
 
 // The correction that adds y at the first of the places and z at the second.
-fn amended(word: &[u8], f: Few, y: u8, z: u8) -> Correction
+fn correction_of(word: &[u8], f: FirstTwo, y: u8, z: u8) -> Correction
     requires { ⌜ f .count ≤ 2 ⌝ }
     ensures { λ r.
         ⌜
         (r .count ≤ unknowns)
         × (r .found ≡ One)
-        × ((ls : List ℕ) (e : ℕ → ℕ) → Lists f ls → y ≡ e (f .first .0) → z ≡ e (f .second .0) → Amends (now (word .entry)) ls e r)
+        × ((ls : List ℕ) (e : ℕ → ℕ) → Lists f ls → y ≡ e (f .first .0) → z ≡ e (f .second .0) → AddsAt (now (word .entry)) ls e r)
         ⌝ }
 {
     let count = f.count;
@@ -105,12 +105,12 @@ fn amended(word: &[u8], f: Few, y: u8, z: u8) -> Correction
 }
 
 // Check places alone are wrong, where no more syndromes than the reach are not 0.
-fn amend_checks(word: &[u8], t: Trial, reach: usize) -> Correction
+fn correct_checks(word: &[u8], t: Trial, reach: usize) -> Correction
     requires { ⌜ reach ≤ 2 ⌝ }
     ensures { λ r.
         ⌜
         (r .count ≤ unknowns)
-        × ((m : ℕ) → Ready m (now (word .entry)) t → tried t ≡ []
+        × ((m : ℕ) → Ready m (now (word .entry)) t → placesOf t ≡ []
         → Searched m (now (word .entry)) [] reach (reach < length (full checks (at (t .sums)))) r)
         ⌝ }
 {
@@ -124,16 +124,16 @@ fn amend_checks(word: &[u8], t: Trial, reach: usize) -> Correction
     let q = f.second;
     let y = byte_at(&sums, p);
     let z = byte_at(&sums, q);
-    amended(word, f, y, z)
+    correction_of(word, f, y, z)
 }
 
 // The data place p is wrong by y, and so are the check places at which the syndromes without y at p are not 0.
-fn amend_beside(width: u8, word: &[u8], t: Trial, p: Place, y: u8, reach: usize) -> Correction
+fn correct_beside(width: u8, word: &[u8], t: Trial, p: Place, y: u8, reach: usize) -> Correction
     requires { ⌜ reach ≤ 2 ⌝ }
     ensures { λ r.
         ⌜
         (r .count ≤ unknowns)
-        × (Ready width (now (word .entry)) t → tried t ≡ [] → checks ≤ p .0 → p .0 < places width → y < order width
+        × (Ready width (now (word .entry)) t → placesOf t ≡ [] → checks ≤ p .0 → p .0 < places width → y < order width
         → Searched width (now (word .entry)) [] reach (reach ≤ length (full checks (without width (at (t .sums)) (p .0) y))) r)
         ⌝ }
 {
@@ -145,13 +145,13 @@ fn amend_beside(width: u8, word: &[u8], t: Trial, p: Place, y: u8, reach: usize)
         return nothing();
     }
     let q = js.first;
-    let f = Few {
+    let f = FirstTwo {
         count: count + 1,
         first: p,
         second: q,
     };
     let z = byte_at(&rest, q);
-    amended(word, f, y, z)
+    correction_of(word, f, y, z)
 }
 
 // What is to be added at the data place p to make syndrome a, which is x.
@@ -162,12 +162,12 @@ fn value_from(width: u8, x: u8, a: u8, p: Place) -> u8
 }
 
 // The data place that the ratio of the syndromes a and a + 1 tells is wrong, and perhaps check places are.
-fn amend_ratio(width: u8, word: &[u8], t: Trial, a: u8, reach: usize) -> Correction
+fn correct_ratio(width: u8, word: &[u8], t: Trial, a: u8, reach: usize) -> Correction
     requires { ⌜ (reach ≤ 2) × (a + 1 < checks) × (checks ≤ length (now word)) × (length (now word) ≤ longest) ⌝ }
     ensures { λ r.
         ⌜
         (r .count ≤ unknowns)
-        × (Ready width (now (word .entry)) t → tried t ≡ []
+        × (Ready width (now (word .entry)) t → placesOf t ≡ []
         → Searched width (now (word .entry)) [] reach (NoRatio width (at (t .sums)) reach a) r)
         ⌝ }
 {
@@ -185,7 +185,7 @@ fn amend_ratio(width: u8, word: &[u8], t: Trial, a: u8, reach: usize) -> Correct
         return nothing();
     }
     let p = place_of(e);
-    amend_beside(width, word, t, p, value_from(width, x, a, p), reach)
+    correct_beside(width, word, t, p, value_from(width, x, a, p), reach)
 }
 
 // What is to be added at the second of two data places, with the points x and y, to make the syndromes s and next, which are 0 and 1.
@@ -226,11 +226,11 @@ fn pair_values(width: u8, s: [u8; 5], p: Place, q: Place) -> Pair
 }
 
 // The data places p and q are wrong, if what is to be added there makes all five syndromes.
-fn amend_pair(width: u8, word: &[u8], t: Trial, p: Place, q: Place) -> Correction
+fn correct_pair(width: u8, word: &[u8], t: Trial, p: Place, q: Place) -> Correction
     ensures { λ r.
         ⌜
         (r .count ≤ unknowns)
-        × (Ready width (now (word .entry)) t → tried t ≡ [] → checks ≤ q .0 → q .0 < p .0 → p .0 < places width
+        × (Ready width (now (word .entry)) t → placesOf t ≡ [] → checks ≤ q .0 → q .0 < p .0 → p .0 < places width
         → Searched width (now (word .entry)) [] 2 (NoPair width (at (t .sums)) (p .0) (q .0)) r)
         ⌝ }
 {
@@ -240,12 +240,12 @@ fn amend_pair(width: u8, word: &[u8], t: Trial, p: Place, q: Place) -> Correctio
     let v = y.second;
     let rest = masked(width, masked(width, sums, p, u), q, v);
     if all_zero(&rest) {
-        let f = Few {
+        let f = FirstTwo {
             count: 2,
             first: p,
             second: q,
         };
-        return amended(word, f, u, v);
+        return correction_of(word, f, u, v);
     }
     nothing()
 }
@@ -267,12 +267,12 @@ fn coefficient(width: u8, s: [u8; 5], i: usize, j: usize, k: usize, l: usize) ->
 }
 
 // The first two data places at which the locator, square·x² + linear·x + constant, is 0 are wrong.
-fn amend_roots(width: u8, word: &[u8], t: Trial) -> Correction
+fn correct_roots(width: u8, word: &[u8], t: Trial) -> Correction
     requires { ⌜ (checks ≤ length (now word)) × (length (now word) ≤ longest) ⌝ }
     ensures { λ r.
         ⌜
         (r .count ≤ unknowns)
-        × (Ready width (now (word .entry)) t → tried t ≡ []
+        × (Ready width (now (word .entry)) t → placesOf t ≡ []
         → Searched width (now (word .entry)) [] 2 ((p q : ℕ) → checks ≤ q → q < p → p < places width → NoPair width (at (t .sums)) p q) r)
         ⌝ }
 {
@@ -297,7 +297,7 @@ fn amend_roots(width: u8, word: &[u8], t: Trial) -> Correction
     if n <= high.0 {
         return nothing();
     }
-    amend_pair(width, word, t, place_of(high), place_of(low))
+    correct_pair(width, word, t, place_of(high), place_of(low))
 }
 
 // A correction with at most one place.
@@ -306,15 +306,15 @@ pub fn find_single(width: u8, word: &[u8], t: Trial) -> Correction
     ensures { λ r.
         ⌜
         (r .count ≤ unknowns)
-        × (Ready width (now (word .entry)) t → tried t ≡ []
+        × (Ready width (now (word .entry)) t → placesOf t ≡ []
         → Searched width (now (word .entry)) [] 1 (NoneWithin width (now (word .entry)) [] 1) r)
         ⌝ }
 {
-    let b = amend_checks(word, t, 1);
+    let b = correct_checks(word, t, 1);
     if solved(b) {
         return b;
     }
-    amend_ratio(width, word, t, 0, 1)
+    correct_ratio(width, word, t, 0, 1)
 }
 
 // A correction with at most two places.
@@ -323,21 +323,21 @@ pub fn find_pair(width: u8, word: &[u8], t: Trial) -> Correction
     ensures { λ r.
         ⌜
         (r .count ≤ unknowns)
-        × (Ready width (now (word .entry)) t → tried t ≡ []
+        × (Ready width (now (word .entry)) t → placesOf t ≡ []
         → Searched width (now (word .entry)) [] 2 (NoneWithin width (now (word .entry)) [] 2) r)
         ⌝ }
 {
-    let b = amend_checks(word, t, 2);
+    let b = correct_checks(word, t, 2);
     if solved(b) {
         return b;
     }
-    let c = amend_roots(width, word, t);
+    let c = correct_roots(width, word, t);
     if solved(c) {
         return c;
     }
-    let d = amend_ratio(width, word, t, 0, 2);
+    let d = correct_ratio(width, word, t, 0, 2);
     if solved(d) {
         return d;
     }
-    amend_ratio(width, word, t, 2, 2)
+    correct_ratio(width, word, t, 2, 2)
 }

@@ -6,10 +6,10 @@ ghost use lib.ListN.{length};
 ghost use Rattle.code.specs.Word.{checks, longest};
 ghost use Rattle.code.specs.Near.{radius};
 ghost use Rattle.code.specs.Matrix.{unknowns};
-ghost use Rattle.code.specs.Correction.{tried, Ready, Searched, NoneWithin};
+ghost use Rattle.code.specs.Correction.{placesOf, Ready, Searched, NoneWithin};
 use crate::beside::find_beside;
 use crate::correction::Correction;
-use crate::correction::attempt;
+use crate::correction::solve_trial;
 use crate::errors::find_pair;
 use crate::errors::find_single;
 use crate::trial::Trial;
@@ -23,12 +23,12 @@ pub fn find_near(width: u8, word: &[u8], t: Trial, reach: usize) -> Correction
         ⌜
         (r .count ≤ unknowns)
         × (Ready width (now (word .entry)) t
-        → Searched width (now (word .entry)) (tried t) reach (NoneWithin width (now (word .entry)) (tried t) reach) r)
+        → Searched width (now (word .entry)) (placesOf t) reach (NoneWithin width (now (word .entry)) (placesOf t) reach) r)
         ⌝ }
 {
     let count = t.count;
     if reach == 0 {
-        return attempt(width, t);
+        return solve_trial(width, t);
     }
     if 0 < count {
         return find_beside(width, word, t);

@@ -33,7 +33,7 @@ use field::arithmetic::order_of;
 use restorer::Method;
 use restorer::restore_with;
 use slice::copy;
-use trial::started;
+use trial::erasure_trial;
 
 // What the codeword test answers.
 pub enum Membership {
@@ -118,7 +118,7 @@ pub fn masked_syndromes(width: u8, word: &[u8], erasures: &[u8]) -> Syndromes
 {
     match ask_restore(width, word, erasures) {
         Verdict::Passed => {
-            let t = started(width, word, erasures);
+            let t = erasure_trial(width, word, erasures);
             let sums = t.sums;
             Syndromes {
                 verdict: Verdict::Passed,

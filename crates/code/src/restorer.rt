@@ -6,17 +6,17 @@ ghost use Rattle.code.specs.Near.{radius};
 ghost use Rattle.code.specs.Call.{RestoresWithin};
 ghost use Rattle.code.specs.Demands.{PassesWithin};
 ghost use Rattle.code.specs.Matrix.{unknowns};
-ghost use Rattle.code.specs.Correction.{tried, Ready, Searched, NoneWithin};
+ghost use Rattle.code.specs.Correction.{placesOf, Ready, Searched, NoneWithin};
 use crate::Repair;
 use crate::asking::ask_within;
 use crate::correction::Correction;
-use crate::correction::write;
+use crate::correction::apply_correction;
 use crate::finder::find_near;
 use crate::search::search;
 use crate::solver::Solutions;
 use crate::trial::Trial;
+use crate::trial::erasure_trial;
 use crate::trial::is_clean;
-use crate::trial::started;
 use field::Question;
 use field::Verdict;
 
@@ -27,7 +27,7 @@ pub enum Method {
 }
 
 // A correction with at most `reach` extra places.
-fn sought(method: Method, width: u8, word: &[u8], t: Trial, reach: u8) -> Correction
+fn find_correction(method: Method, width: u8, word: &[u8], t: Trial, reach: u8) -> Correction
     requires { ⌜
         (t .count ≤ unknowns) × (reach ≤ radius width (t .count)) × (checks ≤ length (now word)) × (length (now word) ≤ longest)
         ⌝ }
@@ -35,7 +35,7 @@ fn sought(method: Method, width: u8, word: &[u8], t: Trial, reach: u8) -> Correc
         ⌜
         (r .count ≤ unknowns)
         × (Ready width (now (word .entry)) t
-        → Searched width (now (word .entry)) (tried t) reach (NoneWithin width (now (word .entry)) (tried t) reach) r)
+        → Searched width (now (word .entry)) (placesOf t) reach (NoneWithin width (now (word .entry)) (placesOf t) reach) r)
         ⌝ }
 {
     match method {
@@ -45,19 +45,19 @@ fn sought(method: Method, width: u8, word: &[u8], t: Trial, reach: u8) -> Correc
 }
 
 // Question 8, and whether there is just one codeword within the reach: then it is written.
-fn correct(method: Method, width: u8, word: &mut [u8], erasures: &[u8], reach: u8) -> Repair
+fn correct_word(method: Method, width: u8, word: &mut [u8], erasures: &[u8], reach: u8) -> Repair
     requires { ⌜ PassesWithin width (now word) (now erasures) reach ⌝ }
     ensures { λ r. ⌜ RestoresWithin width (now (word .entry)) (now (erasures .entry)) reach r (now (word .exit)) ⌝ }
 {
-    let t = started(width, word, erasures);
+    let t = erasure_trial(width, word, erasures);
     if is_clean(t) {
         return Repair::Restored(0);
     }
-    let c = sought(method, width, word, t, reach);
+    let c = find_correction(method, width, word, t, reach);
     let found = c.found;
     match found {
         Solutions::None => Repair::Refused(Question::Correctable),
-        Solutions::One => Repair::Restored(write(word, erasures, c)),
+        Solutions::One => Repair::Restored(apply_correction(word, erasures, c)),
         Solutions::Several => Repair::Refused(Question::Unique),
     }
 }
@@ -73,7 +73,7 @@ pub fn restore_with(
     ensures { λ r. ⌜ RestoresWithin width (now (word .entry)) (now (erasures .entry)) reach r (now (word .exit)) ⌝ }
 {
     match ask_within(width, word, erasures, reach) {
-        Verdict::Passed => correct(method, width, word, erasures, reach),
+        Verdict::Passed => correct_word(method, width, word, erasures, reach),
         Verdict::Refused(q) => Repair::Refused(q),
     }
 }

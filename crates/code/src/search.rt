@@ -2,9 +2,9 @@
 ghost use Prim.Native.Nat.{_+_, _≤_};
 ghost use lib.ListN.{length};
 ghost use Rattle.code.specs.Matrix.{unknowns};
-ghost use Rattle.code.specs.Correction.{tried, Ready, NoneFrom, Searched};
+ghost use Rattle.code.specs.Correction.{placesOf, Ready, NoneFrom, Searched};
 use crate::correction::Correction;
-use crate::correction::attempt;
+use crate::correction::solve_trial;
 use crate::correction::solved;
 use crate::place::Place;
 use crate::trial::Trial;
@@ -18,10 +18,10 @@ pub fn search(width: u8, word: &[u8], t: Trial, from: usize, left: usize) -> Cor
         ⌜
         (r .count ≤ unknowns)
         × (Ready width (now (word .entry)) t
-        → Searched width (now (word .entry)) (tried t) left (NoneFrom width (now (word .entry)) (tried t) from left) r)
+        → Searched width (now (word .entry)) (placesOf t) left (NoneFrom width (now (word .entry)) (placesOf t) from left) r)
         ⌝ }
 {
-    let c = attempt(width, t);
+    let c = solve_trial(width, t);
     if solved(c) {
         return c;
     }

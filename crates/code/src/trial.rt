@@ -12,7 +12,7 @@ ghost use Rattle.code.specs.Place.{column as columnM};
 ghost use Rattle.code.specs.Erasure.{member, syndromesOf};
 ghost use Rattle.code.specs.Call.{allZero};
 ghost use Rattle.code.specs.Matrix.{unknowns};
-ghost use Rattle.code.specs.Correction.{fill, Lent, tried, Ready, Workable};
+ghost use Rattle.code.specs.Correction.{fill, Lent, placesOf, Ready, Workable};
 use crate::place::Place;
 use crate::place::column;
 use crate::place::whole_column;
@@ -88,7 +88,7 @@ pub fn extended(width: u8, t: Trial, p: Place, x: u8) -> Trial
     ensures { λ r.
         ⌜
         (r .count ≡ t .count + 1)
-        × ((w : List ℕ) → Ready width w t → p .0 < places width → member (p .0) (tried t) ≡ false → x ≡ at w (p .0) → (tried r ≡ p .0 ∷ tried t) × Ready width w r)
+        × ((w : List ℕ) → Ready width w t → p .0 < places width → member (p .0) (placesOf t) ≡ false → x ≡ at w (p .0) → (placesOf r ≡ p .0 ∷ placesOf t) × Ready width w r)
         ⌝ }
 {
     let places = t.places;
@@ -172,12 +172,12 @@ fn row_of_places(erasures: &[u8]) -> [u8; UNKNOWNS]
 }
 
 // The trial of the erasures alone.
-pub fn started(width: u8, word: &[u8], erasures: &[u8]) -> Trial
+pub fn erasure_trial(width: u8, word: &[u8], erasures: &[u8]) -> Trial
     requires { ⌜ Workable (now word) (now erasures) ⌝ }
     ensures { λ r.
         ⌜
         (r .count ≡ length (now (erasures .entry)))
-        × (tried r ≡ now (erasures .entry))
+        × (placesOf r ≡ now (erasures .entry))
         × (isWidth width ≡ true → Lent width (now (word .entry)) (now (erasures .entry)) → Ready width (now (word .entry)) r)
         ⌝ }
 {

@@ -19,7 +19,7 @@ use Rattle.field.specs.declared.Verdict.the-variants.{Passed, Refused}
 use Rattle.field.proofs.Ask.{width-yes, width-no, order-is}
 use Rattle.code.specs.Word.{checks, places}
 use Rattle.code.specs.Call.{allZero, zeroSyndromes, done, testAsked, testOf}
-use Rattle.code.proofs.Asking.{test-width, test-size, test-symbols}
+use Rattle.code.proofs.Answers.{test-width, test-size, test-symbols}
 use Rattle.code.proofs.Loops.{part-drop}
 use Rattle.sheet.specs.Sheet.{sheetWidth, sheetSize, isDated, symbolsOf, unusedOf}
 use Rattle.sheet.specs.Call.{sheetAsked, contentAsked, writeSheetAsked, readSheetAsked}

@@ -22,8 +22,8 @@ ask-restore-requires c κs = search needs
 enum-told : tie.Need-enum-told
 enum-told c = search needs
 
-started-requires : tie.Need-started-requires
-started-requires c κs =
+erasure-trial-requires : tie.Need-erasure-trial-requires
+erasure-trial-requires c κs =
     let a = c .before .before .before .before .before .args in
     workable (a .width) (a .word .now) (a .erasures .now) (passed c)
 
@@ -32,7 +32,7 @@ enum-known-q c = search needs
 
 returns : tie.Need-returns
 returns c =
-    let s = c .before .started in
+    let s = c .before .erasure-trial in
     let told = c .before .before in
     let a = told .before .before .before .before .before .args in
     let p = passed told in
@@ -48,4 +48,4 @@ returns-2 c =
 pub masked-syndromes-spec : {M : Type 1} → statement M
 masked-syndromes-spec =
     tie.close
-    (tie.spec ask-restore-requires enum-told started-requires enum-known-q returns returns-2)
+    (tie.spec ask-restore-requires enum-told erasure-trial-requires enum-known-q returns returns-2)

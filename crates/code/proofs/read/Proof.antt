@@ -5,7 +5,7 @@ use Prim.Native.Nat.{_+_}
 use native.Mathlib.Omega.{arith}
 use lib.ListN.{length, length-drop}
 use Rattle.code.specs.Word.{checks}
-use Rattle.code.proofs.Asking.{reads, reads-lengths}
+use Rattle.code.proofs.Answers.{reads, reads-lengths}
 use Rattle.code.proofs.Loops.{part-drop}
 use Rattle.code.proofs.read.Statement.{statement}
 use Rattle.code.proofs.read.Tie as tie

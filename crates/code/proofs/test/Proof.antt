@@ -5,7 +5,7 @@ use mathlib.Core.Bool.{Bool, true, false, cond}
 use Rattle.field.specs.Question.{accepted}
 use Rattle.field.specs.declared.Verdict.the-variants.{Passed}
 use Rattle.code.specs.Call.{testOf}
-use Rattle.code.proofs.Asking.{test-width, test-size, test-long, test-symbols, test-answer, test-refused}
+use Rattle.code.proofs.Answers.{test-width, test-size, test-long, test-symbols, test-answer, test-refused}
 use Rattle.code.proofs.test.Statement.{statement}
 use Rattle.code.proofs.test.Tie as tie
 

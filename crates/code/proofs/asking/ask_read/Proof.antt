@@ -9,7 +9,7 @@ use Rattle.field.specs.Question.{ask}
 use Rattle.field.specs.declared.Question.the-variants.{Syndrome}
 use Rattle.field.specs.declared.Verdict.the-variants.{Passed}
 use Rattle.code.specs.Call.{readAsked}
-use Rattle.code.proofs.Asking.{slices-width, slices-word, slices-long, slices-symbols, read-answer, read-stop}
+use Rattle.code.proofs.Answers.{slices-width, slices-word, slices-long, slices-symbols, read-answer, read-stop}
 use Rattle.code.proofs.asking.ask_read.Statement.{statement}
 use Rattle.code.proofs.asking.ask_read.Tie as tie
 

@@ -1,7 +1,7 @@
 -- `code::asking::ask_test` meets its contract. Assumes nothing.
 use borrow.Author.Needs.{needs}
 use Rattle.code.specs.Call.{testAsked}
-use Rattle.code.proofs.Asking.{word-stop, test-on}
+use Rattle.code.proofs.Answers.{word-stop, test-on}
 use Rattle.code.proofs.asking.ask_test.Statement.{statement}
 use Rattle.code.proofs.asking.ask_test.Tie as tie
 

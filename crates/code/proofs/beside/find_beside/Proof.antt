@@ -5,12 +5,12 @@ use native.Mathlib.Nat.{le-refl}
 use Rattle.field.proofs.Widths.{field-of}
 use Rattle.code.specs.Word.{at}
 use Rattle.code.proofs.Trying.{sums-at, searched-nothing, searched-found, searched-last}
-use Rattle.code.proofs.Beside.{none-beside}
+use Rattle.code.proofs.BesideErasures.{none-beside}
 use Rattle.code.proofs.beside.find_beside.Statement.{statement}
 use Rattle.code.proofs.beside.find_beside.Tie as tie
 
-attempt-alone-requires : tie.Need-attempt-alone-requires
-attempt-alone-requires c κs = search needs
+solve-erasures-requires : tie.Need-solve-erasures-requires
+solve-erasures-requires c κs = search needs
 
 solved-requires : tie.Need-solved-requires
 solved-requires c κs = search needs
@@ -18,7 +18,7 @@ solved-requires c κs = search needs
 returns : tie.Need-returns
 returns c =
     let y = c .before .solved in
-    let x = c .before .before .attempt-alone in
+    let x = c .before .before .solve-erasures in
     (x .ensures .0, λ R cube. searched-found zero-le (y .result) (y .ensures) (c .if1 .taken) (x .ensures .1 _ R))
 
 try-data-requires : tie.Need-try-data-requires
@@ -46,7 +46,7 @@ returns-3 c =
       c .try-checks .ensures .0,
       λ R cube. searched-last (le-refl 1)
           (λ checks. none-beside (field-of (a .width) (R .width)) (R .lent) (at (a .t .sums)) (sums-at R)
-          (x .attempt-alone .ensures .1 _ R .none (searched-nothing (x .attempt-alone .result) _ (l1 .before .solved .ensures) (l1 .if1 .left))) checks
+          (x .solve-erasures .ensures .1 _ R .none (searched-nothing (x .solve-erasures .result) _ (l1 .before .solved .ensures) (l1 .if1 .left))) checks
           (d .try-data .ensures .1 R cube .none (searched-nothing (d .try-data .result) _ (l2 .before .solved2 .ensures) (l2 .if2 .left))))
           (c .try-checks .ensures .1 R),
     )
@@ -55,7 +55,7 @@ pub find-beside-spec : {M : Type 1} → statement M
 find-beside-spec =
     tie.close
     (tie.spec
-    attempt-alone-requires
+    solve-erasures-requires
     solved-requires
     returns
     try-data-requires

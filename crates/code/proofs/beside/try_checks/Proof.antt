@@ -2,21 +2,21 @@
 use borrow.Author.Needs.{needs}
 use Prim.Native.Nat.{_-_}
 use native.Mathlib.Nat.{le-refl}
-use Rattle.code.specs.Correction.{Ready, tried, NoneBeside}
+use Rattle.code.specs.Correction.{Ready, placesOf, NoneBeside}
 use Rattle.code.proofs.Loops.{Sought, sought-start, sought-on}
 use Rattle.code.proofs.Trying.{searched-none, searched-nothing, searched-found}
-use Rattle.code.proofs.CheckPlaces.{window-tried}
+use Rattle.code.proofs.CheckPlaces.{range-tried}
 use Rattle.code.proofs.beside.try_checks.Statement.{statement}
 use Rattle.code.proofs.beside.try_checks.Tie as tie
 
 abbrev Inv-loop : tie.InvT-loop
-Inv-loop width word t high p₀ p = Ready width word t → Sought (λ i. NoneBeside width word i (tried t)) p₀ p
+Inv-loop width word t high p₀ p = Ready width word t → Sought (λ i. NoneBeside width word i (placesOf t)) p₀ p
 
 abbrev μ-loop : tie.MeasureT-loop
 μ-loop width word t high p₀ p = high - p
 
-window-beside-requires : tie.Need-window-beside-requires Inv-loop μ-loop
-window-beside-requires c κs = search needs
+candidate-checks-requires : tie.Need-candidate-checks-requires Inv-loop μ-loop
+candidate-checks-requires c κs = search needs
 
 loop-holds : tie.Need-loop-holds Inv-loop μ-loop
 loop-holds c = λ R. sought-start _ _
@@ -57,8 +57,8 @@ returns-2 c =
     let a = f .before .before .args in (
       c .nothing .ensures .0,
       λ R. searched-none (c .nothing .ensures .1)
-          (window-tried (a .width) (a .word .now) (tried (a .t)) (f .window-beside .result .low) (f .window-beside .result .high) (l .loop .p)
-          (f .window-beside .ensures (a .word .now) R) (c .before .loop-test .left) (l .loop .inv R)),
+          (range-tried (a .width) (a .word .now) (placesOf (a .t)) (f .candidate-checks .result .low) (f .candidate-checks .result .high) (l .loop .p)
+          (f .candidate-checks .ensures (a .word .now) R) (c .before .loop-test .left) (l .loop .inv R)),
     )
 
 pub try-checks-spec : {M : Type 1} → statement M
@@ -67,7 +67,7 @@ try-checks-spec =
     (tie.spec
     Inv-loop
     μ-loop
-    window-beside-requires
+    candidate-checks-requires
     loop-holds
     try-place-requires
     solved-requires

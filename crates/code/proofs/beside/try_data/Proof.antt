@@ -9,14 +9,14 @@ use lib.ListN.{length, getD, take}
 use Rattle.field.specs.Question.{allBelow}
 use Rattle.code.specs.Word.{checks}
 use Rattle.code.specs.Matrix.{unknowns}
-use Rattle.code.specs.Correction.{tried}
+use Rattle.code.specs.Correction.{placesOf}
 use Rattle.code.specs.Beside.{Arranged, same, Only}
 use Rattle.code.proofs.BesideWays.{take-one, take-two, only-one, below-one}
 use Rattle.code.proofs.beside.try_data.Statement.{statement}
 use Rattle.code.proofs.beside.try_data.Tie as tie
 
 -- one erasure
-single : (l : tie.Else1) → let t = l .before .before .before .args .t in tried t ≡ getD (t .places) 0 0 ∷ []
+single : (l : tie.Else1) → let t = l .before .before .before .args .t in placesOf t ≡ getD (t .places) 0 0 ∷ []
 single l =
     let s = l .before .before .before in
     let ps = s .args .t .places in
@@ -30,19 +30,19 @@ array-read-p c = search needs
 array-read-q : tie.Need-array-read-q
 array-read-q c = search needs
 
-try-beside-two-requires : tie.Need-try-beside-two-requires
-try-beside-two-requires c κs = search needs
+try-data-beside-two-requires : tie.Need-try-data-beside-two-requires
+try-data-beside-two-requires c κs = search needs
 
 returns : tie.Need-returns
 returns c =
     let a = c .before .before .before .before .args in
     let ps = a .t .places in
     let five : length ps ≡ unknowns = search needs in
-    let E : tried (a .t) ≡ getD ps 0 0 ∷ getD ps 1 0 ∷ [] = ap (λ (n : ℕ). take n ps) (c .before .if1 .taken) ∙ take-two ps five in
-    (c .try-beside-two .ensures .0, λ R cube. c .try-beside-two .ensures .1 R E (cube (c .before .if1 .taken)))
+    let E : placesOf (a .t) ≡ getD ps 0 0 ∷ getD ps 1 0 ∷ [] = ap (λ (n : ℕ). take n ps) (c .before .if1 .taken) ∙ take-two ps five in
+    (c .try-data-beside-two .ensures .0, λ R cube. c .try-data-beside-two .ensures .1 R E (cube (c .before .if1 .taken)))
 
-try-between-requires : tie.Need-try-between-requires
-try-between-requires c κs = search needs
+try-data-beside-checks-requires : tie.Need-try-data-beside-checks-requires
+try-data-beside-checks-requires c κs = search needs
 
 returns-2 : tie.Need-returns-2
 returns-2 c =
@@ -50,21 +50,21 @@ returns-2 c =
     let a = l .before .before .before .args in
     let p = getD (a .t .places) 0 0 in
     let E = single l in (
-      c .try-between .ensures .0,
-      λ R cube. c .try-between .ensures .1 R (subst (λ (xs : List ℕ). allBelow checks xs ≡ true) (sym E) (below-one p (c .before .if2 .taken)))
+      c .try-data-beside-checks .ensures .0,
+      λ R cube. c .try-data-beside-checks .ensures .1 R (subst (λ (xs : List ℕ). allBelow checks xs ≡ true) (sym E) (below-one p (c .before .if2 .taken)))
           (subst (λ (xs : List ℕ). Only xs p 5) (sym E) (only-one p 5)),
     )
 
-try-eliminated-requires : tie.Need-try-eliminated-requires
-try-eliminated-requires c κs = search needs
+try-data-beside-data-and-check-requires : tie.Need-try-data-beside-data-and-check-requires
+try-data-beside-data-and-check-requires c κs = search needs
 
 returns-3 : tie.Need-returns-3
 returns-3 c =
     let l = c .before .before in
     let a = l .before .before .before .args in
     let E = single l in (
-      c .try-eliminated .ensures .0,
-      λ R cube. c .try-eliminated .ensures .1 R [] (subst (λ (xs : List ℕ). Arranged xs (getD (a .t .places) 0 0 ∷ [])) (sym E) same) (c .before .if2 .left)
+      c .try-data-beside-data-and-check .ensures .0,
+      λ R cube. c .try-data-beside-data-and-check .ensures .1 R [] (subst (λ (xs : List ℕ). Arranged xs (getD (a .t .places) 0 0 ∷ [])) (sym E) same) (c .before .if2 .left)
           refl (λ k h d e. refl) (λ e. absurd (omega arith)),
     )
 
@@ -74,9 +74,9 @@ try-data-spec =
     (tie.spec
     array-read-p
     array-read-q
-    try-beside-two-requires
+    try-data-beside-two-requires
     returns
-    try-between-requires
+    try-data-beside-checks-requires
     returns-2
-    try-eliminated-requires
+    try-data-beside-data-and-check-requires
     returns-3)

@@ -39,8 +39,8 @@ shared-slice-read-extended c = search needs
 extended-requires : tie.Need-extended-requires
 extended-requires c κs = search needs
 
-attempt-requires : tie.Need-attempt-requires
-attempt-requires c κs = search needs
+solve-trial-requires : tie.Need-solve-trial-requires
+solve-trial-requires c κs = search needs
 
 returns-3 : tie.Need-returns-3
 returns-3 c =
@@ -50,10 +50,10 @@ returns-3 c =
     let a = inside .before .before .before .before .args in
     let m = a .width in
     let w = a .word .now in (
-      c .attempt .ensures .0,
+      c .solve-trial .ensures .0,
       λ R. searched-last (le-refl 1) (λ none l. none) (searched-place m w (a .t) (u .result) 0 (NoneAt m w) _ (a .p .0)
           (u .ensures .1 w R (omega (arith, R .lent .size, inside .if1 .left)) (sym (else .before .listed .ensures) ∙ else .if2 .left) refl)
-          (c .attempt .ensures .1 w)),
+          (c .solve-trial .ensures .1 w)),
     )
 
 pub try-place-spec : {M : Type 1} → statement M
@@ -68,5 +68,5 @@ try-place-spec =
     returns-2
     shared-slice-read-extended
     extended-requires
-    attempt-requires
+    solve-trial-requires
     returns-3)

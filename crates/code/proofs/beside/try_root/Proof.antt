@@ -2,7 +2,7 @@
 use borrow.Author.Needs.{needs}
 use mathlib.Core.Path.{ap}
 use native.Mathlib.Omega.{arith}
-use Rattle.code.specs.Correction.{tried}
+use Rattle.code.specs.Correction.{placesOf}
 use Rattle.code.proofs.BesideWays.{root-out, root-place}
 use Rattle.code.proofs.beside.try_root.Statement.{statement}
 use Rattle.code.proofs.beside.try_root.Tie as tie
@@ -22,7 +22,7 @@ returns c =
     let i = r .before .items-of in
     let a = r .before .before .before .args in (
       c .nothing .ensures .0,
-      λ R. root-out (a .width) (R .width) (a .word .now) (tried (a .t)) (a .square) (a .linear) (a .constant) _ (i .result)
+      λ R. root-out (a .width) (R .width) (a .word .now) (placesOf (a .t)) (a .square) (a .linear) (a .constant) _ (i .result)
           (omega (arith, R .lent .size, i .ensures .0)) (r .first-root .result) (r .first-root .ensures .1) (c .nothing .ensures .1) (c .before .if1 .taken),
     )
 
@@ -39,7 +39,7 @@ returns-2 c =
     let i = r .before .items-of in
     let a = r .before .before .before .args in (
       c .try-place .ensures .0,
-      λ R. root-place (a .width) (R .width) (a .word .now) (tried (a .t)) (a .square) (a .linear) (a .constant) _ (i .result)
+      λ R. root-place (a .width) (R .width) (a .word .now) (placesOf (a .t)) (a .square) (a .linear) (a .constant) _ (i .result)
           (omega (arith, R .lent .size, i .ensures .0)) (r .first-root .result) (r .first-root .ensures .1) (p .place-of .result .0)
           (ap (λ q. q .0) (p .place-of .ensures)) (c .try-place .ensures .1 R),
     )

@@ -7,8 +7,8 @@ use Rattle.code.proofs.PlainWays.{plain-none}
 use Rattle.code.proofs.errors.find_single.Statement.{statement}
 use Rattle.code.proofs.errors.find_single.Tie as tie
 
-amend-checks-requires : tie.Need-amend-checks-requires
-amend-checks-requires c κs = search needs
+correct-checks-requires : tie.Need-correct-checks-requires
+correct-checks-requires c κs = search needs
 
 solved-requires : tie.Need-solved-requires
 solved-requires c κs = search needs
@@ -16,24 +16,24 @@ solved-requires c κs = search needs
 returns : tie.Need-returns
 returns c =
     let y = c .before .solved in
-    let x = c .before .before .amend-checks in
+    let x = c .before .before .correct-checks in
     (x .ensures .0, λ R e. searched-found (le-refl 1) (y .result) (y .ensures) (c .if1 .taken) (x .ensures .1 _ R e))
 
-amend-ratio-requires : tie.Need-amend-ratio-requires
-amend-ratio-requires c κs = search needs
+correct-ratio-requires : tie.Need-correct-ratio-requires
+correct-ratio-requires c κs = search needs
 
 returns-2 : tie.Need-returns-2
 returns-2 c =
     let y = c .before .before .solved in
-    let x = c .before .before .before .amend-checks in (
-      c .amend-ratio .ensures .0,
+    let x = c .before .before .before .correct-checks in (
+      c .correct-ratio .ensures .0,
       λ R e. searched-last (le-refl 1)
           (λ low. plain-none R e 1 (omega arith) (x .ensures .1 _ R e .none (searched-nothing (x .result) (y .result) (y .ensures) (c .before .if1 .left))) low
           (λ two. absurd (omega arith)))
-          (c .amend-ratio .ensures .1 R e),
+          (c .correct-ratio .ensures .1 R e),
     )
 
 pub find-single-spec : {M : Type 1} → statement M
 find-single-spec =
     tie.close
-    (tie.spec amend-checks-requires solved-requires returns amend-ratio-requires returns-2)
+    (tie.spec correct-checks-requires solved-requires returns correct-ratio-requires returns-2)

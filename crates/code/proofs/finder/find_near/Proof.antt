@@ -5,26 +5,26 @@ use mathlib.Core.List.{List, []}
 use Prim.Native.Nat.{ℕ}
 use native.Mathlib.Omega.{arith}
 use lib.ListN.{take}
-use Rattle.code.specs.Correction.{tried, Searched, NoneWithin}
+use Rattle.code.specs.Correction.{placesOf, Searched, NoneWithin}
 use Rattle.code.proofs.BesideWays.{cubes-beside, near-zero, near-same}
 use Rattle.code.proofs.finder.find_near.Statement.{statement}
 use Rattle.code.proofs.finder.find_near.Tie as tie
 
 -- no erasures
-none : (l : tie.Else2) → tried (l .before .before .before .args .t) ≡ []
+none : (l : tie.Else2) → placesOf (l .before .before .before .args .t) ≡ []
 none l =
     let t = l .before .before .before .args .t in
     let z : t .count ≡ 0 = omega (arith, l .if2 .left) in
     ap (λ (n : ℕ). take n (t .places)) z
 
-attempt-requires : tie.Need-attempt-requires
-attempt-requires c κs = search needs
+solve-trial-requires : tie.Need-solve-trial-requires
+solve-trial-requires c κs = search needs
 
 returns : tie.Need-returns
 returns c =
     let a = c .before .before .before .args in (
-      c .attempt .ensures .0,
-      λ R. near-zero (a .width) (a .word .now) (tried (a .t)) (a .reach) _ (R .lent) (c .before .if1 .taken) (c .attempt .ensures .1 _ R),
+      c .solve-trial .ensures .0,
+      λ R. near-zero (a .width) (a .word .now) (placesOf (a .t)) (a .reach) _ (R .lent) (c .before .if1 .taken) (c .solve-trial .ensures .1 _ R),
     )
 
 find-beside-requires : tie.Need-find-beside-requires
@@ -37,7 +37,7 @@ returns-2 c =
     let a = s .args in
     let one : a .reach ≡ 1 = omega (arith, s .pre, t2 .if2 .taken, t2 .before .if1 .left) in (
       c .find-beside .ensures .0,
-      λ R. near-same (a .width) (a .word .now) (tried (a .t)) 1 (a .reach) _ one
+      λ R. near-same (a .width) (a .word .now) (placesOf (a .t)) 1 (a .reach) _ one
           (c .find-beside .ensures .1 R (λ e. cubes-beside (a .width) (R .width) (omega (arith, s .pre .1, one)))),
     )
 
@@ -50,7 +50,7 @@ returns-3 c =
     let a = t3 .before .before .before .before .args in
     let e = none (t3 .before) in (
       c .find-single .ensures .0,
-      λ R. near-same (a .width) (a .word .now) (tried (a .t)) 1 (a .reach) _ (t3 .if3 .taken)
+      λ R. near-same (a .width) (a .word .now) (placesOf (a .t)) 1 (a .reach) _ (t3 .if3 .taken)
           (subst (λ (xs : List ℕ). Searched (a .width) (a .word .now) xs 1 (NoneWithin (a .width) (a .word .now) xs 1) (c .find-single .result)) (sym e)
           (c .find-single .ensures .1 R e)),
     )
@@ -66,7 +66,7 @@ returns-4 c =
     let e = none (l3 .before) in
     let two : a .reach ≡ 2 = omega (arith, s .pre .1, l3 .if3 .left, l3 .before .before .if1 .left) in (
       c .find-pair .ensures .0,
-      λ R. near-same (a .width) (a .word .now) (tried (a .t)) 2 (a .reach) _ two
+      λ R. near-same (a .width) (a .word .now) (placesOf (a .t)) 2 (a .reach) _ two
           (subst (λ (xs : List ℕ). Searched (a .width) (a .word .now) xs 2 (NoneWithin (a .width) (a .word .now) xs 2) (c .find-pair .result)) (sym e)
           (c .find-pair .ensures .1 R e)),
     )
@@ -75,7 +75,7 @@ pub find-near-spec : {M : Type 1} → statement M
 find-near-spec =
     tie.close
     (tie.spec
-    attempt-requires
+    solve-trial-requires
     returns
     find-beside-requires
     returns-2

@@ -12,8 +12,8 @@ ask-within-requires c κs = search needs
 enum-told : tie.Need-enum-told
 enum-told c = search needs
 
-correct-requires : tie.Need-correct-requires
-correct-requires c κs =
+correct-word-requires : tie.Need-correct-word-requires
+correct-word-requires c κs =
     let v = c .before .before .before .ask-within in
     let p : v .result ≡ Passed = search needs in
     sym (v .ensures) ∙ p
@@ -25,7 +25,7 @@ same-length : tie.Need-same-length
 same-length c = search needs
 
 returns : tie.Need-returns
-returns c = c .before .before .correct .ensures
+returns c = c .before .before .correct-word .ensures
 
 same-length-2 : tie.Need-same-length-2
 same-length-2 c = search needs
@@ -42,7 +42,7 @@ restore-with-spec =
     (tie.spec
     ask-within-requires
     enum-told
-    correct-requires
+    correct-word-requires
     enum-known-q
     same-length
     returns

@@ -12,11 +12,11 @@ use native.Mathlib.Omega.{arith}
 use borrow.Author.Tests.{not-true}
 use lib.ListN.{length}
 use Rattle.code.specs.Erasure.{member}
-use Rattle.code.specs.Correction.{Ready, tried, NoneFrom, Searched}
+use Rattle.code.specs.Correction.{Ready, placesOf, NoneFrom, Searched}
 use Rattle.code.proofs.Loops.{Sought, sought-start, sought-on}
 use Rattle.code.proofs.Questions.{both-ways}
 use Rattle.code.proofs.Trying.{searched-nothing, searched-none, searched-found, searched-place, none-from, none-exact}
-use Rattle.code.proofs.correction.attempt.Reads as attempt
+use Rattle.code.proofs.correction.solve_trial.Reads as solve-trial
 use Rattle.code.proofs.correction.solved.Reads as solved
 use Rattle.code.proofs.trial.listed.Reads as listed
 use Rattle.code.proofs.trial.extended.Reads as extended
@@ -35,8 +35,8 @@ given n = and 1 kinds.ps (is 1 kinds.ps μ n) reads.Pre
 
 abbrev claims : ℕ → lts.Claims
 claims n = (
-  attempt.Asked,
-  attempt.Learnt,
+  solve-trial.Asked,
+  solve-trial.Learnt,
   solved.Asked,
   solved.Learnt,
   listed.Asked,
@@ -49,34 +49,34 @@ claims n = (
 
 abbrev Inv-loop : lts.InvT-loop
 Inv-loop width word t from left c places count p₀ p =
-    Ready width word t → Sought (λ i. member i (tried t) ≡ false → NoneFrom width word (i ∷ tried t) (i + 1) (left - 1)) from p
+    Ready width word t → Sought (λ i. member i (placesOf t) ≡ false → NoneFrom width word (i ∷ placesOf t) (i + 1) (left - 1)) from p
 
 abbrev μ-loop : lts.MeasureT-loop
 μ-loop width word t from left c places count p₀ p = length word - p
 
 module _ (n : ℕ) where
-  attempt-requires : lts.Need-attempt-requires (claims n) (given n) reads.Post Inv-loop μ-loop
-  attempt-requires c κs = search needs
+  solve-trial-requires : lts.Need-solve-trial-requires (claims n) (given n) reads.Post Inv-loop μ-loop
+  solve-trial-requires c κs = search needs
 
   solved-requires : lts.Need-solved-requires (claims n) (given n) reads.Post Inv-loop μ-loop
   solved-requires c κs = search needs
 
   returns : lts.Need-returns (claims n) (given n) reads.Post Inv-loop μ-loop
   returns c =
-      let x = c .before .before .attempt in
+      let x = c .before .before .solve-trial in
       let y = c .before .solved in
       (x .ensures .0, λ R. searched-found zero-le (y .result) (y .ensures) (c .if1 .taken) (x .ensures .1 _ R))
 
   returns-2 : lts.Need-returns-2 (claims n) (given n) reads.Post Inv-loop μ-loop
   returns-2 c =
       let l = c .before in
-      let x = l .before .before .attempt in
+      let x = l .before .before .solve-trial in
       let y = l .before .solved in
       let a = l .before .before .before .before .args in
       let none = searched-nothing (x .result) (y .result) (y .ensures) (l .if1 .left) in (
         x .ensures .0,
         λ R. searched-none none
-            (none-exact (a .width) (a .word .now) (tried (a .t)) (a .from) (a .left) (c .if2 .taken) (x .ensures .1 _ R .none none)),
+            (none-exact (a .width) (a .word .now) (placesOf (a .t)) (a .from) (a .left) (c .if2 .taken) (x .ensures .1 _ R .none none)),
       )
 
   loop-holds : lts.Need-loop-holds (claims n) (given n) reads.Post Inv-loop μ-loop
@@ -108,8 +108,8 @@ module _ (n : ℕ) where
       let l = s .before .before .before .before .before .before in
       let a = l .before .before .before .before .before .before .before .args in
       Ready (a .width) (a .word .now) (a .t)
-      → Searched (a .width) (a .word .now) (tried (a .t)) (suc (a .left - 1))
-      (member (l .loop .p) (tried (a .t)) ≡ false → NoneFrom (a .width) (a .word .now) (l .loop .p ∷ tried (a .t)) (l .loop .p + 1) (a .left - 1))
+      → Searched (a .width) (a .word .now) (placesOf (a .t)) (suc (a .left - 1))
+      (member (l .loop .p) (placesOf (a .t)) ≡ false → NoneFrom (a .width) (a .word .now) (l .loop .p ∷ placesOf (a .t)) (l .loop .p + 1) (a .left - 1))
       (s .search .result)
   deeper s R =
       let then = s .before .before .before in
@@ -155,12 +155,12 @@ module _ (n : ℕ) where
       let l = c .before in
       let else = l .before .before in
       let y = else .before .before .solved in
-      let x = else .before .before .before .attempt in
+      let x = else .before .before .before .solve-trial in
       let a = else .before .before .before .before .before .args in
       let none = searched-nothing (x .result) (y .result) (y .ensures) (else .before .if1 .left) in (
         x .ensures .0,
         λ R. searched-none none
-            (none-from (a .width) (a .word .now) (tried (a .t)) (a .from) (a .left) (omega (arith, else .if2 .left))
+            (none-from (a .width) (a .word .now) (placesOf (a .t)) (a .from) (a .left) (omega (arith, else .if2 .left))
             (x .ensures .1 _ R .none none)
             (λ p h b. l .loop .inv R p h (omega (arith, R .lent .size, c .loop-test .left)))),
       )
@@ -176,7 +176,7 @@ pub +search-spec : {M : Type 1} → statement M
     reads.Post
     Inv-loop
     μ-loop
-    (attempt-requires n)
+    (solve-trial-requires n)
     (solved-requires n)
     (returns n)
     (returns-2 n)

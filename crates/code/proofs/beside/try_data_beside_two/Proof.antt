@@ -1,0 +1,89 @@
+-- `code::beside::try_data_beside_two` meets its contract. Assumes nothing.
+use borrow.Author.Needs.{needs}
+use mathlib.Core.Path.{_≡_, sym, subst}
+use mathlib.Core.Bool.{true}
+use mathlib.Core.List.{List, [], _∷_}
+use Prim.Native.Nat.{ℕ}
+use Rattle.field.specs.Question.{allBelow}
+use Rattle.code.specs.Word.{checks}
+use Rattle.code.specs.Beside.{Arranged, same, swapped, Only}
+use Rattle.code.proofs.BesideWays.{only-one, only-two, only-swap, below-one, below-two}
+use Rattle.code.proofs.beside.try_data_beside_two.Statement.{statement}
+use Rattle.code.proofs.beside.try_data_beside_two.Tie as tie
+
+try-data-beside-data-and-check-requires : tie.Need-try-data-beside-data-and-check-requires
+try-data-beside-data-and-check-requires c κs = search needs
+
+returns : tie.Need-returns
+returns c =
+    let t1 = c .before .before in
+    let a = t1 .before .before .args in (
+      c .try-data-beside-data-and-check .ensures .0,
+      λ R E cube. c .try-data-beside-data-and-check .ensures .1 R (a .p .0 ∷ []) (subst (λ (xs : List ℕ). Arranged xs (a .q .0 ∷ a .p .0 ∷ [])) (sym E) swapped)
+          (c .before .if2 .taken) (below-one (a .p .0) (t1 .if1 .taken)) (only-one (a .p .0) (a .p .0)) (λ e. cube),
+    )
+
+try-data-beside-checks-requires : tie.Need-try-data-beside-checks-requires
+try-data-beside-checks-requires c κs = search needs
+
+returns-2 : tie.Need-returns-2
+returns-2 c =
+    let l2 = c .before .before in
+    let t1 = l2 .before in
+    let a = t1 .before .before .args in (
+      c .try-data-beside-checks .ensures .0,
+      λ R E cube. c .try-data-beside-checks .ensures .1 R
+          (subst (λ (xs : List ℕ). allBelow checks xs ≡ true) (sym E) (below-two (a .p .0) (a .q .0) (t1 .if1 .taken) (l2 .if2 .left)))
+          (subst (λ (xs : List ℕ). Only xs (a .p .0) (a .q .0)) (sym E) (only-two (a .p .0) (a .q .0))),
+    )
+
+try-data-beside-checks-requires-2 : tie.Need-try-data-beside-checks-requires-2
+try-data-beside-checks-requires-2 c κs = search needs
+
+returns-3 : tie.Need-returns-3
+returns-3 c =
+    let l2 = c .before .before in
+    let t1 = l2 .before in
+    let a = t1 .before .before .args in (
+      c .try-data-beside-checks2 .ensures .0,
+      λ R E cube. c .try-data-beside-checks2 .ensures .1 R
+          (subst (λ (xs : List ℕ). allBelow checks xs ≡ true) (sym E) (below-two (a .p .0) (a .q .0) (t1 .if1 .taken) (l2 .if2 .left)))
+          (subst (λ (xs : List ℕ). Only xs (a .q .0) (a .p .0)) (sym E) (only-swap (a .p .0) (a .q .0))),
+    )
+
+try-data-beside-data-and-check-requires-2 : tie.Need-try-data-beside-data-and-check-requires-2
+try-data-beside-data-and-check-requires-2 c κs = search needs
+
+returns-4 : tie.Need-returns-4
+returns-4 c =
+    let l1 = c .before .before in
+    let a = l1 .before .before .args in (
+      c .try-data-beside-data-and-check2 .ensures .0,
+      λ R E cube. c .try-data-beside-data-and-check2 .ensures .1 R (a .q .0 ∷ []) (subst (λ (xs : List ℕ). Arranged xs (a .p .0 ∷ a .q .0 ∷ [])) (sym E) same)
+          (l1 .if1 .left) (below-one (a .q .0) (c .before .if4 .taken)) (only-one (a .q .0) (a .q .0)) (λ e. cube),
+    )
+
+try-data-beside-two-data-requires : tie.Need-try-data-beside-two-data-requires
+try-data-beside-two-data-requires c κs = search needs
+
+returns-5 : tie.Need-returns-5
+returns-5 c =
+    let l1 = c .before .before in (
+      c .try-data-beside-two-data .ensures .0,
+      λ R E cube. c .try-data-beside-two-data .ensures .1 R E (l1 .if1 .left) (c .before .if4 .left),
+    )
+
+pub try-data-beside-two-spec : {M : Type 1} → statement M
+try-data-beside-two-spec =
+    tie.close
+    (tie.spec
+    try-data-beside-data-and-check-requires
+    returns
+    try-data-beside-checks-requires
+    returns-2
+    try-data-beside-checks-requires-2
+    returns-3
+    try-data-beside-data-and-check-requires-2
+    returns-4
+    try-data-beside-two-data-requires
+    returns-5)

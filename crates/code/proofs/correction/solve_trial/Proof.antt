@@ -1,0 +1,22 @@
+-- `code::correction::solve_trial` meets its contract. Assumes nothing.
+use borrow.Author.Needs.{needs}
+use Rattle.code.proofs.Correcting.{trial-solved}
+use Rattle.code.proofs.correction.solve_trial.Statement.{statement}
+use Rattle.code.proofs.correction.solve_trial.Tie as tie
+
+matrix-of-requires : tie.Need-matrix-of-requires
+matrix-of-requires c κs = search needs
+
+solve-requires : tie.Need-solve-requires
+solve-requires c κs = search needs
+
+returns : tie.Need-returns
+returns c =
+    let s = c .before in
+    let a = s .before .before .before .before in (
+      a .pre,
+      λ w R. trial-solved (a .args .width) (a .args .t) (a .pre) _ (s .before .matrix-of .ensures) _ w R (s .solve .result .found) (s .solve .ensures),
+    )
+
+pub solve-trial-spec : {M : Type 1} → statement M
+solve-trial-spec = tie.close (tie.spec matrix-of-requires solve-requires returns)

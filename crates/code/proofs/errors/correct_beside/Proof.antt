@@ -1,0 +1,66 @@
+-- `code::errors::correct_beside` meets its contract. Assumes nothing.
+use borrow.Author.Needs.{needs}
+use mathlib.Core.Path.{_∙_}
+use native.Mathlib.Omega.{arith}
+use Rattle.code.proofs.PlainWays.{beside-over, beside-found}
+use Rattle.code.proofs.errors.correct_beside.Statement.{statement}
+use Rattle.code.proofs.errors.correct_beside.Tie as tie
+
+masked-requires : tie.Need-masked-requires
+masked-requires c κs = search needs
+
+nonzeros-requires : tie.Need-nonzeros-requires
+nonzeros-requires c κs = search needs
+
+nothing-requires : tie.Need-nothing-requires
+nothing-requires c κs = search needs
+
+returns : tie.Need-returns
+returns c =
+    let n = c .before .before in
+    let k = n .before in
+    let a = k .before .before .before .args in (
+      c .nothing .ensures .0,
+      λ R e hp lp hy. beside-over R (a .p) (a .y) (k .masked .result) (k .masked .ensures (R .width) hy) (n .nonzeros .result) (n .nonzeros .ensures .1) (a .reach) _
+          (c .nothing .ensures .1) (c .before .if1 .taken),
+    )
+
+add-t16 : tie.Need-add-t16
+add-t16 c = search needs
+
+slice-aggregate-byte-at : tie.Need-slice-aggregate-byte-at
+slice-aggregate-byte-at c = search needs
+
+byte-at-requires : tie.Need-byte-at-requires
+byte-at-requires c κs = search needs
+
+correction-of-requires : tie.Need-correction-of-requires
+correction-of-requires c κs = search needs
+
+returns-2 : tie.Need-returns-2
+returns-2 c =
+    let z = c .before .byte-at in
+    let l = c .before .before .before .before in
+    let n = l .before in
+    let k = n .before in
+    let s = k .before .before .before in
+    let a = s .args in (
+      c .correction-of .ensures .0,
+      λ R e hp lp hy. beside-found R (a .p) (a .y) (k .masked .result) (k .masked .ensures (R .width) hy) (n .nonzeros .result) (n .nonzeros .ensures .1) (a .reach) _
+          e hp lp hy (s .pre) (omega (arith, l .if1 .left)) (c .correction-of .ensures .1)
+          (λ ls f L ey ez. c .correction-of .ensures .2 ls f L ey (z .ensures ∙ ez)),
+    )
+
+pub correct-beside-spec : {M : Type 1} → statement M
+correct-beside-spec =
+    tie.close
+    (tie.spec
+    masked-requires
+    nonzeros-requires
+    nothing-requires
+    returns
+    add-t16
+    slice-aggregate-byte-at
+    byte-at-requires
+    correction-of-requires
+    returns-2)

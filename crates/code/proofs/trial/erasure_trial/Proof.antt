@@ -1,0 +1,56 @@
+-- `code::trial::erasure_trial` meets its contract. Assumes nothing.
+use borrow.Author.Needs.{needs}
+use mathlib.Core.Path.{_≡_, refl, sym, ap, _∙_, subst}
+use mathlib.Core.Bool.{true}
+use mathlib.Core.List.{List}
+use Prim.Native.Nat.{ℕ}
+use lib.ListN.{length}
+use Rattle.field.specs.Question.{allBelow}
+use Rattle.code.specs.Correction.{Lent}
+use Rattle.code.proofs.Repairing.{plain-sums}
+use Rattle.code.proofs.trial.erasure_trial.Statement.{statement}
+use Rattle.code.proofs.trial.erasure_trial.Tie as tie
+
+row-of-places-requires : tie.Need-row-of-places-requires
+row-of-places-requires c κs = search needs
+
+syndromes-requires : tie.Need-syndromes-requires
+syndromes-requires c κs = search needs
+
+returns : tie.Need-returns
+returns c =
+    let e = c .before .before .row-of-places .ensures in
+    let a = c .before .before .before .before .before .args in (
+      refl,
+      e,
+      λ v W.
+          (let L = subst (Lent (a .width) (a .word .now)) (sym e) W in
+          record {
+            width = v;
+            lent = L;
+            sums = plain-sums (a .width) v (a .word .now) _ L (ap length e ∙ c .before .if1 .taken) _ (c .syndromes .ensures v);
+          }),
+    )
+
+masked-sums-requires : tie.Need-masked-sums-requires
+masked-sums-requires c κs =
+    let s = c .before .before .before .before in
+    let p = s .pre in
+    let e = c .before .row-of-places .ensures in
+    (p .few, p .long, p .short, subst (λ (ls : List ℕ). allBelow (length (s .args .word .now)) ls ≡ true) (sym e) (p .below))
+
+returns-2 : tie.Need-returns-2
+returns-2 c =
+    let e = c .before .before .row-of-places .ensures in
+    let a = c .before .before .before .before .before .args in (
+      refl,
+      e,
+      λ v W.
+          (let L = subst (Lent (a .width) (a .word .now)) (sym e) W in
+          record { width = v; lent = L; sums = c .masked-sums .ensures v L }),
+    )
+
+pub erasure-trial-spec : {M : Type 1} → statement M
+erasure-trial-spec =
+    tie.close
+    (tie.spec row-of-places-requires syndromes-requires returns masked-sums-requires returns-2)
