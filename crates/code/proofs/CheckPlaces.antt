@@ -126,13 +126,13 @@ module _ {m : ℕ} (F : IsField m) {w es : List ℕ} (W : Lent m w es) (s : ℕ 
 -- the rows of `differences`, as one row of the solver added to another
 pub differences-row : {m : ℕ} (F : IsField m) (a x : ℕ) (s r : List ℕ) → isWidth m ≡ true → length s ≡ 5 → checks ≤ a
     → ((k : ℕ) → k < checks → at s k < order m) → x ≡ column m a 1
-    → (Operand m x → Operands m (five (at s) ++ 0 ∷ []) → r ≡ rowAdd m (at s 1 ∷ at s 2 ∷ at s 3 ∷ at s 4 ∷ 0 ∷ 0 ∷ []) x (five (at s) ++ 0 ∷ []))
+    → (Operand m x → Operands m (five (at s) ++ 0 ∷ 0 ∷ 0 ∷ []) → r ≡ rowAdd m (at s 1 ∷ at s 2 ∷ at s 3 ∷ at s 4 ∷ 0 ∷ 0 ∷ 0 ∷ 0 ∷ []) x (five (at s) ++ 0 ∷ 0 ∷ 0 ∷ []))
     → five (at r) ≡ five (eliminate m 1 (point m a) (at s))
 unfolding eliminate
 differences-row {m} F a x s r w size h small ex er =
     ap (λ (u : List ℕ). five (at u))
     (er (record { width = w; symbol = subst (λ (n : ℕ). n < order m) (sym ex) (column-lt F a 1) }) (five-operands F (at s) w small)
-    ∙ ap (λ (z : ℕ). rowAdd m (at s 1 ∷ at s 2 ∷ at s 3 ∷ at s 4 ∷ z ∷ 0 ∷ []) x (five (at s) ++ 0 ∷ []))
+    ∙ ap (λ (z : ℕ). rowAdd m (at s 1 ∷ at s 2 ∷ at s 3 ∷ at s 4 ∷ z ∷ 0 ∷ 0 ∷ 0 ∷ []) x (five (at s) ++ 0 ∷ 0 ∷ 0 ∷ []))
     (sym (List·getD-eq-default s 0 {n = 5} (omega arith))))
     ∙ five-cong _ _ (λ k l. ap (λ (y : ℕ). add (at s (1 + k)) (product m y (at s k))) (ex ∙ column-point F a 1 h))
 

@@ -10,8 +10,8 @@ use native.Mathlib.Decide.{decLt, ℕ-discrete}
 use native.Mathlib.Omega.{arith}
 use borrow.Author.Tests.{ne-eqb, le-leb, lt-leb}
 use lib.Dec.{eqb, leb}
-use lib.ListN.{length, getD, set, take, length-set, length-map, List·getD-map}
-use lib.Seq.{getD-take, length-take-le, getD-set-same, getD-set-other}
+use lib.ListN.{length, getD, set, take, length-set, length-map, length-append, List·getD-map, List·getD-append}
+use lib.Seq.{getD-take, length-take-le, getD-set-same, getD-set-other, getD-append-add}
 use Rattle.field.specs.Polynomial.{add}
 use Rattle.field.specs.Field.{order, product}
 use Rattle.field.specs.Question.{isWidth}
@@ -34,21 +34,23 @@ use Rattle.code.proofs.LinearSystem.{System, Meets, meets-solves, syste
 
 -- ---- a column times a symbol, added to the syndromes as a row of the solver
 
--- five symbols, with 0 behind them
-pub five-operands : {m : ℕ} (F : IsField m) (f : ℕ → ℕ) → isWidth m ≡ true → ((k : ℕ) → k < 5 → f k < order m) → Operands m (five f ++ 0 ∷ [])
+-- five symbols, with zeros behind them
+pub five-operands : {m : ℕ} (F : IsField m) (f : ℕ → ℕ) → isWidth m ≡ true → ((k : ℕ) → k < 5 → f k < order m) → Operands m (five f ++ 0 ∷ 0 ∷ 0 ∷ [])
 five-operands {m} F f w small j h = record { width = w; symbol = go j h }
   where
-    go : (j : ℕ) → j < columns → getD (five f ++ 0 ∷ []) j 0 < order m
+    go : (j : ℕ) → j < columns → getD (five f ++ 0 ∷ 0 ∷ 0 ∷ []) j 0 < order m
     go zero h = small 0 (omega arith)
     go (suc zero) h = small 1 (omega arith)
     go (suc (suc zero)) h = small 2 (omega arith)
     go (suc (suc (suc zero))) h = small 3 (omega arith)
     go (suc (suc (suc (suc zero)))) h = small 4 (omega arith)
     go (suc (suc (suc (suc (suc zero))))) h = omega (arith, F .one-lt)
-    go (suc (suc (suc (suc (suc (suc j)))))) h = absurd (omega arith)
+    go (suc (suc (suc (suc (suc (suc zero)))))) h = omega (arith, F .one-lt)
+    go (suc (suc (suc (suc (suc (suc (suc zero))))))) h = omega (arith, F .one-lt)
+    go (suc (suc (suc (suc (suc (suc (suc (suc j)))))))) h = absurd (omega arith)
 
 pub masked-row : {m : ℕ} (F : IsField m) (p : ℕ) (s ys pys ps r out : List ℕ) (x : ℕ) → isWidth m ≡ true → x < order m
-    → ys ≡ five (column m p) → pys ≡ five (at ys) ++ 0 ∷ [] → ps ≡ five (at s) ++ 0 ∷ []
+    → ys ≡ five (column m p) → pys ≡ five (at ys) ++ 0 ∷ 0 ∷ 0 ∷ [] → ps ≡ five (at s) ++ 0 ∷ 0 ∷ 0 ∷ []
     → (Operand m x → Operands m pys → r ≡ rowAdd m ps x pys) → out ≡ five (at r)
     → out ≡ five (λ k. add (at s k) (product m (column m p k) x))
 masked-row {m} F p s ys pys ps r out x w h ey ep es er eo =
@@ -58,8 +60,8 @@ masked-row {m} F p s ys pys ps r out x w h ey ep es er eo =
     ∙ ap₂ (λ (u v : List ℕ). five (at (rowAdd m u x v))) es col
     ∙ five-cong _ _ (λ k l. ap (add (at s k)) (F .product-comm x (column m p k)))
   where
-    col : pys ≡ five (column m p) ++ 0 ∷ []
-    col = ep ∙ ap (λ (u : List ℕ). five (at u) ++ 0 ∷ []) ey
+    col : pys ≡ five (column m p) ++ 0 ∷ 0 ∷ 0 ∷ []
+    col = ep ∙ ap (λ (u : List ℕ). five (at u) ++ 0 ∷ 0 ∷ 0 ∷ []) ey
 
 -- ---- the entries of the system
 
@@ -123,20 +125,49 @@ module _ (m : ℕ) (xs : List ℕ) where
             ∙ five-cong _ _ (λ k b. sym (column-at m xs (i + 1) j (omega arith) 0 k (omega arith)))
         go w j l (no d) = getD-set-other a i j x [] d ∙ s .each w j l ∙ five-cong _ _ (λ k b. place-other j k d)
 
--- a right-hand side, and row k of the columns
-pub system-row : {m b k : ℕ} {ls r : List ℕ} {a : List (List ℕ)} → SystemColumns m ls a → k < rows → r ≡ b ∷ columnOf a k → SystemRow m ls b k r
-system-row {m} {b} {k} {ls} {r} {a} s h e =
+-- a right-hand side, row k of the columns, and zeros
+pub system-row : {m b k : ℕ} {ls r : List ℕ} {a : List (List ℕ)} → SystemColumns m ls a → k < rows → length ls ≤ unknowns
+    → r ≡ b ∷ columnOf a k ++ 0 ∷ 0 ∷ [] → SystemRow m ls b k r
+system-row {m} {b} {k} {ls} {r} {a} s h few e =
     record {
-      wide = ap length e ∙ ap suc (length-map a _ ∙ s .wide);
+      wide = ap length e ∙ size;
       entries = λ w j l. ap (λ (u : List ℕ). getD u j 0) e ∙ go w j l;
     }
   where
-    go : isWidth m ≡ true → (j : ℕ) → j < columns → getD (b ∷ columnOf a k) j 0 ≡ systemEntry m ls b k j
-    go w zero l = refl
-    go w (suc j) l =
-        List·getD-map (λ (c : List ℕ). getD c k 0) a j [] ∙ ap (λ (c : List ℕ). at c k) (s .each w j (omega arith))
+    tall : length (columnOf a k) ≡ unknowns
+    tall = length-map a _ ∙ s .wide
+
+    size : length (b ∷ columnOf a k ++ 0 ∷ 0 ∷ []) ≡ columns
+    size = simp length-append (omega (arith, tall))
+
+    used : isWidth m ≡ true → (j : ℕ) → j < unknowns → getD (columnOf a k ++ 0 ∷ 0 ∷ []) j 0 ≡ systemEntry m ls b k (suc j)
+    used w j l =
+        List·getD-append (columnOf a k) (0 ∷ 0 ∷ []) 0 j (omega (arith, tall))
+        ∙ List·getD-map (λ (c : List ℕ). getD c k 0) a j [] ∙ ap (λ (c : List ℕ). at c k) (s .each w j l)
         ∙ five-at (λ k. systemEntry m ls 0 k (suc j)) k h
         ∙ entry-left m ls 0 k (suc j) (omega arith) ∙ sym (entry-left m ls b k (suc j) (omega arith))
+
+    behind : (j : ℕ) → unknowns ≤ j → getD (columnOf a k ++ 0 ∷ 0 ∷ []) j 0 ≡ systemEntry m ls b k (suc j)
+    behind j l =
+        ap (λ (n : ℕ). getD (columnOf a k ++ 0 ∷ 0 ∷ []) n 0) apart
+        ∙ getD-append-add (columnOf a k) (0 ∷ 0 ∷ []) (j - unknowns) 0 ∙ zeros (j - unknowns)
+        ∙ sym (entry-past m ls b k (suc j) (omega arith) (omega arith))
+      where
+        apart : j ≡ length (columnOf a k) + (j - unknowns)
+        apart = omega (arith, tall)
+
+        zeros : (i : ℕ) → _≡_ {A = ℕ} (getD (0 ∷ 0 ∷ []) i 0) 0
+        zeros zero = refl
+        zeros (suc zero) = refl
+        zeros (suc (suc i)) = refl
+
+    go : isWidth m ≡ true → (j : ℕ) → j < columns → getD (b ∷ columnOf a k ++ 0 ∷ 0 ∷ []) j 0 ≡ systemEntry m ls b k j
+    go w zero l = refl
+    go w (suc j) l = pick (decLt j unknowns)
+      where
+        pick : Dec (j < unknowns) → getD (columnOf a k ++ 0 ∷ 0 ∷ []) j 0 ≡ systemEntry m ls b k (suc j)
+        pick (yes h) = used w j h
+        pick (no h) = behind j (omega arith)
 
 -- ---- values at places, as lists
 

@@ -11,7 +11,7 @@ use Rattle.field.specs.Polynomial.{add}
 use Rattle.field.specs.Field.{order, product}
 use Rattle.field.specs.Answer.{Operand}
 use Rattle.field.proofs.Laws.{IsField}
-use Rattle.field.specs.Lanes.{six}
+use Rattle.field.specs.Lanes.{eight}
 use Rattle.code.specs.Word.{five, at}
 use Rattle.code.specs.Matrix.{rows, columns, entry, columnOf, rowAdd, scale, dot}
 
@@ -36,29 +36,31 @@ getD-scale m k (y ∷ ys) (suc j) l = getD-scale m k ys j (le-of-suc-le-suc l)
 pub below-order : {m k : ℕ} → m ≡ 7 → Operand m k → k < 128
 below-order {m} {k} e o = subst (λ (n : ℕ). k < order n) e (o .symbol)
 
--- rows of six entries, written out
-six-at : (f : ℕ → ℕ) (j : ℕ) → j < columns → getD (six f) j 0 ≡ f j
-six-at f zero h = refl
-six-at f (suc zero) h = refl
-six-at f (suc (suc zero)) h = refl
-six-at f (suc (suc (suc zero))) h = refl
-six-at f (suc (suc (suc (suc zero)))) h = refl
-six-at f (suc (suc (suc (suc (suc zero))))) h = refl
-six-at f (suc (suc (suc (suc (suc (suc j)))))) h = absurd (omega arith)
+-- rows of eight entries, written out
+eight-at : (f : ℕ → ℕ) (j : ℕ) → j < columns → getD (eight f) j 0 ≡ f j
+eight-at f zero h = refl
+eight-at f (suc zero) h = refl
+eight-at f (suc (suc zero)) h = refl
+eight-at f (suc (suc (suc zero))) h = refl
+eight-at f (suc (suc (suc (suc zero)))) h = refl
+eight-at f (suc (suc (suc (suc (suc zero))))) h = refl
+eight-at f (suc (suc (suc (suc (suc (suc zero)))))) h = refl
+eight-at f (suc (suc (suc (suc (suc (suc (suc zero))))))) h = refl
+eight-at f (suc (suc (suc (suc (suc (suc (suc (suc j)))))))) h = absurd (omega arith)
 
-six-ext : (f : ℕ → ℕ) (xs : List ℕ) → length xs ≡ columns → ((j : ℕ) → j < columns → getD xs j 0 ≡ f j) → six f ≡ xs
-six-ext f xs e s = ext-getD 0 (six f) xs (sym e) (λ j h. six-at f j h ∙ sym (s j h))
+eight-ext : (f : ℕ → ℕ) (xs : List ℕ) → length xs ≡ columns → ((j : ℕ) → j < columns → getD xs j 0 ≡ f j) → eight f ≡ xs
+eight-ext f xs e s = ext-getD 0 (eight f) xs (sym e) (λ j h. eight-at f j h ∙ sym (s j h))
 
-pub six-rowAdd : (m : ℕ) (xs : List ℕ) (k : ℕ) (ys : List ℕ) → length xs ≡ columns → length ys ≡ columns
-    → six (λ j. add (at xs j) (product m k (at ys j))) ≡ rowAdd m xs k ys
-six-rowAdd m xs k ys long wide =
-    six-ext _ (rowAdd m xs k ys) (length-rowAdd m xs k ys ∙ long) (λ j h. getD-rowAdd m xs k ys j (long ∙ sym wide) (omega arith))
+pub eight-rowAdd : (m : ℕ) (xs : List ℕ) (k : ℕ) (ys : List ℕ) → length xs ≡ columns → length ys ≡ columns
+    → eight (λ j. add (at xs j) (product m k (at ys j))) ≡ rowAdd m xs k ys
+eight-rowAdd m xs k ys long wide =
+    eight-ext _ (rowAdd m xs k ys) (length-rowAdd m xs k ys ∙ long) (λ j h. getD-rowAdd m xs k ys j (long ∙ sym wide) (omega arith))
 
 -- added to zeros
 pub zero-rowAdd : {m : ℕ} (F : IsField m) (k : ℕ) (ys : List ℕ) → length ys ≡ columns → rowAdd m (replicate columns 0) k ys ≡ scale m k ys
 zero-rowAdd {m} F k ys long =
-    sym (six-rowAdd m (replicate columns 0) k ys refl long)
-    ∙ six-ext _ (scale m k ys) (simp length-map long) (λ j h. getD-scale m k ys j (omega arith) ∙ zero j h)
+    sym (eight-rowAdd m (replicate columns 0) k ys refl long)
+    ∙ eight-ext _ (scale m k ys) (simp length-map long) (λ j h. getD-scale m k ys j (omega arith) ∙ zero j h)
   where
     zero : (j : ℕ) → j < columns → product m k (at ys j) ≡ add (at (replicate columns 0) j) (product m k (at ys j))
     zero j h = sym (ap (λ (z : ℕ). add z (product m k (at ys j))) (getD-replicate {A = ℕ} columns j 0 0 h) ∙ F .zero-add _)

@@ -20,9 +20,9 @@ rows = 5
 abbrev pub unknowns : ℕ
 unknowns = 5
 
--- column 0 is the right-hand side, and column 1 + j has the coefficients of unknown j
+-- column 0 is the right-hand side, and column 1 + j has the coefficients of unknown j; two columns more make a row eight symbols long
 abbrev pub columns : ℕ
-columns = 1 + unknowns
+columns = 8
 
 -- the symbol in row i and column j
 abbrev pub entry : List (List ℕ) → ℕ → ℕ → ℕ

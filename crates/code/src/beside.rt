@@ -123,8 +123,8 @@ fn differences(width: u8, rows: [u8; 5], a: Place) -> [u8; 5]
         )
         ⌝ }
 {
-    let by = [rows[0], rows[1], rows[2], rows[3], rows[4], 0];
-    let next = [rows[1], rows[2], rows[3], rows[4], 0, 0];
+    let by = [rows[0], rows[1], rows[2], rows[3], rows[4], 0, 0, 0];
+    let next = [rows[1], rows[2], rows[3], rows[4], 0, 0, 0, 0];
     let r = add_times(width, next, column(width, a, 1), by);
     [r[0], r[1], r[2], r[3], r[4]]
 }

@@ -67,19 +67,3 @@ pub fn pass_all_below(xs: &[u8], q: u8) -> usize
     }
     pass_below(xs, 0, q)
 }
-
-// A place, from i on, before which the two lists agree from i on: after the last block of eight in which they do.
-pub fn pass_equal(xs: &[u8], ys: &[u8], i: usize) -> usize
-    requires { ⌜ (i ≤ length (now xs)) × (length (now xs) ≡ length (now ys)) ⌝ }
-    ensures { λ r. ⌜ Run (λ p. at (now (xs .entry)) p ≡ at (now (ys .entry)) p) i (length (now (xs .entry))) r ⌝ }
-{
-    let mut p = i;
-    while 8 <= xs.len() - p {
-        if eight(xs, p) == eight(ys, p) {
-            p += 8;
-        } else {
-            return p;
-        }
-    }
-    p
-}

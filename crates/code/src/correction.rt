@@ -2,7 +2,7 @@
 // functions are no entry points.
 ghost use mathlib.Core.Path.{_≡_};
 ghost use mathlib.Core.Bool.{true, cond};
-ghost use mathlib.Core.List.{List, _∷_};
+ghost use mathlib.Core.List.{List, [], _∷_, _++_};
 ghost use Prim.Native.Nat.{ℕ, _≤_, _<_};
 ghost use lib.ListN.{length, take};
 ghost use Rattle.field.specs.Question.{allBelow};
@@ -67,10 +67,10 @@ fn columns_of(width: u8, places: [u8; UNKNOWNS], count: usize) -> [[u8; ROWS]; U
     columns
 }
 
-// The row with a right-hand side, and row k of the columns.
+// The row with a right-hand side, row k of the columns, and zeros.
 fn row_at(sum: u8, columns: [[u8; ROWS]; UNKNOWNS], k: usize) -> [u8; COLUMNS]
     requires { ⌜ k < rows ⌝ }
-    ensures { λ r. ⌜ r ≡ sum ∷ columnOf columns k ⌝ }
+    ensures { λ r. ⌜ r ≡ sum ∷ columnOf columns k ++ 0 ∷ 0 ∷ [] ⌝ }
 {
     [
         sum,
@@ -79,6 +79,8 @@ fn row_at(sum: u8, columns: [[u8; ROWS]; UNKNOWNS], k: usize) -> [u8; COLUMNS]
         columns[2][k],
         columns[3][k],
         columns[4][k],
+        0,
+        0,
     ]
 }
 

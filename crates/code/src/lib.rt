@@ -7,6 +7,7 @@ ghost use Rattle.code.specs.Call.{Encodes, testOf, membership, Reads, ma
 
 mod asking;
 mod beside;
+mod block;
 mod codeword;
 mod correction;
 mod errors;

@@ -14,12 +14,13 @@ use field::arithmetic::multiply;
 use field::row::add_multiple;
 use field::row::multiples;
 
-// The shape of a matrix: a row for each equation, with the right-hand side in column 0 and then a column for each unknown.
+// The shape of a matrix: a row for each equation, with the right-hand side in column 0 and then a column for each unknown. Two columns more
+// make a row eight bytes long, which is one number.
 pub const ROWS: usize = 5;
 
 pub const UNKNOWNS: usize = 5;
 
-pub const COLUMNS: usize = UNKNOWNS + 1;
+pub const COLUMNS: usize = 8;
 
 // How many solutions a system has: none, one, or several.
 pub enum Solutions {
@@ -52,7 +53,7 @@ fn add_row(width: u8, row: [u8; COLUMNS], k: u8, by: [u8; COLUMNS], ms: [u64; 7]
     ensures { λ r.
         ⌜
         (
-        Operand width k → Operands width by → (width ≡ 7 → Below 128 6 (at by) → Multiples (at by) ms)
+        Operand width k → Operands width by → (width ≡ 7 → Below 128 8 (at by) → Multiples (at by) ms)
         → r ≡ rowAdd width row k by
         )
         ⌝ }

@@ -54,11 +54,11 @@ pub fn column_times(width: u8, p: Place, k: u8, x: u8) -> u8
     multiply(width, column(width, p, k), x)
 }
 
-// Five symbols as a row of the solver, with 0 behind them.
+// Five symbols as a row of the solver, with zeros behind them.
 fn padded(xs: [u8; 5]) -> [u8; COLUMNS]
-    ensures { λ r. ⌜ r ≡ five (at xs) ++ 0 ∷ [] ⌝ }
+    ensures { λ r. ⌜ r ≡ five (at xs) ++ 0 ∷ 0 ∷ 0 ∷ [] ⌝ }
 {
-    [xs[0], xs[1], xs[2], xs[3], xs[4], 0]
+    [xs[0], xs[1], xs[2], xs[3], xs[4], 0, 0, 0]
 }
 
 // And back.

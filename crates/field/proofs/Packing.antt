@@ -7,7 +7,7 @@ use native.Mathlib.Omega.{arith}
 use lib.Bits.{bitAnd, bitXor, and-block, xor-block, xor-shr, xor-mod}
 use lib.Pow.{pow-add}
 use Rattle.field.specs.Polynomial.{add}
-use Rattle.field.specs.Lanes.{lanes, lane, Below, six}
+use Rattle.field.specs.Lanes.{lanes, lane, Below, eight}
 
 abbrev tail : (ℕ → ℕ) → ℕ → ℕ
 tail f j = f (suc j)
@@ -124,19 +124,22 @@ lane-add a b j =
         let e : 8 * j + 8 ≡ 8 * suc j = omega arith in
         pow-suc 256 j ∙ ap (λ (x : ℕ). x * 256) (digits j) ∙ sym (pow-add 2 (8 * j) 8) ∙ ap (λ (x : ℕ). 2 ^ x) e
 
-pub six-of : (f : ℕ → ℕ) {a b c d e g : ℕ} → a ≡ f 0 → b ≡ f 1 → c ≡ f 2 → d ≡ f 3 → e ≡ f 4 → g ≡ f 5
-    → _≡_ {A = List ℕ} (a ∷ b ∷ c ∷ d ∷ e ∷ g ∷ []) (six f)
-six-of f ea eb ec ed ee eg = simp (ea, eb, ec, ed, ee, eg)
+pub eight-of : (f : ℕ → ℕ) {a b c d e g h i : ℕ} → a ≡ f 0 → b ≡ f 1 → c ≡ f 2 → d ≡ f 3 → e ≡ f 4 → g ≡ f 5 → h ≡ f 6 → i ≡ f 7
+    → _≡_ {A = List ℕ} (a ∷ b ∷ c ∷ d ∷ e ∷ g ∷ h ∷ i ∷ []) (eight f)
+eight-of f ea eb ec ed ee eg eh ei = simp (ea, eb, ec, ed, ee, eg, eh, ei)
 
-pub six-cong : (f g : ℕ → ℕ) → ((j : ℕ) → j < 6 → f j ≡ g j) → six f ≡ six g
-six-cong f g e =
-    six-of g (e 0 (omega arith)) (e 1 (omega arith)) (e 2 (omega arith)) (e 3 (omega arith)) (e 4 (omega arith)) (e 5 (omega arith))
+pub eight-cong : (f g : ℕ → ℕ) → ((j : ℕ) → j < 8 → f j ≡ g j) → eight f ≡ eight g
+eight-cong f g e =
+    eight-of g (e 0 (omega arith)) (e 1 (omega arith)) (e 2 (omega arith)) (e 3 (omega arith)) (e 4 (omega arith)) (e 5 (omega arith))
+    (e 6 (omega arith)) (e 7 (omega arith))
 
-pub below-six : (f : ℕ → ℕ) → f 0 < 256 → f 1 < 256 → f 2 < 256 → f 3 < 256 → f 4 < 256 → f 5 < 256 → Below 256 6 f
-below-six f a b c d e g zero h = a
-below-six f a b c d e g (suc zero) h = b
-below-six f a b c d e g (suc (suc zero)) h = c
-below-six f a b c d e g (suc (suc (suc zero))) h = d
-below-six f a b c d e g (suc (suc (suc (suc zero)))) h = e
-below-six f a b c d e g (suc (suc (suc (suc (suc zero))))) h = g
-below-six f a b c d e g (suc (suc (suc (suc (suc (suc j)))))) h = absurd (omega arith)
+pub below-eight : (f : ℕ → ℕ) → f 0 < 256 → f 1 < 256 → f 2 < 256 → f 3 < 256 → f 4 < 256 → f 5 < 256 → f 6 < 256 → f 7 < 256 → Below 256 8 f
+below-eight f a b c d e g i k zero h = a
+below-eight f a b c d e g i k (suc zero) h = b
+below-eight f a b c d e g i k (suc (suc zero)) h = c
+below-eight f a b c d e g i k (suc (suc (suc zero))) h = d
+below-eight f a b c d e g i k (suc (suc (suc (suc zero)))) h = e
+below-eight f a b c d e g i k (suc (suc (suc (suc (suc zero))))) h = g
+below-eight f a b c d e g i k (suc (suc (suc (suc (suc (suc zero)))))) h = i
+below-eight f a b c d e g i k (suc (suc (suc (suc (suc (suc (suc zero))))))) h = k
+below-eight f a b c d e g i k (suc (suc (suc (suc (suc (suc (suc (suc j)))))))) h = absurd (omega arith)

@@ -22,13 +22,13 @@ lane a j = a / 256 ^ j % 256
 abbrev pub Times : ℕ → ℕ → ℕ → Type 0
 Times e a r = (n : ℕ) (f : ℕ → ℕ) → n ≤ 8 → Below 128 n f → a ≡ lanes n f → r ≡ lanes n (λ j. product 7 (power 7 α e) (f j))
 
--- f at 0 to 5: a number for each column of a linear system
-abbrev pub six : (ℕ → ℕ) → List ℕ
-six f = f 0 ∷ f 1 ∷ f 2 ∷ f 3 ∷ f 4 ∷ f 5 ∷ []
+-- f at 0 to 7: a number for each column of a row
+abbrev pub eight : (ℕ → ℕ) → List ℕ
+eight f = f 0 ∷ f 1 ∷ f 2 ∷ f 3 ∷ f 4 ∷ f 5 ∷ f 6 ∷ f 7 ∷ []
 
--- the six symbols of a row, in lanes, times each of the first seven powers of α
+-- the eight symbols of a row, in lanes, times each of the first seven powers of α
 abbrev pub Multiples : (ℕ → ℕ) → List ℕ → Type 0
-Multiples f ms = (i : ℕ) → i < 7 → at ms i ≡ lanes 6 (λ j. product 7 (power 7 α i) (f j))
+Multiples f ms = (i : ℕ) → i < 7 → at ms i ≡ lanes 8 (λ j. product 7 (power 7 α i) (f j))
 
 -- the sum of those of the seven numbers that the digits of k name
 abbrev pub named : ℕ → List ℕ → ℕ

@@ -2,8 +2,10 @@
 use borrow.Author.Needs.{needs}
 use borrow.Kind.Array.{eInt, good-length}
 use mathlib.Core.Path.{refl}
+use Prim.Native.Nat.{_≤_}
 use native.Mathlib.Omega.{arith}
-use lib.ListN.{take}
+use lib.ListN.{length, take}
+use lib.Seq.{length-take-le}
 use Rattle.code.specs.Word.{at}
 use Rattle.code.specs.Correction.{SystemRow}
 use Rattle.code.proofs.Correcting.{each-row, system-row}
@@ -53,13 +55,15 @@ returns c =
     let made = r2 .before in
     let a = made .before .args in
     let s = made .columns-of .ensures in
+    let room = good-length (eInt w8) 5 (a .places) _ (made .before .good .1 .0) in
+    let few : length (take (a .count) (a .places)) ≤ 5 = omega (arith, room, made .before .pre, length-take-le (a .count) (a .places) (omega (arith, room, made .before .pre))) in
     record {
-      room = good-length (eInt w8) 5 (a .places) _ (made .before .good .1 .0);
+      room = room;
       tall = refl;
       each = each-row (λ k row. SystemRow (a .width) (take (a .count) (a .places)) (at (a .t4) k) k row) _ _ _ _ _
-          (system-row s (omega arith) (r2 .row-at .ensures)) (system-row s (omega arith) (r3 .row-at2 .ensures))
-          (system-row s (omega arith) (r4 .row-at3 .ensures)) (system-row s (omega arith) (r5 .row-at4 .ensures))
-          (system-row s (omega arith) (c .row-at5 .ensures));
+          (system-row s (omega arith) few (r2 .row-at .ensures)) (system-row s (omega arith) few (r3 .row-at2 .ensures))
+          (system-row s (omega arith) few (r4 .row-at3 .ensures)) (system-row s (omega arith) few (r5 .row-at4 .ensures))
+          (system-row s (omega arith) few (c .row-at5 .ensures));
     }
 
 pub matrix-of-spec : {M : Type 1} → statement M

@@ -1,7 +1,7 @@
 -- `code::correction::row_at` meets its contract. Assumes nothing.
 use borrow.Author.Needs.{needs}
 use mathlib.Core.Path.{_≡_, ap}
-use mathlib.Core.List.{List, _∷_}
+use mathlib.Core.List.{List, [], _∷_, _++_}
 use Prim.Native.Nat.{ℕ}
 use lib.ListN.{length}
 use Rattle.code.specs.Matrix.{unknowns}
@@ -43,7 +43,7 @@ returns : tie.Need-returns
 returns c =
     let a = c .before .before .before .before .before .args in
     let n : length (a .t2) ≡ unknowns = search needs in
-    ap (λ (xs : List ℕ). a .sum ∷ xs) (column-entries (a .t2) (a .k) n)
+    ap (λ (xs : List ℕ). a .sum ∷ xs ++ 0 ∷ 0 ∷ []) (column-entries (a .t2) (a .k) n)
 
 pub row-at-spec : {M : Type 1} → statement M
 row-at-spec =

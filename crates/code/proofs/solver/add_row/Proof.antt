@@ -7,7 +7,7 @@ use Prim.Native.Nat.{ℕ}
 use Rattle.field.proofs.Scaling.{multiple-row}
 use Rattle.code.specs.Word.{at}
 use Rattle.code.specs.Matrix.{rowAdd}
-use Rattle.code.proofs.RowLaws.{below-order, six-rowAdd}
+use Rattle.code.proofs.RowLaws.{below-order, eight-rowAdd}
 use Rattle.code.proofs.solver.add_row.Statement.{statement}
 use Rattle.code.proofs.solver.add_row.Tie as tie
 
@@ -19,11 +19,11 @@ returns c =
     let start = c .before .before in
     let a = start .args in
     let seven : a .width ≡ 7 = c .before .if1 .taken in
-    let long = good-length (eInt w8) 6 (a .row) _ (start .good .1 .0) in
-    let wide = good-length (eInt w8) 6 (a .by) _ (start .good .1 .1 .1 .0) in
+    let long = good-length (eInt w8) 8 (a .row) _ (start .good .1 .0) in
+    let wide = good-length (eInt w8) 8 (a .by) _ (start .good .1 .1 .1 .0) in
     λ k y M. c .add-multiple .ensures
     ∙ multiple-row (a .k) (at (a .by)) (a .ms) (M seven (λ j h. below-order seven (y j h))) (a .row) (below-order seven k)
-    ∙ six-rowAdd 7 (a .row) (a .k) (a .by) long wide
+    ∙ eight-rowAdd 7 (a .row) (a .k) (a .by) long wide
     ∙ ap (λ (m : ℕ). rowAdd m (a .row) (a .k) (a .by)) (sym seven)
 
 add-products-requires : tie.Need-add-products-requires

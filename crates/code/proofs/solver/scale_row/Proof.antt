@@ -19,7 +19,7 @@ returns : tie.Need-returns
 returns c =
     let start = c .before .before in
     let a = start .args in
-    let long = good-length (eInt w8) 6 (a .row) _ (start .good .1 .1 .0) in
+    let long = good-length (eInt w8) 8 (a .row) _ (start .good .1 .1 .0) in
     λ k y. c .add-row .ensures k y (λ e b. multiples-own (a .row) (c .before .multiples .result) b (c .before .multiples .ensures)) ∙ zero-rowAdd (field-of (a .width) (k .width)) (a .k) (a .row) long
 
 pub scale-row-spec : {M : Type 1} → statement M

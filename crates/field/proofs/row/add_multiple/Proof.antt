@@ -6,7 +6,7 @@ use Rattle.field.specs.Polynomial.{add}
 use Rattle.field.specs.Sum.{at}
 use Rattle.field.specs.Lanes.{lane}
 use Rattle.field.proofs.Bytes.{xor-add}
-use Rattle.field.proofs.Packing.{lane-lanes, lane-add, six-cong}
+use Rattle.field.proofs.Packing.{lane-lanes, lane-add, eight-cong}
 use Rattle.field.proofs.row.add_multiple.Statement.{statement}
 use Rattle.field.proofs.row.add_multiple.Tie as tie
 
@@ -27,8 +27,8 @@ returns c =
     let x : ℕ = p .packed .result in
     let y : ℕ = s .scaled .result in
     c .unpacked .ensures
-    ∙ six-cong _ _ (λ j h. ap (λ (a : ℕ). lane a j) (xor-add x y) ∙ lane-add x y j
-    ∙ ap₂ add (ap (λ (a : ℕ). lane a j) (p .packed .ensures .0) ∙ lane-lanes 6 (at row) j h (p .packed .ensures .1))
+    ∙ eight-cong _ _ (λ j h. ap (λ (a : ℕ). lane a j) (xor-add x y) ∙ lane-add x y j
+    ∙ ap₂ add (ap (λ (a : ℕ). lane a j) (p .packed .ensures .0) ∙ lane-lanes 8 (at row) j h (p .packed .ensures .1))
     (ap (λ (a : ℕ). lane a j) (s .scaled .ensures)))
 
 pub add-multiple-spec : {M : Type 1} → statement M

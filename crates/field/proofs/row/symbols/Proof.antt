@@ -15,7 +15,7 @@ packed-requires c κs = search needs
 returns : tie.Need-returns
 returns c =
     let p = c .packed .ensures in
-    ap (λ (a : ℕ). bitAnd a (ones * 127)) (p .0) ∙ lanes-cut 6 (at (c .before .args .row)) (omega arith) (p .1)
+    ap (λ (a : ℕ). bitAnd a (ones * 127)) (p .0) ∙ lanes-cut 8 (at (c .before .args .row)) (omega arith) (p .1)
 
 pub symbols-spec : {M : Type 1} → statement M
 symbols-spec = tie.close (tie.spec packed-requires returns)

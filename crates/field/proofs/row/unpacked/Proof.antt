@@ -4,7 +4,7 @@ use mathlib.Core.Path.{_≡_, _∙_}
 use Prim.Native.Nat.{ℕ, _/_, _%_}
 use native.Mathlib.Omega.{arith}
 use Rattle.field.specs.Lanes.{lane}
-use Rattle.field.proofs.Packing.{six-of}
+use Rattle.field.proofs.Packing.{eight-of}
 use Rattle.field.proofs.row.unpacked.Statement.{statement}
 use Rattle.field.proofs.row.unpacked.Tie as tie
 
@@ -26,16 +26,25 @@ byte-requires-5 c κs = search needs
 byte-requires-6 : tie.Need-byte-requires-6
 byte-requires-6 c κs = search needs
 
+byte-requires-7 : tie.Need-byte-requires-7
+byte-requires-7 c κs = search needs
+
+byte-requires-8 : tie.Need-byte-requires-8
+byte-requires-8 c κs = search needs
+
 returns : tie.Need-returns
 returns c =
-    let b5 = c .before in
+    let b7 = c .before in
+    let b6 = b7 .before in
+    let b5 = b6 .before in
     let b4 = b5 .before in
     let b3 = b4 .before in
     let b2 = b3 .before in
     let b1 = b2 .before in
     let a : ℕ = b1 .before .args .a in
     let one : a % 256 ≡ a / 1 % 256 = omega arith in
-    six-of (lane a) (b1 .byte .ensures ∙ one) (b2 .byte2 .ensures) (b3 .byte3 .ensures) (b4 .byte4 .ensures) (b5 .byte5 .ensures) (c .byte6 .ensures)
+    eight-of (lane a) (b1 .byte .ensures ∙ one) (b2 .byte2 .ensures) (b3 .byte3 .ensures) (b4 .byte4 .ensures) (b5 .byte5 .ensures)
+    (b6 .byte6 .ensures) (b7 .byte7 .ensures) (c .byte8 .ensures)
 
 pub unpacked-spec : {M : Type 1} → statement M
 unpacked-spec =
@@ -47,4 +56,6 @@ unpacked-spec =
     byte-requires-4
     byte-requires-5
     byte-requires-6
+    byte-requires-7
+    byte-requires-8
     returns)
