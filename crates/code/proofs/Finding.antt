@@ -23,10 +23,10 @@ use Rattle.code.proofs.Extra.{Falling, falling-le}
 use Rattle.code.specs.declared.place.Place.{Place}
 use Rattle.code.specs.declared.roots.Scan.{Scan}
 use Rattle.code.specs.declared.errors.FirstTwo.{FirstTwo}
-use Rattle.code.specs.Scan.{valueAt, Carried, Scanned}
+use Rattle.code.specs.Scan.{valueAt, Carried, Scanned, Factored}
 use Rattle.code.specs.Locate.{Zeros, point, Ratio, TwoErrors, full, Lists}
 use Rattle.code.proofs.Pattern.{falling-out, falling-at}
-use Rattle.code.proofs.Locator.{leading, middle, constant, locator, TwoPoints, two-points, root-first, root-second, leading-nonzero, no-root}
+use Rattle.code.proofs.Locator.{leading, middle, constant, TwoPoints, two-points, leading-nonzero, middle-is, constant-is}
 use Rattle.code.proofs.Locating.{column-point, point-distinct}
 
 -- ---- a few places
@@ -147,15 +147,9 @@ module _ {m : ℕ} (F : IsField m) where
         let f : t ≡ p - checks = F .α-distinct t (p - checks) (omega arith) (omega arith) e in
         omega arith
 
-  -- ---- the locator as a quadratic
+  -- ---- the locator
 
-  pub locator-value : (s : ℕ → ℕ) (i : ℕ) → locator m s (power m α i) ≡ valueAt m (leading m s) (middle m s) (constant m s) i
-  locator-value s i =
-      ap₂ (λ (a b : ℕ). add (add a b) (constant m s))
-      (F .product-comm (leading m s) _ ∙ ap (λ (n : ℕ). product m n (leading m s)) (sym (power-times F α i 2 ∙ square F _ (F .power-lt α i))))
-      (F .product-comm (middle m s) _)
-
-  -- where two data places are wrong the locator is 0 at their points, and at no other
+  -- where two data places are wrong the locator has their points as roots
   module _ {s : ℕ → ℕ} {p q u v : ℕ} (hq : checks ≤ q) (l : q < p) (lp : p < places m) (T : TwoErrors m s p q u v) where
     pub pair-points : TwoPoints m s (point m p) (point m q) u v
     pair-points = two-points F s (point m p) (point m q) u v (T .small .0) (T .small .1) (λ k i.
@@ -169,17 +163,10 @@ module _ {m : ℕ} (F : IsField m) where
     roots-leading =
         leading-nonzero F pair-points (F .power-lt _ _) (F .power-lt _ _) distinct-points (T .nonzero .0) (T .small .0) (T .nonzero .1) (T .small .1)
 
-    pub roots-first : valueAt m (leading m s) (middle m s) (constant m s) (p - checks) ≡ 0
-    roots-first = sym (locator-value s (p - checks)) ∙ root-first F pair-points
-
-    pub roots-second : valueAt m (leading m s) (middle m s) (constant m s) (q - checks) ≡ 0
-    roots-second = sym (locator-value s (q - checks)) ∙ root-second F pair-points
-
-    pub roots-only : (i : ℕ) → i < items m → checks + i ≢ p → checks + i ≢ q → valueAt m (leading m s) (middle m s) (constant m s) i ≢ 0
-    roots-only i h dp dq z =
-        let e : checks + i - checks ≡ i = omega arith in
-        no-root F pair-points (F .power-lt _ _) (F .power-lt _ _) distinct-points (T .nonzero .0) (T .small .0) (T .nonzero .1) (T .small .1)
-        (point m (checks + i)) (F .power-lt _ _)
-        (point-distinct F (checks + i) p (omega arith) (omega arith) (omega arith) lp dp)
-        (point-distinct F (checks + i) q (omega arith) (omega arith) hq (omega arith) dq)
-        (ap (λ (n : ℕ). locator m s (power m α n)) e ∙ locator-value s i ∙ z)
+    pub roots-factored : Factored m (leading m s) (middle m s) (constant m s) (q - checks) (p - checks)
+    roots-factored =
+        record {
+          leading = roots-leading;
+          sum = middle-is F pair-points ∙ ap (λ (n : ℕ). product m n (leading m s)) (F .add-comm _ _);
+          both = constant-is F pair-points ∙ ap (λ (n : ℕ). product m n (leading m s)) (F .product-comm _ _);
+        }

@@ -41,6 +41,7 @@ pub mod Pattern  -- errors as values at places: the syndromes combine the column
 pub mod Locating  -- of each codeword within two places a test names just its places
 pub mod Scanning  -- the search for roots, and the one root of a linear function
 pub mod Finding  -- the places found are those that the tests name
+pub mod Quadratic
 pub mod Adding
 pub mod PlainWays  -- the ways out of the search without erasures
 pub mod Ratios  -- erased places eliminated from the sums, and the ratio of what is left

@@ -1,4 +1,4 @@
--- Two points with their values from four power sums: a quadratic that is 0 at the two points and nowhere else. Assumes nothing.
+-- Two points with their values from four power sums: the coefficients of a quadratic that has the two points as roots. Assumes nothing.
 use mathlib.Core.Path.{_≡_, sym, ap, ap₂, _∙_}
 use mathlib.Core.Logic.{_≢_}
 use Prim.Native.Nat.{ℕ, suc, _<_}
@@ -17,10 +17,6 @@ middle m s = add (product m (s 1) (s 2)) (product m (s 0) (s 3))
 
 abbrev pub constant : ℕ → (ℕ → ℕ) → ℕ
 constant m s = add (product m (s 2) (s 2)) (product m (s 1) (s 3))
-
--- the locator at x
-abbrev pub locator : ℕ → (ℕ → ℕ) → ℕ → ℕ
-locator m s x = add (add (product m (leading m s) (product m x x)) (product m (middle m s) x)) (constant m s)
 
 -- the sums 0 to 3 are those of the points x and y with the values u and v
 pub record TwoPoints (m : ℕ) (s : ℕ → ℕ) (x y u v : ℕ) : Type 0 where
@@ -76,24 +72,6 @@ module _ {m : ℕ} (F : IsField m) where
     constant-is =
         simp (T .row0, T .row1, T .row2, T .row3, F .add-product, F .product-add, F .product-assoc, F .product-left-comm, F .product-comm, F .add-assoc, F .add-left-comm, F .add-comm, F .add-self, add-cancel F, F .zero-add)
 
-    factors : (d z : ℕ) → add (add (product m d (product m z z)) (product m (product m (add x y) d) z)) (product m (product m x y) d)
-        ≡ product m d (product m (add z x) (add z y))
-    factors d z =
-        simp (F .add-product, F .product-add, F .product-assoc, F .product-left-comm, F .product-comm, F .add-assoc, F .add-left-comm, F .add-comm, F .add-self, add-cancel F, F .zero-add)
-
-    -- the locator is the leading coefficient times (z + x)(z + y)
-    pub locator-is : (z : ℕ) → locator m s z ≡ product m (leading m s) (product m (add z x) (add z y))
-    locator-is z =
-        ap₂ (λ (b c : ℕ). add (add (product m (leading m s) (product m z z)) (product m b z)) c) middle-is constant-is
-        ∙ factors (leading m s) z
-
-    -- it is 0 at the two points
-    pub root-first : locator m s x ≡ 0
-    root-first = locator-is x ∙ simp (F .add-self, F .zero-product, F .product-zero)
-
-    pub root-second : locator m s y ≡ 0
-    root-second = locator-is y ∙ simp (F .add-self, F .product-zero)
-
     module _ (hx : x < order m) (hy : y < order m) (d : x ≢ y) (nu : u ≢ 0) (hu : u < order m) (nv : v ≢ 0) (hv : v < order m) where
       apart : add x y ≢ 0
       apart e = d (F .eq-of-add x y e)
@@ -111,10 +89,3 @@ module _ {m : ℕ} (F : IsField m) where
       leading-nonzero e =
           F .product-nonzero _ _ (F .product-nonzero u v nu hu nv hv) (F .product-lt u v)
           (F .product-nonzero _ _ apart (F .add-lt x y hx hy) apart (F .add-lt x y hx hy)) (F .product-lt _ _) (sym leading-is ∙ e)
-
-      -- and nowhere else
-      pub no-root : (z : ℕ) → z < order m → z ≢ x → z ≢ y → locator m s z ≢ 0
-      no-root z h nx ny e =
-          F .product-nonzero _ _ leading-nonzero (F .add-lt _ _ (F .product-lt _ _) (F .product-lt _ _))
-          (F .product-nonzero _ _ (λ f. nx (F .eq-of-add z x f)) (F .add-lt z x h hx) (λ f. ny (F .eq-of-add z y f)) (F .add-lt z y h hy))
-          (F .product-lt _ _) (sym (locator-is z) ∙ e)

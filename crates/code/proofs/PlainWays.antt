@@ -18,6 +18,7 @@ use Rattle.code.specs.declared.place.Place.{Place}
 use Rattle.code.specs.declared.trial.Trial.{Trial}
 use Rattle.code.specs.declared.correction.Correction.{Correction}
 use Rattle.code.specs.declared.roots.Scan.{Scan}
+use Rattle.code.specs.declared.roots.RootPair.{RootPair}
 use Rattle.code.specs.declared.errors.FirstTwo.{FirstTwo}
 use Rattle.code.specs.declared.errors.Pair.{Pair}
 use Rattle.code.specs.declared.solver.Solutions.the-variants.{None, One}
@@ -26,7 +27,7 @@ use Rattle.code.specs.Place.{column}
 use Rattle.code.specs.Erasure.{maskedSyndrome}
 use Rattle.code.specs.Call.{allZero}
 use Rattle.code.specs.Correction.{Lent, placesOf, Ready, Searched, NoneWithin}
-use Rattle.code.specs.Scan.{Carried, Scanned}
+use Rattle.code.specs.Scan.{Carried, Scanned, TwoRoots}
 use Rattle.code.specs.Locate.{point, without, Ratio, TwoErrors, full, Lists, AddsAt, NoRatio, NoPair, PairValues}
 use Rattle.code.proofs.Algebra.{add-of-eq}
 use Rattle.code.proofs.Questions.{both-ways}
@@ -36,7 +37,7 @@ use Rattle.code.proofs.Passing.{five-zero}
 use Rattle.code.proofs.Trying.{sums-at, sums-lt, searched-none, searched-one, searched-last}
 use Rattle.code.proofs.Locator.{leading, middle, constant, second-value}
 use Rattle.code.proofs.Locating.{Named, by-zeros, by-low, by-high, by-pair, zeros-cong, column-point, none-named}
-use Rattle.code.proofs.Finding.{lists-cons, zeros-list, full-at, full-cong, least-root, carried-start, ratio-root, ratio-only, roots-leading, pair-points, distinct-points, roots-first, roots-second, roots-only}
+use Rattle.code.proofs.Finding.{lists-cons, zeros-list, full-at, full-cong, least-root, carried-start, ratio-root, ratio-only, roots-leading, roots-factored, pair-points, distinct-points}
 use Rattle.code.proofs.Adding.{bothOf, both-first, both-second, besides, besides-check, besides-data, checks-corrects, beside-corrects, pair-corrects}
 
 -- ---- what is added
@@ -215,14 +216,6 @@ module _ {m : ℕ} {w : List ℕ} {t : Trial} (R : Ready m w t) (none : placesOf
 
 -- ---- the roots of the locator
 
--- the search for the first root starts with the locator's own coefficients u and v
-pub roots-carried : {m : ℕ} → isWidth m ≡ true → (s : ℕ → ℕ) (u v : ℕ) → u ≡ leading m s → v ≡ middle m s → Carried m (leading m s) (middle m s) 0 u v
-roots-carried {m} wd s u v eu ev =
-    let F = field-of m wd in
-    subst (λ (x : ℕ). Carried m x (middle m s) 0 u v) eu (subst (λ (y : ℕ). Carried m u y 0 u v) ev (carried-start F u v
-    (subst (λ (n : ℕ). n < order m) (sym eu) (F .add-lt _ _ (F .product-lt _ _) (F .product-lt _ _)))
-    (subst (λ (n : ℕ). n < order m) (sym ev) (F .add-lt _ _ (F .product-lt _ _) (F .product-lt _ _)))))
-
 -- no two data places are wrong
 abbrev NoPairs : ℕ → (ℕ → ℕ) → Type 0
 NoPairs m s = (p q : ℕ) → checks ≤ q → q < p → p < places m → NoPair m s p q
@@ -234,36 +227,39 @@ module _ {m : ℕ} (wd : isWidth m ≡ true) (w ss : List ℕ) (c : Correction) 
   pub roots-zero : c .found ≡ None → leading m (at ss) ≡ 0 → Searched m w [] 2 (NoPairs m (at ss)) c
   roots-zero g z = searched-none g (λ p q hq l lp u v T. roots-leading F‴ hq l lp T z)
 
-  module _ (k : ℕ) (ek : k ≡ constant m (at ss)) (n : ℕ) (en : n ≡ items m) (r : Scan)
-      (S : Scanned m (leading m (at ss)) (middle m (at ss)) k 0 n r) where
-    roots-low : (p q u v : ℕ) → checks ≤ q → q < p → p < places m → TwoErrors m (at ss) p q u v → r .at .0 ≡ q - checks
-    roots-low p q u v hq l lp T =
-        least-root m _ _ _ 0 n r (subst (λ (j : ℕ). Scanned m (leading m (at ss)) (middle m (at ss)) j 0 n r) ek S) (omega arith)
-        (q - checks) (omega arith) (omega arith) (roots-second F‴ hq l lp T)
-        (λ t h i. roots-only F‴ hq l lp T t (omega arith) (λ e. omega arith) (λ e. omega arith))
+  -- u, v and k are the locator's coefficients, and r its roots
+  module _ (n : ℕ) (en : n ≡ items m) (u v k : ℕ) (eu : u ≡ leading m (at ss)) (ev : v ≡ middle m (at ss)) (ek : k ≡ constant m (at ss)) (r : RootPair)
+      (N : isWidth m ≡ true → u < order m → v < order m → k < order m → n ≡ items m → TwoRoots m u v k n r) where
+    symbol : {x y : ℕ} → x ≡ y → y < order m → x < order m
+    symbol e h = subst (λ (z : ℕ). z < order m) (sym e) h
 
-    pub roots-out : c .found ≡ None → n ≤ r .at .0 → Searched m w [] 2 (NoPairs m (at ss)) c
-    roots-out g h = searched-none g (λ p q hq l lp u v T. omega (arith, roots-low p q u v hq l lp T))
+    small : (a b c d : ℕ) → add (product m a b) (product m c d) < order m
+    small a b c d = F‴ .add-lt _ _ (F‴ .product-lt a b) (F‴ .product-lt c d)
 
-    module _ (r′ : Scan) (S′ : Scanned m (leading m (at ss)) (middle m (at ss)) k (r .at .0 + 1) n r′) (h′ : r .at .0 + 1 ≤ r′ .at .0) where
-      roots-high : (p q u v : ℕ) → checks ≤ q → q < p → p < places m → TwoErrors m (at ss) p q u v → r′ .at .0 ≡ p - checks
-      roots-high p q u v hq l lp T =
-          let low = roots-low p q u v hq l lp T in
-          least-root m _ _ _ (r .at .0 + 1) n r′
-          (subst (λ (j : ℕ). Scanned m (leading m (at ss)) (middle m (at ss)) j (r .at .0 + 1) n r′) ek S′) h′
-          (p - checks) (omega arith) (omega arith) (roots-first F‴ hq l lp T)
-          (λ t h i. roots-only F‴ hq l lp T t (omega arith) (λ e. omega arith) (λ e. omega arith))
+    roots-named : (p q y z : ℕ) → checks ≤ q → q < p → p < places m → TwoErrors m (at ss) p q y z → (r .low .0 ≡ q - checks) × (r .high .0 ≡ p - checks)
+    roots-named p q y z hq l lp T =
+        let Q = roots-factored F‴ hq l lp T in
+        N wd (symbol eu (small _ _ _ _)) (symbol ev (small _ _ _ _)) (symbol ek (small _ _ _ _)) en (q - checks) (p - checks) (omega arith) (omega arith)
+        (record {
+          leading = λ e. Q .leading (sym eu ∙ e);
+          sum = ev ∙ Q .sum ∙ ap (product m _) (sym eu);
+          both = ek ∙ Q .both ∙ ap (product m _) (sym eu);
+        })
 
-      pub roots-out-second : c .found ≡ None → n ≤ r′ .at .0 → Searched m w [] 2 (NoPairs m (at ss)) c
-      roots-out-second g h = searched-none g (λ p q hq l lp u v T. omega (arith, roots-high p q u v hq l lp T))
+    pub roots-unsorted : c .found ≡ None → r .high .0 ≤ r .low .0 → Searched m w [] 2 (NoPairs m (at ss)) c
+    roots-unsorted g h = searched-none g (λ p q hq l lp y z T. (let e = roots-named p q y z hq l lp T in omega (arith, e .0, e .1)))
 
-      -- the two places that are tried
-      pub roots-pair : (i j : ℕ) → i ≡ r .at .0 + 5 → j ≡ r′ .at .0 + 5 → Searched m w [] 2 (NoPair m (at ss) j i) c
-          → Searched m w [] 2 (NoPairs m (at ss)) c
-      roots-pair i j ei ej T = searched-last (le-refl 2) (λ no p q hq l lp u v E.
-          (let x : q ≡ i = omega (arith, roots-low p q u v hq l lp E) in
-          let y : p ≡ j = omega (arith, roots-high p q u v hq l lp E) in
-          no u v (subst (λ (a : ℕ). TwoErrors m (at ss) a i u v) y (subst (λ (b : ℕ). TwoErrors m (at ss) p b u v) x E)))) T
+    pub roots-out : c .found ≡ None → n ≤ r .high .0 → Searched m w [] 2 (NoPairs m (at ss)) c
+    roots-out g h = searched-none g (λ p q hq l lp y z T. omega (arith, roots-named p q y z hq l lp T .1))
+
+    -- the two places that are tried
+    pub roots-pair : (i j : ℕ) → i ≡ r .low .0 + 5 → j ≡ r .high .0 + 5 → Searched m w [] 2 (NoPair m (at ss) j i) c
+        → Searched m w [] 2 (NoPairs m (at ss)) c
+    roots-pair i j ei ej S = searched-last (le-refl 2) (λ no p q hq l lp y z T.
+        (let e = roots-named p q y z hq l lp T in
+        let x : q ≡ i = omega (arith, e .0) in
+        let x′ : p ≡ j = omega (arith, e .1) in
+        no y z (subst (λ (a : ℕ). TwoErrors m (at ss) a i y z) x′ (subst (λ (b : ℕ). TwoErrors m (at ss) p b y z) x T)))) S
 
 -- ---- all of them
 

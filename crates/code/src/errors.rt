@@ -24,14 +24,12 @@ use crate::place::place_of;
 use crate::question::all_zero;
 use crate::roots::first_root;
 use crate::roots::items_of;
-use crate::roots::root_from;
+use crate::roots::two_roots;
 use crate::solver::Solutions;
 use crate::trial::Trial;
 use crate::trial::masked;
-use field::Exponent;
 use field::arithmetic::invert;
 use field::arithmetic::multiply;
-use field::shift::shift;
 
 // Places, the highest first; of more than two only the first two are kept.
 pub struct FirstTwo {
@@ -266,7 +264,7 @@ fn coefficient(width: u8, s: [u8; 5], i: usize, j: usize, k: usize, l: usize) ->
     a ^ b
 }
 
-// The first two data places at which the locator, square·x² + linear·x + constant, is 0 are wrong.
+// The two data places at which the locator, square·x² + linear·x + constant, is 0 are wrong.
 fn correct_roots(width: u8, word: &[u8], t: Trial) -> Correction
     requires { ⌜ (checks ≤ length (now word)) × (length (now word) ≤ longest) ⌝ }
     ensures { λ r.
@@ -284,17 +282,15 @@ fn correct_roots(width: u8, word: &[u8], t: Trial) -> Correction
     let linear = coefficient(width, sums, 1, 2, 0, 3);
     let constant = coefficient(width, sums, 2, 2, 1, 3);
     let n = items_of(word);
-    let f = root_from(width, Exponent(0), square, linear, constant, n);
-    let low = f.at;
+    let r = two_roots(width, square, linear, constant, n);
+    let low = r.low;
+    let high = r.high;
     let i = low.0;
-    if n <= i {
+    let j = high.0;
+    if j <= i {
         return nothing();
     }
-    let d = shift(width, f.square, 2);
-    let e = shift(width, f.linear, 1);
-    let g = root_from(width, Exponent(i + 1), d, e, constant, n);
-    let high = g.at;
-    if n <= high.0 {
+    if n <= j {
         return nothing();
     }
     correct_pair(width, word, t, place_of(high), place_of(low))

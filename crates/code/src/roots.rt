@@ -1,12 +1,15 @@
 // Roots of linear and quadratic functions among the powers of α: the data places at which they are 0. These functions are no entry points.
 ghost use mathlib.Core.Path.{_≡_};
 ghost use mathlib.Core.Bool.{true};
-ghost use Prim.Native.Nat.{ℕ, _-_, _≤_, _<_};
+ghost use Prim.Native.Nat.{ℕ, _-_, _%_, _≤_, _<_};
 ghost use lib.ListN.{length};
+ghost use Rattle.field.specs.Field.{order};
 ghost use Rattle.field.specs.Question.{isWidth};
-ghost use Rattle.code.specs.Word.{checks, longest};
-ghost use Rattle.code.specs.Scan.{Carried, Scanned, Ratio};
+ghost use Rattle.code.specs.Word.{checks, longest, items};
+ghost use Rattle.code.specs.Scan.{Carried, Scanned, Ratio, TwoRoots, halfWord, entryOf, HalfTrace};
 use field::Exponent;
+use field::arithmetic::invert;
+use field::arithmetic::multiply;
 use field::arithmetic::ratio_exponent;
 use field::shift::shift;
 
@@ -18,7 +21,7 @@ pub struct Scan {
 }
 
 // The first root from an exponent on, below n; at n if there is none.
-pub fn root_from(width: u8, from: Exponent, square: u8, linear: u8, constant: u8, n: u16) -> Scan
+fn root_from(width: u8, from: Exponent, square: u8, linear: u8, constant: u8, n: u16) -> Scan
     requires { ⌜ from .0 ≤ n ⌝ }
     ensures { λ r.
         ⌜
@@ -83,6 +86,115 @@ pub fn first_root(width: u8, square: u8, linear: u8, constant: u8, n: u16) -> Sc
         };
     }
     root_from(width, Exponent(0), square, linear, constant, n)
+}
+
+// Two exponents, the lower first: the roots of a quadratic that has two.
+pub struct RootPair {
+    pub low: Exponent,
+    pub high: Exponent,
+}
+
+// The two roots below n, by a search.
+fn scanned_roots(width: u8, square: u8, linear: u8, constant: u8, n: u16) -> RootPair
+    ensures { λ r.
+        ⌜
+        (
+        isWidth width ≡ true → square < order width → linear < order width → n ≡ items width
+        → TwoRoots width square linear constant n r
+        )
+        ⌝ }
+{
+    let f = root_from(width, Exponent(0), square, linear, constant, n);
+    let low = f.at;
+    let i = low.0;
+    if n <= i {
+        return RootPair { low, high: low };
+    }
+    let d = shift(width, f.square, 2);
+    let e = shift(width, f.linear, 1);
+    let g = root_from(width, Exponent(i + 1), d, e, constant, n);
+    let high = g.at;
+    RootPair { low, high }
+}
+
+// The half traces of eight symbols of width 7.
+fn half_words(k: u64) -> u64
+    ensures { λ r. ⌜ (k < 16 → r ≡ halfWord k) ⌝ }
+{
+    match k {
+        0 => 563027263881216,
+        1 => 28147995895005286,
+        2 => 5629516714475542,
+        3 => 32088568258101360,
+        4 => 11822198133620776,
+        5 => 21392493373161550,
+        6 => 16888687584215102,
+        7 => 25333065736257624,
+        8 => 30399830068953198,
+        9 => 2814861437829128,
+        10 => 34340402432049272,
+        11 => 7881350888423454,
+        12 => 19140659199213638,
+        13 => 9570363959672864,
+        14 => 23081231562309712,
+        15 => 14636853410267190,
+        _ => 0,
+    }
+}
+
+// Entry i of a number that holds eight.
+fn entry(w: u64, i: u64) -> u64
+    ensures { λ r. ⌜ (r ≡ entryOf w i) × (r < 128) ⌝ }
+{
+    (w >> (i % 8 * 8)) % 128
+}
+
+// A root of x² + x = c at width 7, if there is one; the other is that plus 1.
+fn half_trace(c: u8) -> u8
+    ensures { λ r. ⌜ HalfTrace c r ⌝ }
+{
+    let i = (c % 128) as u64;
+    entry(half_words(i / 8), i) as u8
+}
+
+// The exponents in rising order.
+fn sorted(i: Exponent, j: Exponent) -> RootPair
+    ensures { λ r.
+        ⌜
+        (i .0 < j .0 → (r .low .0 ≡ i .0) × (r .high .0 ≡ j .0)) × (j .0 < i .0 → (r .low .0 ≡ j .0) × (r .high .0 ≡ i .0))
+        ⌝ }
+{
+    if i.0 < j.0 {
+        return RootPair { low: i, high: j };
+    }
+    RootPair { low: j, high: i }
+}
+
+// The two roots at width 7. With x = y·linear/square the quadratic becomes y² + y = constant·square/linear².
+fn halved_roots(square: u8, linear: u8, constant: u8) -> RootPair
+    ensures { λ r. ⌜ (square < 128 → linear < 128 → constant < 128 → TwoRoots 7 square linear constant 127 r) ⌝ }
+{
+    let inverse = invert(7, linear);
+    let ratio = multiply(7, square, inverse);
+    let rest = multiply(7, constant, inverse);
+    let y = half_trace(multiply(7, rest, ratio));
+    sorted(ratio_exponent(ratio, y), ratio_exponent(ratio, y ^ 1))
+}
+
+// The two roots below n.
+pub fn two_roots(width: u8, square: u8, linear: u8, constant: u8, n: u16) -> RootPair
+    ensures { λ r.
+        ⌜
+        (
+        isWidth width ≡ true → square < order width → linear < order width → constant < order width → n ≡ items width
+        → TwoRoots width square linear constant n r
+        )
+        ⌝ }
+{
+    if width == 7 {
+        return halved_roots(square, linear, constant);
+    }
+    scanned_roots(width, square, linear, constant, n)
 }
 
 // The number of data symbols of a word.

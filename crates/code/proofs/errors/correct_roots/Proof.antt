@@ -1,22 +1,20 @@
 -- `code::errors::correct_roots` meets its contract. Assumes nothing.
 use borrow.Author.Needs.{needs}
 use mathlib.Core.Path.{_≡_, sym, ap, _∙_}
-use Prim.Native.Nat.{ℕ, _+_}
+use Prim.Native.Nat.{ℕ}
 use native.Mathlib.Omega.{arith}
 use Rattle.code.specs.Word.{items, at}
 use Rattle.code.specs.Correction.{Ready}
-use Rattle.code.specs.Scan.{Scanned}
 use Rattle.code.proofs.Trying.{sums-lt}
-use Rattle.code.proofs.Scanning.{carried-on}
 use Rattle.code.proofs.Locator.{leading, middle, constant}
-use Rattle.code.proofs.PlainWays.{roots-zero, roots-carried, roots-out, roots-out-second, roots-pair}
+use Rattle.code.proofs.PlainWays.{roots-zero, roots-unsorted, roots-out, roots-pair}
 use Rattle.code.proofs.errors.correct_roots.Statement.{statement}
 use Rattle.code.proofs.errors.correct_roots.Tie as tie
 
-abbrev start : tie.After-root-from → tie.Start
+abbrev start : tie.After-two-roots → tie.Start
 start r = r .before .before .before .before .before .before .before .before
 
-module _ (r : tie.After-root-from) (R : Ready (start r .args .width) (start r .args .word .now) (start r .args .t)) where
+module _ (r : tie.After-two-roots) (R : Ready (start r .args .width) (start r .args .word .now) (start r .args .t)) where
   abbrev m : ℕ
   m = start r .args .width
 
@@ -26,26 +24,14 @@ module _ (r : tie.After-root-from) (R : Ready (start r .args .width) (start r .a
   size : r .before .items-of .result ≡ items m
   size = omega (arith, R .lent .size, r .before .items-of .ensures .0)
 
+  top : r .before .before .before .before .before .coefficient .result ≡ leading m s
+  top = r .before .before .before .before .before .coefficient .ensures (R .width) (sums-lt R)
+
+  mid : r .before .before .before .coefficient2 .result ≡ middle m s
+  mid = r .before .before .before .coefficient2 .ensures (R .width) (sums-lt R)
+
   last : r .before .before .coefficient3 .result ≡ constant m s
   last = r .before .before .coefficient3 .ensures (R .width) (sums-lt R)
-
-  -- the first root
-  first : Scanned m (leading m s) (middle m s) (r .before .before .coefficient3 .result) 0 (r .before .items-of .result) (r .root-from .result)
-  first = r .root-from .ensures .2 (leading m s) (middle m s) (R .width) (roots-carried (R .width) s _ _
-      (r .before .before .before .before .before .coefficient .ensures (R .width) (sums-lt R))
-      (r .before .before .before .coefficient2 .ensures (R .width) (sums-lt R)))
-
-abbrev from : tie.After-root-from2 → tie.After-root-from
-from s = s .before .before .before .before .before
-
--- the second
-second : (s : tie.After-root-from2) (R : Ready (start (from s) .args .width) (start (from s) .args .word .now) (start (from s) .args .t))
-    → let r = from s in let a = start r .args in
-    Scanned (a .width) (leading (a .width) (at (a .t .sums))) (middle (a .width) (at (a .t .sums))) (r .before .before .coefficient3 .result)
-    (r .root-from .result .at .0 + 1) (r .before .items-of .result) (s .root-from2 .result)
-second s R =
-    s .root-from2 .ensures .2 _ _ (R .width)
-    (carried-on _ (R .width) (first (from s) R .carried) (s .before .before .shift .ensures) (s .before .shift2 .ensures))
 
 coefficient-requires : tie.Need-coefficient-requires
 coefficient-requires c κs = search needs
@@ -71,44 +57,31 @@ coefficient-requires-3 c κs = search needs
 items-of-requires : tie.Need-items-of-requires
 items-of-requires c κs = search needs
 
-root-from-requires : tie.Need-root-from-requires
-root-from-requires c κs = search needs
+two-roots-requires : tie.Need-two-roots-requires
+two-roots-requires c κs = search needs
 
 nothing-requires-2 : tie.Need-nothing-requires-2
 nothing-requires-2 c κs = search needs
 
 returns-2 : tie.Need-returns-2
 returns-2 c =
-    let r = c .before .before .before in
+    let r = c .before .before .before .before in
     let a = start r .args in (
       c .nothing2 .ensures .0,
-      λ R e. roots-out (R .width) (a .word .now) (a .t .sums) _ _ (last r R) _ (size r R) (r .root-from .result) (first r R) (c .nothing2 .ensures .1)
-          (c .before .if2 .taken),
+      λ R e. roots-unsorted (R .width) (a .word .now) (a .t .sums) _ _ (size r R) _ _ _ (top r R) (mid r R) (last r R) (r .two-roots .result)
+          (r .two-roots .ensures) (c .nothing2 .ensures .1) (c .before .if2 .taken),
     )
-
-shift-requires : tie.Need-shift-requires
-shift-requires c κs = search needs
-
-shift-requires-2 : tie.Need-shift-requires-2
-shift-requires-2 c κs = search needs
-
-add-t18 : tie.Need-add-t18
-add-t18 c = search needs
-
-root-from-requires-2 : tie.Need-root-from-requires-2
-root-from-requires-2 c κs = search needs
 
 nothing-requires-3 : tie.Need-nothing-requires-3
 nothing-requires-3 c κs = search needs
 
 returns-3 : tie.Need-returns-3
 returns-3 c =
-    let s = c .before .before .before .before in
-    let r = from s in
+    let r = c .before .before .before .before .before in
     let a = start r .args in (
       c .nothing3 .ensures .0,
-      λ R e. roots-out-second (R .width) (a .word .now) (a .t .sums) _ _ (last r R) _ (size r R) (r .root-from .result) (first r R)
-          (s .root-from2 .result) (second s R) (s .root-from2 .ensures .0) (c .nothing3 .ensures .1) (c .before .if3 .taken),
+      λ R e. roots-out (R .width) (a .word .now) (a .t .sums) _ _ (size r R) _ _ _ (top r R) (mid r R) (last r R) (r .two-roots .result)
+          (r .two-roots .ensures) (c .nothing3 .ensures .1) (c .before .if3 .taken),
     )
 
 place-of-requires : tie.Need-place-of-requires
@@ -124,15 +97,14 @@ returns-4 : tie.Need-returns-4
 returns-4 c =
     let q = c .before in
     let p = q .before in
-    let s = p .before .before .before .before in
-    let r = from s in
+    let r = p .before .before .before .before .before in
     let a = start r .args in
     let ep = ap (λ x. x .0) (p .place-of .ensures) in
     let eq = ap (λ x. x .0) (q .place-of2 .ensures) in (
       c .correct-pair .ensures .0,
-      λ R e. roots-pair (R .width) (a .word .now) (a .t .sums) _ _ (last r R) _ (size r R) (r .root-from .result) (first r R)
-          (s .root-from2 .result) (second s R) (s .root-from2 .ensures .0) (q .place-of2 .result .0) (p .place-of .result .0) eq ep
-          (c .correct-pair .ensures .1 R e (omega (arith, eq)) (omega (arith, eq, ep, s .root-from2 .ensures .0))
+      λ R e. roots-pair (R .width) (a .word .now) (a .t .sums) _ _ (size r R) _ _ _ (top r R) (mid r R) (last r R) (r .two-roots .result)
+          (r .two-roots .ensures) (q .place-of2 .result .0) (p .place-of .result .0) eq ep
+          (c .correct-pair .ensures .1 R e (omega (arith, eq)) (omega (arith, eq, ep, p .before .before .if2 .left))
           (omega (arith, ep, size r R, p .before .if3 .left))),
     )
 
@@ -146,13 +118,9 @@ correct-roots-spec =
     coefficient-requires-2
     coefficient-requires-3
     items-of-requires
-    root-from-requires
+    two-roots-requires
     nothing-requires-2
     returns-2
-    shift-requires
-    shift-requires-2
-    add-t18
-    root-from-requires-2
     nothing-requires-3
     returns-3
     place-of-requires

@@ -1,0 +1,60 @@
+-- `code::roots::halved_roots` meets its contract. Assumes nothing.
+use borrow.Author.Needs.{needs}
+use mathlib.Core.Path.{sym, _∙_}
+use Rattle.field.proofs.Bytes.{xor-add}
+use Rattle.code.proofs.Quadratic.{halved-roots}
+use Rattle.code.proofs.roots.halved_roots.Statement.{statement}
+use Rattle.code.proofs.roots.halved_roots.Tie as tie
+
+invert-requires : tie.Need-invert-requires
+invert-requires c κs = search needs
+
+multiply-requires : tie.Need-multiply-requires
+multiply-requires c κs = search needs
+
+multiply-requires-2 : tie.Need-multiply-requires-2
+multiply-requires-2 c κs = search needs
+
+multiply-requires-3 : tie.Need-multiply-requires-3
+multiply-requires-3 c κs = search needs
+
+half-trace-requires : tie.Need-half-trace-requires
+half-trace-requires c κs = search needs
+
+ratio-exponent-requires : tie.Need-ratio-exponent-requires
+ratio-exponent-requires c κs = search needs
+
+ratio-exponent-requires-2 : tie.Need-ratio-exponent-requires-2
+ratio-exponent-requires-2 c κs = search needs
+
+sorted-requires : tie.Need-sorted-requires
+sorted-requires c κs = search needs
+
+returns : tie.Need-returns
+returns c = λ la lb lc.
+    (let r2 = c .before in
+    let r1 = r2 .before in
+    let h = r1 .before in
+    let m3 = h .before in
+    let m2 = m3 .before in
+    let m1 = m2 .before in
+    let v = m1 .before in
+    let a = v .before .args in
+    halved-roots (a .square) (a .linear) (a .constant) (v .invert .result) (m1 .multiply .result) (m2 .multiply2 .result) (m3 .multiply3 .result)
+    (h .half-trace .result) _ _ _ _ _ la lb lc (v .invert .ensures) (m1 .multiply .ensures) (m2 .multiply2 .ensures) (m3 .multiply3 .ensures)
+    (h .half-trace .ensures) (xor-add (h .half-trace .result) 1) (r1 .ratio-exponent .ensures .0) (r1 .ratio-exponent .ensures .1)
+    (r2 .ratio-exponent2 .ensures .0) (r2 .ratio-exponent2 .ensures .1) (c .sorted .ensures .0) (c .sorted .ensures .1))
+
+pub halved-roots-spec : {M : Type 1} → statement M
+halved-roots-spec =
+    tie.close
+    (tie.spec
+    invert-requires
+    multiply-requires
+    multiply-requires-2
+    multiply-requires-3
+    half-trace-requires
+    ratio-exponent-requires
+    ratio-exponent-requires-2
+    sorted-requires
+    returns)
