@@ -1,4 +1,4 @@
--- The search beside erasures: the ways out of `try_root`, `try_data_beside_checks`, `try_data_beside_data_and_check`, `try_data_beside_two_data` and `try_data`. Assumes nothing.
+-- The search beside erasures: the ways out of `try_root`, of `try_data` and of what it calls. Assumes nothing.
 use mathlib.Core.Path.{_≡_, refl, sym, ap, ap₂, _∙_, subst}
 use mathlib.Core.Logic.{_≢_}
 use mathlib.Core.Bool.{true, false}
@@ -8,7 +8,7 @@ use native.Mathlib.Nat.{le-refl}
 use native.Mathlib.Decide.{ℕ-discrete}
 use native.Mathlib.Omega.{arith}
 use borrow.Author.Tests.{ne-eqb}
-use lib.ListN.{length, getD, take}
+use lib.ListN.{length, getD, set, take}
 use Rattle.field.specs.Polynomial.{add}
 use Rattle.field.specs.Field.{product, power, α}
 use Rattle.field.specs.Question.{isWidth, allBelow}
@@ -31,7 +31,7 @@ use Rattle.code.specs.declared.roots.Scan.{Scan}
 use Rattle.code.specs.declared.beside.Span.{Span}
 use Rattle.code.specs.Scan.{valueAt, Carried, Scanned}
 use Rattle.code.specs.Locate.{point}
-use Rattle.code.specs.Beside.{Injective, eliminate, Step, Arranged, Rows, OneRoot, NoneRoot, NoneData, Only, Between, Apart}
+use Rattle.code.specs.Beside.{Injective, eliminate, Step, Arranged, same, Rows, OneRoot, NoneRoot, NoneData, Only, Between, Apart, Eliminated}
 use Rattle.code.proofs.Finding.{least-root, carried-start, linear-value}
 
 -- ---- one root
@@ -150,6 +150,21 @@ module _ (m : ℕ) (wd : isWidth m ≡ true) (w es ss : List ℕ) (x : Correctio
         next : r .from + 1 ≡ 1 + r .from
         next = omega arith
 
+  module _ (a : ℕ) (e : es ≡ a ∷ []) (ha : checks ≤ a) where
+    pub eliminated-one : (u : List ℕ) → u ≡ five (eliminate m 1 (point m a) (at ss)) → Searched m w es 1 (NoneRoot m w es 0 (at u 0) (at u 1)) x
+        → Searched m w es 1 (NoneData m w es (at ss)) x
+    eliminated-one u eu T = searched-last (le-refl 1) (λ none b hb lb o D.
+        none b hb lb o (step-linear F (at u 0) (at u 1) b hb lb
+        (subst (λ (y : ℕ). Step m 1 (at u 0) y b) (sym (row 1 (omega arith)))
+        (subst (λ (y : ℕ). Step m 1 y (eliminate m 1 (point m a) (at ss) 1) b) (sym (row 0 (omega arith)))
+        (D .beside-data a [] (subst (λ (xs : List ℕ). Arranged xs (a ∷ [])) (sym e) same) ha refl 1 1 0 (one-injective F) (one-injective F) free))))) T
+      where
+        row : (k : ℕ) → k < 2 → at u k ≡ eliminate m 1 (point m a) (at ss) k
+        row k h = ap (λ (y : List ℕ). at y k) eu ∙ five-at (eliminate m 1 (point m a) (at ss)) k (omega arith)
+
+        free : Rows [] 1 1 0
+        free = record { row = refl; row-h = refl; row-g = refl; row-hg = refl; last = omega arith }
+
   -- ---- beside two data places
 
   module _ (a c : ℕ) (e : es ≡ a ∷ c ∷ []) (ha : checks ≤ a) (hc : checks ≤ c) where
@@ -169,6 +184,31 @@ module _ (m : ℕ) (wd : isWidth m ≡ true) (w es ss : List ℕ) (x : Correctio
           where
             first : (j : ℕ) → j < checks → at v j ≡ eliminate m 1 (point m a) (at ss) j
             first j l = ap (λ (y : List ℕ). at y j) ev ∙ five-at (eliminate m 1 (point m a) (at ss)) j l
+
+-- ---- what is left without the erasures
+
+pub eliminated-single : (m : ℕ) (es s rows : List ℕ) (p : ℕ) → es ≡ p ∷ []
+    → (checks ≤ p → rows ≡ five (eliminate m 1 (point m p) (at s))) × (p < checks → rows ≡ set s p 0) → Eliminated m es s rows
+eliminated-single m es s rows p e L = record {
+  check = λ c f h. (let d = same-head c f in L .1 (omega (arith, d)) ∙ ap (λ (n : ℕ). set s n 0) d);
+  one = λ a f h. (let d = same-head a f in L .0 (omega (arith, d)) ∙ ap (λ (n : ℕ). five (eliminate m 1 (point m n) (at s))) d);
+  two = λ a c f h l. absurd (omega (arith, ap length (sym e ∙ f)));
+}
+  where
+    same-head : (c : ℕ) → es ≡ c ∷ [] → p ≡ c
+    same-head c f = ap (λ (xs : List ℕ). getD xs 0 0) (sym e ∙ f)
+
+pub eliminated-double : (m : ℕ) (es s rows : List ℕ) (p q : ℕ) → es ≡ p ∷ q ∷ []
+    → (checks ≤ p → checks ≤ q → rows ≡ five (eliminate m 1 (point m q) (at (five (eliminate m 1 (point m p) (at s)))))) → Eliminated m es s rows
+eliminated-double m es s rows p q e L = record {
+  check = λ c f h. absurd (omega (arith, ap length (sym e ∙ f)));
+  one = λ a f h. absurd (omega (arith, ap length (sym e ∙ f)));
+  two = λ a c f h l.
+      (let d : p ≡ a = ap (λ (xs : List ℕ). getD xs 0 0) (sym e ∙ f) in
+      let d′ : q ≡ c = ap (λ (xs : List ℕ). getD xs 1 0) (sym e ∙ f) in
+      L (omega (arith, d)) (omega (arith, d′))
+      ∙ ap₂ (λ (i j : ℕ). five (eliminate m 1 (point m j) (at (five (eliminate m 1 (point m i) (at s)))))) d d′);
+}
 
 -- ---- the erasures of a trial
 

@@ -32,7 +32,7 @@ use Rattle.code.proofs.Columns.{combine, column-lt}
 use Rattle.code.proofs.Filling.{Each, Solution, fill-agrees, masked-lt, solution-values, solution-codeword, codeword-solution, codeword-fill}
 use Rattle.code.proofs.LinearSystem.{System, Meets, meets-solves, system-none, system-solved, system-several}
 
--- ---- a column times a symbol, added to the syndromes as a row of the solver
+-- ---- five symbols as a row of the solver
 
 -- five symbols, with zeros behind them
 pub five-operands : {m : ℕ} (F : IsField m) (f : ℕ → ℕ) → isWidth m ≡ true → ((k : ℕ) → k < 5 → f k < order m) → Operands m (five f ++ 0 ∷ 0 ∷ 0 ∷ [])
@@ -48,20 +48,6 @@ five-operands {m} F f w small j h = record { width = w; symbol = go j h }
     go (suc (suc (suc (suc (suc (suc zero)))))) h = omega (arith, F .one-lt)
     go (suc (suc (suc (suc (suc (suc (suc zero))))))) h = omega (arith, F .one-lt)
     go (suc (suc (suc (suc (suc (suc (suc (suc j)))))))) h = absurd (omega arith)
-
-pub masked-row : {m : ℕ} (F : IsField m) (p : ℕ) (s ys pys ps r out : List ℕ) (x : ℕ) → isWidth m ≡ true → x < order m
-    → ys ≡ five (column m p) → pys ≡ five (at ys) ++ 0 ∷ 0 ∷ 0 ∷ [] → ps ≡ five (at s) ++ 0 ∷ 0 ∷ 0 ∷ []
-    → (Operand m x → Operands m pys → r ≡ rowAdd m ps x pys) → out ≡ five (at r)
-    → out ≡ five (λ k. add (at s k) (product m (column m p k) x))
-masked-row {m} F p s ys pys ps r out x w h ey ep es er eo =
-    eo
-    ∙ ap (λ (u : List ℕ). five (at u)) (er (record { width = w; symbol = h })
-    (subst (Operands m) (sym col) (five-operands F (column m p) w (λ k l. column-lt F p k))))
-    ∙ ap₂ (λ (u v : List ℕ). five (at (rowAdd m u x v))) es col
-    ∙ five-cong _ _ (λ k l. ap (add (at s k)) (F .product-comm x (column m p k)))
-  where
-    col : pys ≡ five (column m p) ++ 0 ∷ 0 ∷ 0 ∷ []
-    col = ep ∙ ap (λ (u : List ℕ). five (at u) ++ 0 ∷ 0 ∷ 0 ∷ []) ey
 
 -- ---- the entries of the system
 

@@ -39,6 +39,7 @@ pub mod Trying  -- one more place, and searches with any number of extra places
 pub mod Locator  -- two points from four power sums: a quadratic that is 0 at them alone
 pub mod Pattern  -- errors as values at places: the syndromes combine the columns there
 pub mod Locating  -- of each codeword within two places a test names just its places
+pub mod Times
 pub mod Scanning  -- the search for roots, and the one root of a linear function
 pub mod Finding  -- the places found are those that the tests name
 pub mod Quadratic

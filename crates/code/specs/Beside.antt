@@ -5,10 +5,11 @@ use mathlib.Core.Logic.{_≢_}
 use mathlib.Core.Bool.{true, false}
 use mathlib.Core.List.{List, [], _∷_}
 use Prim.Native.Nat.{ℕ, _+_, _-_, _≤_, _<_}
+use lib.ListN.{set}
 use Rattle.field.specs.Polynomial.{add}
 use Rattle.field.specs.Field.{order, product, power}
 use Rattle.field.specs.Question.{allBelow}
-use Rattle.code.specs.Word.{checks, places, items}
+use Rattle.code.specs.Word.{checks, places, items, five, at}
 use Rattle.code.specs.Erasure.{member}
 use Rattle.code.specs.Correction.{NoneAt, NoneBeside}
 use Rattle.code.specs.declared.beside.Span.{Span}
@@ -80,6 +81,13 @@ Tell m w es n u = (k : ℕ) → k + n ≤ checks → u k ≢ 0 → NoneOutside m
 -- nor outside the erasures and the data place that the sums name
 abbrev pub NoneData : ℕ → List ℕ → List ℕ → (ℕ → ℕ) → Type 0
 NoneData m w es s = (b : ℕ) → checks ≤ b → b < places m → member b es ≡ false → DataNamed m es s b → NoneAt m w (b ∷ es)
+
+-- rows are what is left of the syndromes s without the erasures es: without one, or without two data places
+pub record Eliminated (m : ℕ) (es s rows : List ℕ) : Type 0 where
+  pub check : (c : ℕ) → es ≡ c ∷ [] → c < checks → rows ≡ set s c 0
+  pub one : (a : ℕ) → es ≡ a ∷ [] → checks ≤ a → rows ≡ five (eliminate m 1 (point m a) (at s))
+  pub two : (a c : ℕ) → es ≡ a ∷ c ∷ [] → checks ≤ a → checks ≤ c
+      → rows ≡ five (eliminate m 1 (point m c) (at (five (eliminate m 1 (point m a) (at s)))))
 
 -- of the check places, es has none but c and d
 abbrev pub Only : List ℕ → ℕ → ℕ → Type 0

@@ -4,27 +4,27 @@ ghost use mathlib.Core.Logic.{_≢_};
 ghost use mathlib.Core.Bool.{true};
 ghost use mathlib.Core.List.{List, [], _∷_};
 ghost use Prim.Native.Nat.{ℕ, _+_, _≤_, _<_};
-ghost use lib.ListN.{length};
+ghost use lib.ListN.{length, set};
 ghost use Rattle.field.specs.Polynomial.{add};
 ghost use Rattle.field.specs.Field.{order, product, power};
 ghost use Rattle.field.specs.Question.{isWidth, allBelow};
 ghost use Rattle.code.specs.Word.{checks, five, longest, at};
 ghost use Rattle.code.specs.Matrix.{unknowns};
 ghost use Rattle.code.specs.Correction.{NoneAt, placesOf, Ready, NoneBeside, Searched, NoneWithin};
-ghost use Rattle.code.specs.Locate.{point};
-ghost use Rattle.code.specs.Beside.{Injective, eliminate, Arranged, NoneRoot, NoneCheck, NoneOutside, Tell, NoneData, Only, Between, Apart};
+ghost use Rattle.code.specs.Locate.{point as pointM};
+ghost use Rattle.code.specs.Beside.{Injective, eliminate, Arranged, NoneRoot, NoneCheck, NoneOutside, Tell, NoneData, Only, Between, Apart, Eliminated};
 use crate::correction::Correction;
 use crate::correction::nothing;
 use crate::correction::solve_trial;
 use crate::correction::solved;
 use crate::place::Place;
-use crate::place::column;
 use crate::place::place_of;
+use crate::place::point;
 use crate::roots::first_root;
 use crate::roots::items_of;
 use crate::solver::add_times;
 use crate::trial::Trial;
-use crate::trial::column_times;
+use crate::trial::entry_times;
 use crate::trial::extended;
 use crate::trial::listed;
 
@@ -115,102 +115,131 @@ fn range_of(rows: [u8; 5], n: u8) -> CheckRange
 
 // The rows with the data place a eliminated: to each, times the point of a, the next is added.
 fn differences(width: u8, rows: [u8; 5], a: Place) -> [u8; 5]
+    requires { ⌜ checks ≤ a .0 ⌝ }
     ensures { λ r.
         ⌜
         (
         isWidth width ≡ true → checks ≤ a .0 → ((k : ℕ) → k < checks → at rows k < order width)
-        → r ≡ five (eliminate width 1 (point width (a .0)) (at rows))
+        → r ≡ five (eliminate width 1 (pointM width (a .0)) (at rows))
         )
         ⌝ }
 {
     let by = [rows[0], rows[1], rows[2], rows[3], rows[4], 0, 0, 0];
     let next = [rows[1], rows[2], rows[3], rows[4], 0, 0, 0, 0];
-    let r = add_times(width, next, column(width, a, 1), by);
+    let r = add_times(width, next, point(width, a), by);
     [r[0], r[1], r[2], r[3], r[4]]
 }
 
-// The check places that come into question beside the erased place p. The syndrome of an erased check place tells nothing.
-fn candidates_beside_one(width: u8, t: Trial, p: Place) -> CheckRange
-    ensures { λ r. ⌜ ((w : List ℕ) → Ready width w t → placesOf t ≡ p .0 ∷ [] → NoneOutside width w (placesOf t) (r .low) (r .high)) ⌝ }
+// What is left of the syndromes without the erasure p: of a check place its own tells nothing.
+fn without_one(width: u8, t: Trial, p: Place) -> [u8; 5]
+    ensures { λ r.
+        ⌜
+        (
+        (w : List ℕ) → Ready width w t
+        → (checks ≤ p .0 → r ≡ five (eliminate width 1 (pointM width (p .0)) (at (t .sums)))) × (p .0 < checks → r ≡ set (t .sums) (p .0) 0)
+        )
+        ⌝ }
 {
     let mut rows = t.sums;
     let i = p.0;
     if 5 <= i {
-        return range_of(differences(width, rows, p), 2);
+        return differences(width, rows, p);
     }
     rows[i as usize] = 0;
-    range_of(rows, 1)
+    rows
 }
 
-// The same beside the erased places p and q.
-fn candidates_beside_two(width: u8, t: Trial, p: Place, q: Place) -> CheckRange
-    ensures { λ r. ⌜ ((w : List ℕ) → Ready width w t → placesOf t ≡ p .0 ∷ q .0 ∷ [] → NoneOutside width w (placesOf t) (r .low) (r .high)) ⌝ }
+// The same without the erasures p and q, where both are data places.
+fn without_two(width: u8, t: Trial, p: Place, q: Place) -> [u8; 5]
+    ensures { λ r.
+        ⌜
+        (
+        (w : List ℕ) → Ready width w t → checks ≤ p .0 → checks ≤ q .0
+        → r ≡ five (eliminate width 1 (pointM width (q .0)) (at (five (eliminate width 1 (pointM width (p .0)) (at (t .sums))))))
+        )
+        ⌝ }
 {
     let sums = t.sums;
     if 5 <= p.0 {
         if 5 <= q.0 {
-            return range_of(differences(width, differences(width, sums, p), q), 3);
+            return differences(width, differences(width, sums, p), q);
         }
     }
-    CheckRange { low: 0, high: 5 }
+    sums
 }
 
-// The same beside the erasures.
-fn candidate_checks(width: u8, t: Trial) -> CheckRange
-    ensures { λ r. ⌜ ((w : List ℕ) → Ready width w t → NoneOutside width w (placesOf t) (r .low) (r .high)) ⌝ }
+// The same without the erasures.
+fn eliminated_rows(width: u8, t: Trial) -> [u8; 5]
+    requires { ⌜ (0 < t .count) × (t .count ≤ 2) ⌝ }
+    ensures { λ r. ⌜ ((w : List ℕ) → Ready width w t → Eliminated width (placesOf t) (t .sums) r) ⌝ }
 {
     let places = t.places;
     let count = t.count;
     let p = places[0];
     let q = places[1];
     if count == 1 {
-        return candidates_beside_one(width, t, Place(p));
+        return without_one(width, t, Place(p));
+    }
+    without_two(width, t, Place(p), Place(q))
+}
+
+// The check places that come into question beside the erasures.
+fn candidate_checks(t: Trial, rows: [u8; 5]) -> CheckRange
+    ensures { λ r.
+        ⌜
+        (
+        (m : ℕ) (w : List ℕ) → Ready m w t → Eliminated m (placesOf t) (t .sums) rows → NoneOutside m w (placesOf t) (r .low) (r .high)
+        )
+        ⌝ }
+{
+    let places = t.places;
+    let count = t.count;
+    let p = places[0];
+    let q = places[1];
+    if count == 1 {
+        if 5 <= p {
+            return range_of(rows, 2);
+        }
+        return range_of(rows, 1);
     }
     if count == 2 {
-        return candidates_beside_two(width, t, Place(p), Place(q));
+        if 5 <= p {
+            if 5 <= q {
+                return range_of(rows, 3);
+            }
+        }
     }
     CheckRange { low: 0, high: 5 }
 }
 
-// A check place outside the range, or 5 where there is none.
-fn excluded_check(f: CheckRange) -> u8
-    ensures { λ r. ⌜ (r < checks → (f .low ≤ r → r < f .high → ⊥)) ⌝ }
-{
-    if 0 < f.low {
-        return 0;
-    }
-    if f.high < 5 {
-        return 4;
-    }
-    5
-}
-
 // Do the erasures alone tell of no codeword? So it is where a check place that is not erased is outside the range: what rules the place
 // out rules out that nothing is wrong, too.
-fn erasures_excluded(width: u8, t: Trial) -> bool
+fn erasures_excluded(t: Trial, f: CheckRange) -> bool
     requires { ⌜ t .count ≤ unknowns ⌝ }
-    ensures { λ r. ⌜ (r ≡ true → (w : List ℕ) → Ready width w t → NoneAt width w (placesOf t)) ⌝ }
+    ensures { λ r.
+        ⌜ (r ≡ true → (m : ℕ) (w : List ℕ) → Ready m w t → NoneOutside m w (placesOf t) (f .low) (f .high) → NoneAt m w (placesOf t)) ⌝ }
 {
-    let b = excluded_check(candidate_checks(width, t));
     let places = t.places;
     let count = t.count;
-    if b < 5 {
-        return !listed(places, count, Place(b));
+    if 0 < f.low {
+        return !listed(places, count, Place(0));
+    }
+    if f.high < 5 {
+        return !listed(places, count, Place(4));
     }
     false
 }
 
-// The trial with an extra check place that comes into question.
-fn try_checks(width: u8, word: &[u8], t: Trial) -> Correction
+// The trial with an extra check place of the range.
+fn try_checks(width: u8, word: &[u8], t: Trial, f: CheckRange) -> Correction
     requires { ⌜ t .count < unknowns ⌝ }
     ensures { λ r.
         ⌜
         (r .count ≤ unknowns)
-        × (Ready width (now (word .entry)) t
+        × (Ready width (now (word .entry)) t → NoneOutside width (now (word .entry)) (placesOf t) (f .low) (f .high)
         → Searched width (now (word .entry)) (placesOf t) 1 (NoneCheck width (now (word .entry)) (placesOf t)) r)
         ⌝ }
 {
-    let f = candidate_checks(width, t);
     let high = f.high;
     let mut p = f.low;
     while p < high {
@@ -229,31 +258,32 @@ pub struct Span {
     pub from: u8,
 }
 
-// Rows beside the erased check places c and d, c not above d; 5 stands for none.
-fn rows_between(c: u8, d: u8) -> Span
-    requires { ⌜ c ≤ d ⌝ }
-    ensures { λ r. ⌜ Between c d r ⌝ }
+// Rows beside the erased check places c and d, c not above d; one alone is both.
+fn rows_between(c: Place, d: Place) -> Span
+    requires { ⌜ c .0 ≤ d .0 ⌝ }
+    ensures { λ r. ⌜ Between (c .0) (d .0) r ⌝ }
 {
-    if 2 <= c {
+    if 2 <= c.0 {
         return Span { gap: 1, from: 0 };
     }
-    if d <= 2 {
+    if d.0 <= 2 {
         return Span { gap: 1, from: 3 };
     }
-    if c == 0 {
+    if c.0 == 0 {
         return Span { gap: 1, from: 1 };
     }
-    if d == 4 {
+    if d.0 == 4 {
         return Span { gap: 1, from: 2 };
     }
     Span { gap: 2, from: 0 }
 }
 
-// Rows from which a data place is eliminated, the gap apart, beside the erased check place c; 5 stands for none.
-fn rows_beside(c: u8) -> Span
-    ensures { λ r. ⌜ Apart c r ⌝ }
+// Rows from which a data place is eliminated, the gap apart, beside the erased check place c.
+fn rows_beside(c: Place) -> Span
+    ensures { λ r. ⌜ Apart (c .0) r ⌝ }
 {
-    match c {
+    let row = c.0;
+    match row {
         0 => Span { gap: 1, from: 1 },
         1 => Span { gap: 1, from: 2 },
         2 => Span { gap: 3, from: 0 },
@@ -262,12 +292,12 @@ fn rows_beside(c: u8) -> Span
 }
 
 // The trial with the extra data place of which the syndromes tell, beside the erased check places c and d.
-fn try_data_beside_checks(width: u8, word: &[u8], t: Trial, c: u8, d: u8) -> Correction
-    requires { ⌜ (c ≤ d) × (t .count < unknowns) × (checks ≤ length (now word)) × (length (now word) ≤ longest) ⌝ }
+fn try_data_beside_checks(width: u8, word: &[u8], t: Trial, c: Place, d: Place) -> Correction
+    requires { ⌜ (c .0 ≤ d .0) × (t .count < unknowns) × (checks ≤ length (now word)) × (length (now word) ≤ longest) ⌝ }
     ensures { λ r.
         ⌜
         (r .count ≤ unknowns)
-        × (Ready width (now (word .entry)) t → allBelow checks (placesOf t) ≡ true → Only (placesOf t) c d
+        × (Ready width (now (word .entry)) t → allBelow checks (placesOf t) ≡ true → Only (placesOf t) (c .0) (d .0)
         → Searched width (now (word .entry)) (placesOf t) 1 (NoneData width (now (word .entry)) (placesOf t) (at (t .sums))) r)
         ⌝ }
 {
@@ -290,21 +320,27 @@ fn eliminated(width: u8, a: Place, h: u8, low: u8, high: u8) -> u8
         ⌜
         (
         isWidth width ≡ true → checks ≤ a .0 → low < order width
-        → r ≡ add high (product width (power width (point width (a .0)) h) low)
+        → r ≡ add high (product width (power width (pointM width (a .0)) h) low)
         )
         ⌝ }
 {
-    high ^ column_times(width, a, h, low)
+    high ^ entry_times(width, a, h, low)
 }
 
-// The same beside the erased data place a and the erased check place c; 5 stands for none.
-fn try_data_beside_data_and_check(width: u8, word: &[u8], t: Trial, a: Place, c: u8) -> Correction
+// The same beside the erased data place a and the erased check place c.
+fn try_data_beside_data_and_check(
+    width: u8,
+    word: &[u8],
+    t: Trial,
+    a: Place,
+    c: Place,
+) -> Correction
     requires { ⌜ (t .count < unknowns) × (checks ≤ length (now word)) × (length (now word) ≤ longest) ⌝ }
     ensures { λ r.
         ⌜
         (r .count ≤ unknowns)
         × (Ready width (now (word .entry)) t
-        → ((cs : List ℕ) → Arranged (placesOf t) (a .0 ∷ cs) → checks ≤ a .0 → allBelow checks cs ≡ true → Only cs c c → (c ≡ 2 → Injective width 3)
+        → ((cs : List ℕ) → Arranged (placesOf t) (a .0 ∷ cs) → checks ≤ a .0 → allBelow checks cs ≡ true → Only cs (c .0) (c .0) → (c .0 ≡ 2 → Injective width 3)
         → Searched width (now (word .entry)) (placesOf t) 1 (NoneData width (now (word .entry)) (placesOf t) (at (t .sums))) r))
         ⌝ }
 {
@@ -318,29 +354,20 @@ fn try_data_beside_data_and_check(width: u8, word: &[u8], t: Trial, a: Place, c:
     try_root(width, word, t, 0, low, high)
 }
 
-// The same beside the erased data places a and c.
-fn try_data_beside_two_data(width: u8, word: &[u8], t: Trial, a: Place, c: Place) -> Correction
+// The same beside the two erasures p and q, without which `rows` are left. Where a data place and p_2 are erased, cubing has to be one to one.
+fn try_data_beside_two(
+    width: u8,
+    word: &[u8],
+    t: Trial,
+    rows: [u8; 5],
+    p: Place,
+    q: Place,
+) -> Correction
     requires { ⌜ (t .count < unknowns) × (checks ≤ length (now word)) × (length (now word) ≤ longest) ⌝ }
     ensures { λ r.
         ⌜
         (r .count ≤ unknowns)
-        × (Ready width (now (word .entry)) t → placesOf t ≡ a .0 ∷ c .0 ∷ [] → checks ≤ a .0 → checks ≤ c .0
-        → Searched width (now (word .entry)) (placesOf t) 1 (NoneData width (now (word .entry)) (placesOf t) (at (t .sums))) r)
-        ⌝ }
-{
-    let sums = t.sums;
-    let v = differences(width, sums, a);
-    let u = differences(width, v, c);
-    try_root(width, word, t, 0, u[0], u[1])
-}
-
-// The same beside the two erasures p and q. Where a data place and p_2 are erased, cubing has to be one to one.
-fn try_data_beside_two(width: u8, word: &[u8], t: Trial, p: Place, q: Place) -> Correction
-    requires { ⌜ (t .count < unknowns) × (checks ≤ length (now word)) × (length (now word) ≤ longest) ⌝ }
-    ensures { λ r.
-        ⌜
-        (r .count ≤ unknowns)
-        × (Ready width (now (word .entry)) t → placesOf t ≡ p .0 ∷ q .0 ∷ [] → Injective width 3
+        × (Ready width (now (word .entry)) t → Eliminated width (placesOf t) (t .sums) rows → placesOf t ≡ p .0 ∷ q .0 ∷ [] → Injective width 3
         → Searched width (now (word .entry)) (placesOf t) 1 (NoneData width (now (word .entry)) (placesOf t) (at (t .sums))) r)
         ⌝ }
 {
@@ -348,26 +375,26 @@ fn try_data_beside_two(width: u8, word: &[u8], t: Trial, p: Place, q: Place) -> 
     let j = q.0;
     if i < 5 {
         if 5 <= j {
-            return try_data_beside_data_and_check(width, word, t, q, i);
+            return try_data_beside_data_and_check(width, word, t, q, p);
         }
         if i <= j {
-            return try_data_beside_checks(width, word, t, i, j);
+            return try_data_beside_checks(width, word, t, p, q);
         }
-        return try_data_beside_checks(width, word, t, j, i);
+        return try_data_beside_checks(width, word, t, q, p);
     }
     if j < 5 {
-        return try_data_beside_data_and_check(width, word, t, p, j);
+        return try_data_beside_data_and_check(width, word, t, p, q);
     }
-    try_data_beside_two_data(width, word, t, p, q)
+    try_root(width, word, t, 0, rows[0], rows[1])
 }
 
 // The same beside the erasures, of which there are one or two.
-fn try_data(width: u8, word: &[u8], t: Trial) -> Correction
+fn try_data(width: u8, word: &[u8], t: Trial, rows: [u8; 5]) -> Correction
     requires { ⌜ (0 < t .count) × (t .count ≤ 2) × (checks ≤ length (now word)) × (length (now word) ≤ longest) ⌝ }
     ensures { λ r.
         ⌜
         (r .count ≤ unknowns)
-        × (Ready width (now (word .entry)) t → (t .count ≡ 2 → Injective width 3)
+        × (Ready width (now (word .entry)) t → Eliminated width (placesOf t) (t .sums) rows → (t .count ≡ 2 → Injective width 3)
         → Searched width (now (word .entry)) (placesOf t) 1 (NoneData width (now (word .entry)) (placesOf t) (at (t .sums))) r)
         ⌝ }
 {
@@ -376,20 +403,25 @@ fn try_data(width: u8, word: &[u8], t: Trial) -> Correction
     let p = places[0];
     let q = places[1];
     if count == 2 {
-        return try_data_beside_two(width, word, t, Place(p), Place(q));
+        return try_data_beside_two(width, word, t, rows, Place(p), Place(q));
     }
     if p < 5 {
-        return try_data_beside_checks(width, word, t, p, 5);
+        return try_data_beside_checks(width, word, t, Place(p), Place(p));
     }
-    try_data_beside_data_and_check(width, word, t, Place(p), 5)
+    try_root(width, word, t, 0, rows[0], rows[1])
 }
 
 // The trial as it is, unless that is ruled out already.
-fn solve_erasures(width: u8, t: Trial) -> Correction
+fn solve_erasures(width: u8, t: Trial, f: CheckRange) -> Correction
     requires { ⌜ t .count ≤ unknowns ⌝ }
-    ensures { λ r. ⌜ (r .count ≤ unknowns) × ((w : List ℕ) → Ready width w t → Searched width w (placesOf t) 0 (NoneAt width w (placesOf t)) r) ⌝ }
+    ensures { λ r.
+        ⌜
+        (r .count ≤ unknowns)
+        × ((w : List ℕ) → Ready width w t → NoneOutside width w (placesOf t) (f .low) (f .high)
+        → Searched width w (placesOf t) 0 (NoneAt width w (placesOf t)) r)
+        ⌝ }
 {
-    if erasures_excluded(width, t) {
+    if erasures_excluded(t, f) {
         return nothing();
     }
     solve_trial(width, t)
@@ -405,13 +437,15 @@ pub fn find_beside(width: u8, word: &[u8], t: Trial) -> Correction
         → Searched width (now (word .entry)) (placesOf t) 1 (NoneWithin width (now (word .entry)) (placesOf t) 1) r)
         ⌝ }
 {
-    let b = solve_erasures(width, t);
+    let rows = eliminated_rows(width, t);
+    let f = candidate_checks(t, rows);
+    let b = solve_erasures(width, t, f);
     if solved(b) {
         return b;
     }
-    let c = try_data(width, word, t);
+    let c = try_data(width, word, t, rows);
     if solved(c) {
         return c;
     }
-    try_checks(width, word, t)
+    try_checks(width, word, t, f)
 }

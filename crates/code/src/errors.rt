@@ -39,9 +39,9 @@ pub struct FirstTwo {
 }
 
 // The places with k in front, if x is not 0.
-fn with_nonzero(f: FirstTwo, k: u8, x: u8) -> FirstTwo
+fn with_nonzero(f: FirstTwo, k: Place, x: u8) -> FirstTwo
     requires { ⌜ f .count < checks ⌝ }
-    ensures { λ r. ⌜ (r .count ≤ f .count + 1) × ((ls : List ℕ) → Lists f ls → Lists r (cond (eqb x 0) ls (k ∷ ls))) ⌝ }
+    ensures { λ r. ⌜ (r .count ≤ f .count + 1) × ((ls : List ℕ) → Lists f ls → Lists r (cond (eqb x 0) ls (k .0 ∷ ls))) ⌝ }
 {
     if x == 0 {
         return f;
@@ -50,7 +50,7 @@ fn with_nonzero(f: FirstTwo, k: u8, x: u8) -> FirstTwo
     let first = f.first;
     FirstTwo {
         count: count + 1,
-        first: Place(k),
+        first: k,
         second: first,
     }
 }
@@ -64,11 +64,11 @@ fn nonzeros(sums: [u8; 5]) -> FirstTwo
         first: Place(0),
         second: Place(0),
     };
-    let f0 = with_nonzero(f, 0, sums[0]);
-    let f1 = with_nonzero(f0, 1, sums[1]);
-    let f2 = with_nonzero(f1, 2, sums[2]);
-    let f3 = with_nonzero(f2, 3, sums[3]);
-    with_nonzero(f3, 4, sums[4])
+    let f0 = with_nonzero(f, Place(0), sums[0]);
+    let f1 = with_nonzero(f0, Place(1), sums[1]);
+    let f2 = with_nonzero(f1, Place(2), sums[2]);
+    let f3 = with_nonzero(f2, Place(3), sums[3]);
+    with_nonzero(f3, Place(4), sums[4])
 }
 
 // The byte at a place; 0 behind the last.

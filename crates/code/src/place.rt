@@ -8,6 +8,7 @@ ghost use Rattle.code.specs.Place.{exponentOf, placeOf, multipleOf, colu
 use field::Exponent;
 use field::arithmetic::raise;
 use field::table::first_powers;
+use field::table::power_of_alpha;
 
 // Place 0 to 4 holds a check symbol, place 5 + i the data symbol i.
 pub struct Place(pub u8);
@@ -51,6 +52,17 @@ pub fn column(width: u8, p: Place, k: u8) -> u8
         return 0;
     }
     raise(width, 2, multiple(k, exponent_of(p)))
+}
+
+// The point of the data place p, which is row 1 of its column: at width 7 a read of the table of powers.
+pub fn point(width: u8, p: Place) -> u8
+    requires { ⌜ 5 ≤ p .0 ⌝ }
+    ensures { λ r. ⌜ (isWidth width ≡ true → r ≡ columnM width (p .0) 1) ⌝ }
+{
+    if width == 7 {
+        return power_of_alpha(exponent_of(p));
+    }
+    column(width, p, 1)
 }
 
 // The column at place p whole: at width 7 a data place takes one read of the table of powers.

@@ -4,11 +4,13 @@ ghost use mathlib.Core.Path.{_≡_};
 ghost use mathlib.Core.Bool.{true};
 ghost use Prim.Native.Nat.{_≤_, _<_};
 ghost use lib.ListN.{take};
+ghost use Rattle.field.specs.Polynomial.{add};
+ghost use Rattle.field.specs.Field.{product};
 ghost use Rattle.field.specs.Question.{isWidth};
 ghost use Rattle.field.specs.Answer.{Operand};
 ghost use Rattle.field.specs.Lanes.{Below, Multiples};
 ghost use Rattle.code.specs.Word.{at};
-ghost use Rattle.code.specs.Matrix.{rows, unknowns, columns, Matrix, Operands, rowAdd, scale, Cleared, swapped, Pivot, columnOf, Means};
+ghost use Rattle.code.specs.Matrix.{rows, unknowns, columns, Matrix, Operands, rowAdd, scale, Cleared, Pivot, columnOf, Means};
 use field::arithmetic::invert;
 use field::arithmetic::multiply;
 use field::row::add_multiple;
@@ -35,6 +37,16 @@ pub struct Solution {
     pub values: [u8; UNKNOWNS],
 }
 
+// x with k times y added; a product with 0 is not made.
+fn add_product(width: u8, x: u8, k: u8, y: u8) -> u8
+    ensures { λ r. ⌜ (Operand width k → Operand width y → r ≡ add x (product width k y)) ⌝ }
+{
+    if y == 0 {
+        return x;
+    }
+    x ^ multiply(width, k, y)
+}
+
 // The row with k times the row `by` added, product by product.
 fn add_products(width: u8, row: [u8; COLUMNS], k: u8, by: [u8; COLUMNS]) -> [u8; COLUMNS]
     ensures { λ r. ⌜ (Operand width k → Operands width by → r ≡ rowAdd width row k by) ⌝ }
@@ -42,7 +54,7 @@ fn add_products(width: u8, row: [u8; COLUMNS], k: u8, by: [u8; COLUMNS]) -> [u8;
     let mut out = row;
     let mut j = 0;
     while j < COLUMNS {
-        out[j] = row[j] ^ multiply(width, k, by[j]);
+        out[j] = add_product(width, row[j], k, by[j]);
         j += 1;
     }
     out
@@ -98,19 +110,6 @@ fn clear_column(width: u8, a: [[u8; COLUMNS]; ROWS], c: usize, p: usize) -> [[u8
     out
 }
 
-// The matrix with rows i and p exchanged.
-fn swap_rows(a: [[u8; COLUMNS]; ROWS], i: usize, p: usize) -> [[u8; COLUMNS]; ROWS]
-    requires { ⌜ (i < rows) × (p < rows) ⌝ }
-    ensures { λ r. ⌜ r ≡ swapped a i p ⌝ }
-{
-    let x = a[i];
-    let y = a[p];
-    let mut out = a;
-    out[i] = y;
-    out[p] = x;
-    out
-}
-
 // The first row, from row r on, whose symbol in column c is not 0, or the number of rows.
 fn find_pivot(a: [[u8; COLUMNS]; ROWS], c: usize, r: usize) -> usize
     requires { ⌜ (c < columns) × (r ≤ rows) ⌝ }
@@ -152,8 +151,10 @@ pub fn solve(width: u8, a: [[u8; COLUMNS]; ROWS], s: usize) -> Solution
     while c < s {
         let p = find_pivot(t, c + 1, r);
         if p < ROWS {
-            let u = swap_rows(t, r, p);
-            t = clear_column(width, u, c + 1, r);
+            let x = t[r];
+            t[r] = t[p];
+            t[p] = x;
+            t = clear_column(width, t, c + 1, r);
             r += 1;
         }
         c += 1;

@@ -1,11 +1,12 @@
 // A trial: places that are taken as erased, and the syndromes of the word without the symbols there. These functions are no entry points.
 ghost use mathlib.Core.Path.{_≡_};
+ghost use mathlib.Core.Logic.{_≢_};
 ghost use mathlib.Core.Bool.{true, false};
-ghost use mathlib.Core.List.{List, [], _∷_, _++_};
+ghost use mathlib.Core.List.{List, _∷_};
 ghost use Prim.Native.Nat.{ℕ, _+_, _≤_, _<_};
 ghost use lib.ListN.{length, take};
 ghost use Rattle.field.specs.Polynomial.{add};
-ghost use Rattle.field.specs.Field.{order, product};
+ghost use Rattle.field.specs.Field.{order, product, power, α};
 ghost use Rattle.field.specs.Question.{isWidth, allBelow};
 ghost use Rattle.code.specs.Word.{checks, five, places, longest, at};
 ghost use Rattle.code.specs.Place.{column as columnM};
@@ -15,15 +16,16 @@ ghost use Rattle.code.specs.Matrix.{unknowns};
 ghost use Rattle.code.specs.Correction.{fill, Lent, placesOf, Ready, Workable};
 use crate::place::Place;
 use crate::place::column;
-use crate::place::whole_column;
+use crate::place::exponent_of;
 use crate::question::all_zero;
 use crate::question::contains;
 use crate::slice::copy;
-use crate::solver::COLUMNS;
 use crate::solver::UNKNOWNS;
-use crate::solver::add_times;
 use crate::syndrome::syndromes;
+use field::Exponent;
 use field::arithmetic::multiply;
+use field::arithmetic::ratio_exponent;
+use field::table::power_of_alpha;
 
 // Places taken as erased, the first `count` of them, and the five syndromes of the other places.
 pub struct Trial {
@@ -48,27 +50,72 @@ fn prepended(places: [u8; UNKNOWNS], count: usize, p: Place) -> [u8; UNKNOWNS]
 }
 
 // Row k of the column at place p, times x.
-pub fn column_times(width: u8, p: Place, k: u8, x: u8) -> u8
+pub fn entry_times(width: u8, p: Place, k: u8, x: u8) -> u8
     ensures { λ r. ⌜ (isWidth width ≡ true → x < order width → r ≡ product width (columnM width (p .0) k) x) ⌝ }
 {
     multiply(width, column(width, p, k), x)
 }
 
-// Five symbols as a row of the solver, with zeros behind them.
-fn padded(xs: [u8; 5]) -> [u8; COLUMNS]
-    ensures { λ r. ⌜ r ≡ five (at xs) ++ 0 ∷ 0 ∷ 0 ∷ [] ⌝ }
+// The exponent of the product of two powers of α at width 7.
+fn exponent_sum(e: Exponent, i: Exponent) -> Exponent
+    requires { ⌜ (e .0 < 127) × (i .0 < 127) ⌝ }
+    ensures { λ r. ⌜ (r .0 < 127) × (power 7 α (r .0) ≡ product 7 (power 7 α (i .0)) (power 7 α (e .0))) ⌝ }
 {
-    [xs[0], xs[1], xs[2], xs[3], xs[4], 0, 0, 0]
+    let s = e.0 + i.0;
+    if s < 127 {
+        Exponent(s)
+    } else {
+        Exponent(s - 127)
+    }
 }
 
-// And back.
-fn first_five(row: [u8; COLUMNS]) -> [u8; 5]
-    ensures { λ r. ⌜ r ≡ five (at row) ⌝ }
+// x times the column at the data place p at width 7, x not 0: row after row the exponent grows by that of the place.
+fn powers_times(p: Place, x: u8) -> [u8; 5]
+    requires { ⌜ (5 ≤ p .0) × (p .0 < 132) ⌝ }
+    ensures { λ r. ⌜ (x < 128 → x ≢ 0 → r ≡ five (λ k. product 7 (columnM 7 (p .0) k) x)) ⌝ }
 {
-    [row[0], row[1], row[2], row[3], row[4]]
+    let i = exponent_of(p);
+    let e1 = exponent_sum(ratio_exponent(1, x), i);
+    let e2 = exponent_sum(e1, i);
+    let e3 = exponent_sum(e2, i);
+    let e4 = exponent_sum(e3, i);
+    let b = power_of_alpha(e1);
+    let c = power_of_alpha(e2);
+    let d = power_of_alpha(e3);
+    let e = power_of_alpha(e4);
+    [x, b, c, d, e]
 }
 
-// The syndromes without the symbol x at place p: x times the column is added to them, as one row to another.
+// The column at place p, times x, product by product.
+fn products_times(width: u8, p: Place, x: u8) -> [u8; 5]
+    ensures { λ r. ⌜ (isWidth width ≡ true → x < order width → r ≡ five (λ k. product width (columnM width (p .0) k) x)) ⌝ }
+{
+    let a = entry_times(width, p, 0, x);
+    let b = entry_times(width, p, 1, x);
+    let c = entry_times(width, p, 2, x);
+    let d = entry_times(width, p, 3, x);
+    let e = entry_times(width, p, 4, x);
+    [a, b, c, d, e]
+}
+
+// The column at place p, times x.
+fn column_times(width: u8, p: Place, x: u8) -> [u8; 5]
+    ensures { λ r. ⌜ (isWidth width ≡ true → x < order width → r ≡ five (λ k. product width (columnM width (p .0) k) x)) ⌝ }
+{
+    let place = p.0;
+    if width == 7 {
+        if 5 <= place {
+            if place < 132 {
+                if x != 0 {
+                    return powers_times(p, x);
+                }
+            }
+        }
+    }
+    products_times(width, p, x)
+}
+
+// The syndromes without the symbol x at place p.
 pub fn masked(width: u8, sums: [u8; 5], p: Place, x: u8) -> [u8; 5]
     ensures { λ r.
         ⌜
@@ -78,8 +125,14 @@ pub fn masked(width: u8, sums: [u8; 5], p: Place, x: u8) -> [u8; 5]
         )
         ⌝ }
 {
-    let column = padded(whole_column(width, p));
-    first_five(add_times(width, padded(sums), x, column))
+    let c = column_times(width, p, x);
+    [
+        sums[0] ^ c[0],
+        sums[1] ^ c[1],
+        sums[2] ^ c[2],
+        sums[3] ^ c[3],
+        sums[4] ^ c[4],
+    ]
 }
 
 // The trial with one more place p, where the word holds x.

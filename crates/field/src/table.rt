@@ -265,7 +265,7 @@ const POWERS: [u8; 254] = [
 ];
 
 // α to the power e at width 7.
-pub(crate) fn power_of_alpha(e: Exponent) -> u8
+pub fn power_of_alpha(e: Exponent) -> u8
     requires { ⌜ e .0 < 254 ⌝ }
     ensures { λ r. ⌜ r ≡ powerM 7 α (e .0) ⌝ }
 {

@@ -34,8 +34,8 @@ array-read-t19-2 c = search needs
 array-read-t16-2 : tie.Need-array-read-t16-2
 array-read-t16-2 c = search needs
 
-column-requires : tie.Need-column-requires
-column-requires c κs = search needs
+point-requires : tie.Need-point-requires
+point-requires c κs = search needs
 
 add-times-requires : tie.Need-add-times-requires
 add-times-requires c κs = search needs
@@ -60,7 +60,7 @@ returns c = λ w h b.
     (let t = c .before in
     let a = t .before .args in
     let size : length (a .t2) ≡ 5 = search needs in
-    differences-row (field-of (a .width) w) (a .a .0) (t .column .result) (a .t2) (c .add-times .result) w size h b (t .column .ensures w) (c .add-times .ensures))
+    differences-row (field-of (a .width) w) (a .a .0) (t .point .result) (a .t2) (c .add-times .result) w size h b (t .point .ensures w) (c .add-times .ensures))
 
 pub differences-spec : {M : Type 1} → statement M
 differences-spec =
@@ -75,7 +75,7 @@ differences-spec =
     array-read-t22-2
     array-read-t19-2
     array-read-t16-2
-    column-requires
+    point-requires
     add-times-requires
     array-read-t16-3
     array-read-t13

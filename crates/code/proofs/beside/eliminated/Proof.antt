@@ -10,15 +10,15 @@ use Rattle.code.proofs.Locating.{column-point}
 use Rattle.code.proofs.beside.eliminated.Statement.{statement}
 use Rattle.code.proofs.beside.eliminated.Tie as tie
 
-column-times-requires : tie.Need-column-times-requires
-column-times-requires c κs = search needs
+entry-times-requires : tie.Need-entry-times-requires
+entry-times-requires c κs = search needs
 
 returns : tie.Need-returns
 returns c = λ w h l.
     (let a = c .before .args in
     let m = a .width in
-    xor-add (a .high) (c .column-times .result)
-    ∙ ap (add (a .high)) (c .column-times .ensures w l ∙ ap (λ (n : ℕ). product m n (a .low)) (column-point (field-of m w) (a .a .0) (a .h) h)))
+    xor-add (a .high) (c .entry-times .result)
+    ∙ ap (add (a .high)) (c .entry-times .ensures w l ∙ ap (λ (n : ℕ). product m n (a .low)) (column-point (field-of m w) (a .a .0) (a .h) h)))
 
 pub eliminated-spec : {M : Type 1} → statement M
-eliminated-spec = tie.close (tie.spec column-times-requires returns)
+eliminated-spec = tie.close (tie.spec entry-times-requires returns)

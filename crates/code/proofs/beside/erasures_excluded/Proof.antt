@@ -10,28 +10,29 @@ use Rattle.code.proofs.CheckPlaces.{none-alone}
 use Rattle.code.proofs.beside.erasures_excluded.Statement.{statement}
 use Rattle.code.proofs.beside.erasures_excluded.Tie as tie
 
-candidate-checks-requires : tie.Need-candidate-checks-requires
-candidate-checks-requires c κs = search needs
-
-excluded-check-requires : tie.Need-excluded-check-requires
-excluded-check-requires c κs = search needs
-
 listed-requires : tie.Need-listed-requires
 listed-requires c κs = search needs
 
 returns : tie.Need-returns
 returns c =
     let l = c .before in
-    let o = l .before .before in
-    let f = o .before in
-    let a = f .before .args in
-    λ h w R. none-alone (a .width) w (placesOf (a .t)) (f .candidate-checks .result .low) (f .candidate-checks .result .high) (o .excluded-check .result) (f .candidate-checks .ensures w R)
-    (l .if1 .taken) (o .excluded-check .ensures (l .if1 .taken)) (omega (arith, l .if1 .taken, field-of (a .width) (R .width) .one-lt))
+    let a = l .before .before .before .args in
+    λ h m w R out. none-alone m w (placesOf (a .t)) (a .f .low) (a .f .high) 0 out (omega arith) (λ b u. omega (arith, b, l .if1 .taken)) (omega arith)
     (sym (c .listed .ensures) ∙ not-true (c .listed .result) h)
 
+listed-requires-2 : tie.Need-listed-requires-2
+listed-requires-2 c κs = search needs
+
 returns-2 : tie.Need-returns-2
-returns-2 c = λ h. absurd (false≢true h)
+returns-2 c =
+    let l = c .before in
+    let a = l .before .before .before .before .before .args in
+    λ h m w R out. none-alone m w (placesOf (a .t)) (a .f .low) (a .f .high) 4 out (omega arith) (λ b u. omega (arith, u, l .if2 .taken))
+    (omega (arith, field-of m (R .width) .one-lt)) (sym (c .listed2 .ensures) ∙ not-true (c .listed2 .result) h)
+
+returns-3 : tie.Need-returns-3
+returns-3 c = λ h. absurd (false≢true h)
 
 pub erasures-excluded-spec : {M : Type 1} → statement M
 erasures-excluded-spec =
-    tie.close (tie.spec candidate-checks-requires excluded-check-requires listed-requires returns returns-2)
+    tie.close (tie.spec listed-requires returns listed-requires-2 returns-2 returns-3)

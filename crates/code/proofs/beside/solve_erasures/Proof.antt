@@ -13,13 +13,13 @@ nothing-requires c κs = search needs
 returns : tie.Need-returns
 returns c =
     let h = c .before .before .erasures-excluded .ensures (c .before .if1 .taken) in
-    (c .nothing .ensures .0, λ w R. searched-none (c .nothing .ensures .1) (h w R))
+    (c .nothing .ensures .0, λ w R out. searched-none (c .nothing .ensures .1) (h _ w R out))
 
 solve-trial-requires : tie.Need-solve-trial-requires
 solve-trial-requires c κs = search needs
 
 returns-2 : tie.Need-returns-2
-returns-2 c = search needs
+returns-2 c = (c .solve-trial .ensures .0, λ w R out. c .solve-trial .ensures .1 w R)
 
 pub solve-erasures-spec : {M : Type 1} → statement M
 solve-erasures-spec =

@@ -15,9 +15,6 @@ Inv-loop width word t high p₀ p = Ready width word t → Sought (λ i. NoneBes
 abbrev μ-loop : tie.MeasureT-loop
 μ-loop width word t high p₀ p = high - p
 
-candidate-checks-requires : tie.Need-candidate-checks-requires Inv-loop μ-loop
-candidate-checks-requires c κs = search needs
-
 loop-holds : tie.Need-loop-holds Inv-loop μ-loop
 loop-holds c = λ R. sought-start _ _
 
@@ -31,7 +28,7 @@ returns : tie.Need-returns Inv-loop μ-loop
 returns c =
     let y = c .before .solved in
     let x = c .before .before .try-place in
-    (x .ensures .0, λ R. searched-found (le-refl 1) (y .result) (y .ensures) (c .if1 .taken) (x .ensures .1 R))
+    (x .ensures .0, λ R out. searched-found (le-refl 1) (y .result) (y .ensures) (c .if1 .taken) (x .ensures .1 R))
 
 add-p : tie.Need-add-p Inv-loop μ-loop
 add-p c = search needs
@@ -53,12 +50,10 @@ nothing-requires c κs = search needs
 returns-2 : tie.Need-returns-2 Inv-loop μ-loop
 returns-2 c =
     let l = c .before .before in
-    let f = l .before in
-    let a = f .before .before .args in (
+    let a = l .before .before .args in (
       c .nothing .ensures .0,
-      λ R. searched-none (c .nothing .ensures .1)
-          (range-tried (a .width) (a .word .now) (placesOf (a .t)) (f .candidate-checks .result .low) (f .candidate-checks .result .high) (l .loop .p)
-          (f .candidate-checks .ensures (a .word .now) R) (c .before .loop-test .left) (l .loop .inv R)),
+      λ R out. searched-none (c .nothing .ensures .1)
+          (range-tried (a .width) (a .word .now) (placesOf (a .t)) (a .f .low) (a .f .high) (l .loop .p) out (c .before .loop-test .left) (l .loop .inv R)),
     )
 
 pub try-checks-spec : {M : Type 1} → statement M
@@ -67,7 +62,6 @@ try-checks-spec =
     (tie.spec
     Inv-loop
     μ-loop
-    candidate-checks-requires
     loop-holds
     try-place-requires
     solved-requires

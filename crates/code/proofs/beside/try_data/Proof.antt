@@ -1,6 +1,6 @@
 -- `code::beside::try_data` meets its contract. Assumes nothing.
 use borrow.Author.Needs.{needs}
-use mathlib.Core.Path.{_≡_, refl, sym, ap, _∙_, subst}
+use mathlib.Core.Path.{_≡_, sym, ap, _∙_, subst}
 use mathlib.Core.Bool.{true}
 use mathlib.Core.List.{List, [], _∷_}
 use Prim.Native.Nat.{ℕ}
@@ -10,8 +10,8 @@ use Rattle.field.specs.Question.{allBelow}
 use Rattle.code.specs.Word.{checks}
 use Rattle.code.specs.Matrix.{unknowns}
 use Rattle.code.specs.Correction.{placesOf}
-use Rattle.code.specs.Beside.{Arranged, same, Only}
-use Rattle.code.proofs.BesideWays.{take-one, take-two, only-one, below-one}
+use Rattle.code.specs.Beside.{Only}
+use Rattle.code.proofs.BesideWays.{take-one, take-two, eliminated-one, only-one, below-one}
 use Rattle.code.proofs.beside.try_data.Statement.{statement}
 use Rattle.code.proofs.beside.try_data.Tie as tie
 
@@ -39,7 +39,7 @@ returns c =
     let ps = a .t .places in
     let five : length ps ≡ unknowns = search needs in
     let E : placesOf (a .t) ≡ getD ps 0 0 ∷ getD ps 1 0 ∷ [] = ap (λ (n : ℕ). take n ps) (c .before .if1 .taken) ∙ take-two ps five in
-    (c .try-data-beside-two .ensures .0, λ R cube. c .try-data-beside-two .ensures .1 R E (cube (c .before .if1 .taken)))
+    (c .try-data-beside-two .ensures .0, λ R L cube. c .try-data-beside-two .ensures .1 R L E (cube (c .before .if1 .taken)))
 
 try-data-beside-checks-requires : tie.Need-try-data-beside-checks-requires
 try-data-beside-checks-requires c κs = search needs
@@ -51,21 +51,28 @@ returns-2 c =
     let p = getD (a .t .places) 0 0 in
     let E = single l in (
       c .try-data-beside-checks .ensures .0,
-      λ R cube. c .try-data-beside-checks .ensures .1 R (subst (λ (xs : List ℕ). allBelow checks xs ≡ true) (sym E) (below-one p (c .before .if2 .taken)))
-          (subst (λ (xs : List ℕ). Only xs p 5) (sym E) (only-one p 5)),
+      λ R L cube. c .try-data-beside-checks .ensures .1 R (subst (λ (xs : List ℕ). allBelow checks xs ≡ true) (sym E) (below-one p (c .before .if2 .taken)))
+          (subst (λ (xs : List ℕ). Only xs p p) (sym E) (only-one p p)),
     )
 
-try-data-beside-data-and-check-requires : tie.Need-try-data-beside-data-and-check-requires
-try-data-beside-data-and-check-requires c κs = search needs
+array-read-try-root : tie.Need-array-read-try-root
+array-read-try-root c = search needs
+
+array-read-try-root-2 : tie.Need-array-read-try-root-2
+array-read-try-root-2 c = search needs
+
+try-root-requires : tie.Need-try-root-requires
+try-root-requires c κs = search needs
 
 returns-3 : tie.Need-returns-3
 returns-3 c =
     let l = c .before .before in
     let a = l .before .before .before .args in
-    let E = single l in (
-      c .try-data-beside-data-and-check .ensures .0,
-      λ R cube. c .try-data-beside-data-and-check .ensures .1 R [] (subst (λ (xs : List ℕ). Arranged xs (getD (a .t .places) 0 0 ∷ [])) (sym E) same) (c .before .if2 .left)
-          refl (λ k h d e. refl) (λ e. absurd (omega arith)),
+    let p = getD (a .t .places) 0 0 in
+    let E = single l in
+    let h = c .before .if2 .left in (
+      c .try-root .ensures .0,
+      λ R L cube. eliminated-one (a .width) (R .width) (a .word .now) (placesOf (a .t)) (a .t .sums) _ p E h _ (L .one p E h) (c .try-root .ensures .1 R),
     )
 
 pub try-data-spec : {M : Type 1} → statement M
@@ -78,5 +85,7 @@ try-data-spec =
     returns
     try-data-beside-checks-requires
     returns-2
-    try-data-beside-data-and-check-requires
+    array-read-try-root
+    array-read-try-root-2
+    try-root-requires
     returns-3)

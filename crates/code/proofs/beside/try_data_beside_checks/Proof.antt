@@ -34,7 +34,7 @@ returns c =
     let k = c .before .before .before .before in
     let a = k .before .before .before .args in (
       c .try-root .ensures .0,
-      λ R bs O. between-linear (a .width) (R .width) (a .word .now) (placesOf (a .t)) (a .t .sums) _ (a .c) (a .d) (k .rows-between .result)
+      λ R bs O. between-linear (a .width) (R .width) (a .word .now) (placesOf (a .t)) (a .t .sums) _ (a .c .0) (a .d .0) (k .rows-between .result)
           (k .rows-between .ensures) bs O (c .before .if1 .taken) (c .try-root .ensures .1 R),
     )
 
@@ -43,7 +43,7 @@ returns-2 c =
     let k = c .before .before .before .before in
     let a = k .before .before .before .args in (
       c .try-root2 .ensures .0,
-      λ R bs O. between-square (a .width) (R .width) (a .word .now) (placesOf (a .t)) (a .t .sums) _ (a .c) (a .d) (k .rows-between .result)
+      λ R bs O. between-square (a .width) (R .width) (a .word .now) (placesOf (a .t)) (a .t .sums) _ (a .c .0) (a .d .0) (k .rows-between .result)
           (k .rows-between .ensures) bs O (λ e. c .before .if1 .left e) (c .try-root2 .ensures .1 R),
     )
 

@@ -55,7 +55,7 @@ returns c =
     let a = k .before .before .before .args in
     let s = k .rows-beside .result in (
       c .try-root .ensures .0,
-      λ R cs A ha bs O cube. eliminated-data (a .width) (R .width) (a .word .now) (placesOf (a .t)) (a .t .sums) _ (a .a .0) (a .c) ha s
+      λ R cs A ha bs O cube. eliminated-data (a .width) (R .width) (a .word .now) (placesOf (a .t)) (a .t .sums) _ (a .a .0) (a .c .0) ha s
           (k .rows-beside .ensures) cs A bs O cube
           _ _ (e1 .eliminated .ensures (R .width) ha (sums-lt R (s .from) (omega (arith, k .rows-beside .ensures .fits))))
           (e2 .eliminated2 .ensures (R .width) ha (sums-lt R (s .from + 1) (omega (arith, k .rows-beside .ensures .fits)))) (c .try-root .ensures .1 R),

@@ -1,13 +1,14 @@
 -- `code::beside::try_data_beside_two` meets its contract. Assumes nothing.
 use borrow.Author.Needs.{needs}
-use mathlib.Core.Path.{_≡_, sym, subst}
+use mathlib.Core.Path.{_≡_, refl, sym, subst}
 use mathlib.Core.Bool.{true}
 use mathlib.Core.List.{List, [], _∷_}
 use Prim.Native.Nat.{ℕ}
 use Rattle.field.specs.Question.{allBelow}
 use Rattle.code.specs.Word.{checks}
+use Rattle.code.specs.Correction.{placesOf}
 use Rattle.code.specs.Beside.{Arranged, same, swapped, Only}
-use Rattle.code.proofs.BesideWays.{only-one, only-two, only-swap, below-one, below-two}
+use Rattle.code.proofs.BesideWays.{eliminated-two, only-one, only-two, only-swap, below-one, below-two}
 use Rattle.code.proofs.beside.try_data_beside_two.Statement.{statement}
 use Rattle.code.proofs.beside.try_data_beside_two.Tie as tie
 
@@ -19,7 +20,7 @@ returns c =
     let t1 = c .before .before in
     let a = t1 .before .before .args in (
       c .try-data-beside-data-and-check .ensures .0,
-      λ R E cube. c .try-data-beside-data-and-check .ensures .1 R (a .p .0 ∷ []) (subst (λ (xs : List ℕ). Arranged xs (a .q .0 ∷ a .p .0 ∷ [])) (sym E) swapped)
+      λ R L E cube. c .try-data-beside-data-and-check .ensures .1 R (a .p .0 ∷ []) (subst (λ (xs : List ℕ). Arranged xs (a .q .0 ∷ a .p .0 ∷ [])) (sym E) swapped)
           (c .before .if2 .taken) (below-one (a .p .0) (t1 .if1 .taken)) (only-one (a .p .0) (a .p .0)) (λ e. cube),
     )
 
@@ -32,7 +33,7 @@ returns-2 c =
     let t1 = l2 .before in
     let a = t1 .before .before .args in (
       c .try-data-beside-checks .ensures .0,
-      λ R E cube. c .try-data-beside-checks .ensures .1 R
+      λ R L E cube. c .try-data-beside-checks .ensures .1 R
           (subst (λ (xs : List ℕ). allBelow checks xs ≡ true) (sym E) (below-two (a .p .0) (a .q .0) (t1 .if1 .taken) (l2 .if2 .left)))
           (subst (λ (xs : List ℕ). Only xs (a .p .0) (a .q .0)) (sym E) (only-two (a .p .0) (a .q .0))),
     )
@@ -46,7 +47,7 @@ returns-3 c =
     let t1 = l2 .before in
     let a = t1 .before .before .args in (
       c .try-data-beside-checks2 .ensures .0,
-      λ R E cube. c .try-data-beside-checks2 .ensures .1 R
+      λ R L E cube. c .try-data-beside-checks2 .ensures .1 R
           (subst (λ (xs : List ℕ). allBelow checks xs ≡ true) (sym E) (below-two (a .p .0) (a .q .0) (t1 .if1 .taken) (l2 .if2 .left)))
           (subst (λ (xs : List ℕ). Only xs (a .q .0) (a .p .0)) (sym E) (only-swap (a .p .0) (a .q .0))),
     )
@@ -59,18 +60,28 @@ returns-4 c =
     let l1 = c .before .before in
     let a = l1 .before .before .args in (
       c .try-data-beside-data-and-check2 .ensures .0,
-      λ R E cube. c .try-data-beside-data-and-check2 .ensures .1 R (a .q .0 ∷ []) (subst (λ (xs : List ℕ). Arranged xs (a .p .0 ∷ a .q .0 ∷ [])) (sym E) same)
+      λ R L E cube. c .try-data-beside-data-and-check2 .ensures .1 R (a .q .0 ∷ []) (subst (λ (xs : List ℕ). Arranged xs (a .p .0 ∷ a .q .0 ∷ [])) (sym E) same)
           (l1 .if1 .left) (below-one (a .q .0) (c .before .if4 .taken)) (only-one (a .q .0) (a .q .0)) (λ e. cube),
     )
 
-try-data-beside-two-data-requires : tie.Need-try-data-beside-two-data-requires
-try-data-beside-two-data-requires c κs = search needs
+array-read-try-root : tie.Need-array-read-try-root
+array-read-try-root c = search needs
+
+array-read-try-root-2 : tie.Need-array-read-try-root-2
+array-read-try-root-2 c = search needs
+
+try-root-requires : tie.Need-try-root-requires
+try-root-requires c κs = search needs
 
 returns-5 : tie.Need-returns-5
 returns-5 c =
-    let l1 = c .before .before in (
-      c .try-data-beside-two-data .ensures .0,
-      λ R E cube. c .try-data-beside-two-data .ensures .1 R E (l1 .if1 .left) (c .before .if4 .left),
+    let l1 = c .before .before in
+    let a = l1 .before .before .args in
+    let ha = l1 .if1 .left in
+    let hc = c .before .if4 .left in (
+      c .try-root .ensures .0,
+      λ R L E cube. eliminated-two (a .width) (R .width) (a .word .now) (placesOf (a .t)) (a .t .sums) _ (a .p .0) (a .q .0) E ha hc _ _ refl
+          (L .two (a .p .0) (a .q .0) E ha hc) (c .try-root .ensures .1 R),
     )
 
 pub try-data-beside-two-spec : {M : Type 1} → statement M
@@ -85,5 +96,7 @@ try-data-beside-two-spec =
     returns-3
     try-data-beside-data-and-check-requires-2
     returns-4
-    try-data-beside-two-data-requires
+    array-read-try-root
+    array-read-try-root-2
+    try-root-requires
     returns-5)

@@ -1,13 +1,12 @@
--- `code::solver::add_products` meets its contract. The loop fills the row; `^` is the sum. Assumes nothing.
+-- `code::solver::add_products` meets its contract. The loop fills the row. Assumes nothing.
 use borrow.Author.Needs.{needs}
 use native.Mathlib.Omega.{arith}
 use Prim.Native.Nat.{ℕ, _-_}
-use mathlib.Core.Path.{_≡_, sym, _∙_, ap}
+use mathlib.Core.Path.{_≡_, sym, _∙_}
 use lib.ListN.{length, getD}
 use Rattle.field.specs.Polynomial.{add}
 use Rattle.field.specs.Field.{product}
 use Rattle.field.specs.Answer.{Operand}
-use Rattle.field.proofs.Bytes.{xor-add, multiplied-product}
 use Rattle.code.specs.Matrix.{columns, Operands}
 use Rattle.code.proofs.RowLaws.{length-rowAdd, getD-rowAdd}
 use Rattle.code.proofs.Loops.{Filled, filled-start, filled-on, filled-end}
@@ -24,14 +23,14 @@ abbrev μ-loop : tie.MeasureT-loop
 loop-holds : tie.Need-loop-holds Inv-loop μ-loop
 loop-holds c = search (needs, filled-start)
 
-array-read-out : tie.Need-array-read-out Inv-loop μ-loop
-array-read-out c = search needs
+array-read-add-product : tie.Need-array-read-add-product Inv-loop μ-loop
+array-read-add-product c = search needs
 
-array-read-multiply : tie.Need-array-read-multiply Inv-loop μ-loop
-array-read-multiply c = search needs
+array-read-add-product-2 : tie.Need-array-read-add-product-2 Inv-loop μ-loop
+array-read-add-product-2 c = search needs
 
-multiply-requires : tie.Need-multiply-requires Inv-loop μ-loop
-multiply-requires c κs = search needs
+add-product-requires : tie.Need-add-product-requires Inv-loop μ-loop
+add-product-requires c κs = search needs
 
 array-write-out : tie.Need-array-write-out Inv-loop μ-loop
 array-write-out c = search needs
@@ -44,9 +43,7 @@ loop-less c = search needs
 
 loop-again : tie.Need-loop-again Inv-loop μ-loop
 loop-again c =
-    let x = getD (c .before .before .before .args .t2) (c .before .before .loop .j) 0 in
-    filled-on (c .before .before .loop .inv) (omega arith)
-    (λ h. xor-add x (c .multiply .result) ∙ ap (add x) (c .multiply .ensures ∙ multiplied-product (h .0) (h .1 _ (omega arith))))
+    filled-on (c .before .before .loop .inv) (omega arith) (λ h. c .add-product .ensures (h .0) (h .1 _ (omega arith)))
 
 returns : tie.Need-returns Inv-loop μ-loop
 returns c =
@@ -63,9 +60,9 @@ add-products-spec =
     Inv-loop
     μ-loop
     loop-holds
-    array-read-out
-    array-read-multiply
-    multiply-requires
+    array-read-add-product
+    array-read-add-product-2
+    add-product-requires
     array-write-out
     add-j
     loop-less

@@ -1,29 +1,31 @@
 -- `code::trial::column_times` meets its contract. Assumes nothing.
 use borrow.Author.Needs.{needs}
-use mathlib.Core.Path.{ap, _∙_}
-use Prim.Native.Nat.{ℕ}
-use Rattle.field.specs.Field.{product}
-use Rattle.field.proofs.Widths.{field-of}
-use Rattle.field.proofs.Ask.{operand-of}
-use Rattle.field.proofs.Bytes.{multiplied-product}
-use Rattle.code.proofs.Columns.{column-lt}
+use mathlib.Core.Path.{_≡_, sym, ap, _∙_, subst}
+use Prim.Native.Nat.{ℕ, _<_}
+use Rattle.field.specs.Field.{order, product}
+use Rattle.code.specs.Word.{five}
+use Rattle.code.specs.Place.{column}
 use Rattle.code.proofs.trial.column_times.Statement.{statement}
 use Rattle.code.proofs.trial.column_times.Tie as tie
 
-column-requires : tie.Need-column-requires
-column-requires c κs = search needs
-
-multiply-requires : tie.Need-multiply-requires
-multiply-requires c κs = search needs
+powers-times-requires : tie.Need-powers-times-requires
+powers-times-requires c κs = search needs
 
 returns : tie.Need-returns
 returns c = λ w h.
-    (let a = c .before .before .args in
-    let m = a .width in
-    let e = c .before .column .ensures w in
-    c .multiply .ensures
-    ∙ multiplied-product (operand-of m _ _ w e (column-lt (field-of m w) (a .p .0) (a .k))) (record { width = w; symbol = h })
-    ∙ ap (λ (y : ℕ). product m y (a .x)) e)
+    (let i4 = c .before in
+    let i1 = i4 .before .before .before in
+    let a = i1 .before .args in
+    let seven : a .width ≡ 7 = i1 .if1 .taken in
+    c .powers-times .ensures (subst (λ (m : ℕ). a .x < order m) seven h) (i4 .if4 .taken)
+    ∙ ap (λ (m : ℕ). five (λ k. product m (column m (a .p .0) k) (a .x))) (sym seven))
+
+products-times-requires : tie.Need-products-times-requires
+products-times-requires c κs = search needs
+
+returns-2 : tie.Need-returns-2
+returns-2 c = search needs
 
 pub column-times-spec : {M : Type 1} → statement M
-column-times-spec = tie.close (tie.spec column-requires multiply-requires returns)
+column-times-spec =
+    tie.close (tie.spec powers-times-requires returns products-times-requires returns-2)

@@ -1,43 +1,77 @@
 -- `code::trial::masked` meets its contract. Assumes nothing.
 use borrow.Author.Needs.{needs}
-use Rattle.field.proofs.Widths.{field-of}
-use Rattle.code.proofs.Correcting.{masked-row}
+use mathlib.Core.Path.{_≡_, ap, _∙_}
+use mathlib.Core.List.{List}
+use Prim.Native.Nat.{ℕ, _<_}
+use lib.Dec.{lit<}
+use Rattle.field.specs.Polynomial.{add}
+use Rattle.field.specs.Field.{product}
+use Rattle.field.proofs.Bytes.{xor-add}
+use Rattle.field.proofs.Evaluation.{five-at, five-of}
+use Rattle.code.specs.Word.{checks, at}
+use Rattle.code.specs.Place.{column}
 use Rattle.code.proofs.trial.masked.Statement.{statement}
 use Rattle.code.proofs.trial.masked.Tie as tie
 
-whole-column-requires : tie.Need-whole-column-requires
-whole-column-requires c κs = search needs
+column-times-requires : tie.Need-column-times-requires
+column-times-requires c κs = search needs
 
-padded-requires : tie.Need-padded-requires
-padded-requires c κs = search needs
+array-read-t10 : tie.Need-array-read-t10
+array-read-t10 c = search needs
 
-padded-requires-2 : tie.Need-padded-requires-2
-padded-requires-2 c κs = search needs
+array-read-t13 : tie.Need-array-read-t13
+array-read-t13 c = search needs
 
-add-times-requires : tie.Need-add-times-requires
-add-times-requires c κs = search needs
+array-read-t17 : tie.Need-array-read-t17
+array-read-t17 c = search needs
 
-first-five-requires : tie.Need-first-five-requires
-first-five-requires c κs = search needs
+array-read-t20 : tie.Need-array-read-t20
+array-read-t20 c = search needs
+
+array-read-t24 : tie.Need-array-read-t24
+array-read-t24 c = search needs
+
+array-read-t27 : tie.Need-array-read-t27
+array-read-t27 c = search needs
+
+array-read-t31 : tie.Need-array-read-t31
+array-read-t31 c = search needs
+
+array-read-t34 : tie.Need-array-read-t34
+array-read-t34 c = search needs
+
+array-read-t38 : tie.Need-array-read-t38
+array-read-t38 c = search needs
+
+array-read-t41 : tie.Need-array-read-t41
+array-read-t41 c = search needs
 
 returns : tie.Need-returns
 returns c = λ w h.
-    (let t = c .before in
-    let s = t .before in
-    let q = s .before in
-    let o = q .before in
-    let a = o .before .args in
+    (let a = c .before .args in
     let m = a .width in
-    masked-row (field-of m w) (a .p .0) (a .sums) (o .whole-column .result) (q .padded .result) (s .padded2 .result) (t .add-times .result) (c .first-five .result) (a .x)
-    w h (o .whole-column .ensures w) (q .padded .ensures) (s .padded2 .ensures) (t .add-times .ensures) (c .first-five .ensures))
+    let f : ℕ → ℕ = λ k. product m (column m (a .p .0) k) (a .x) in
+    let s : (k : ℕ) → k < checks → at (c .column-times .result) k ≡ f k = λ k l. ap (λ (u : List ℕ). at u k) (c .column-times .ensures w h) ∙ five-at f k l in
+    five-of (λ k. add (at (a .t2) k) (f k)) _ _ _ _ _
+    (xor-add _ _ ∙ ap (add _) (s 0 (lit< tt)))
+    (xor-add _ _ ∙ ap (add _) (s 1 (lit< tt)))
+    (xor-add _ _ ∙ ap (add _) (s 2 (lit< tt)))
+    (xor-add _ _ ∙ ap (add _) (s 3 (lit< tt)))
+    (xor-add _ _ ∙ ap (add _) (s 4 (lit< tt))))
 
 pub masked-spec : {M : Type 1} → statement M
 masked-spec =
     tie.close
     (tie.spec
-    whole-column-requires
-    padded-requires
-    padded-requires-2
-    add-times-requires
-    first-five-requires
+    column-times-requires
+    array-read-t10
+    array-read-t13
+    array-read-t17
+    array-read-t20
+    array-read-t24
+    array-read-t27
+    array-read-t31
+    array-read-t34
+    array-read-t38
+    array-read-t41
     returns)

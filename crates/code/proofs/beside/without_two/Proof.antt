@@ -1,0 +1,37 @@
+-- `code::beside::without_two` meets its contract. Assumes nothing.
+use borrow.Author.Needs.{needs}
+use mathlib.Core.Path.{ap, _∙_}
+use mathlib.Core.List.{List}
+use Prim.Native.Nat.{ℕ}
+use native.Mathlib.Omega.{arith}
+use Rattle.code.specs.Word.{five, at}
+use Rattle.code.specs.Locate.{point}
+use Rattle.code.specs.Beside.{eliminate}
+use Rattle.code.proofs.Trying.{sums-lt}
+use Rattle.code.proofs.CheckPlaces.{first-lt}
+use Rattle.code.proofs.beside.without_two.Statement.{statement}
+use Rattle.code.proofs.beside.without_two.Tie as tie
+
+differences-requires : tie.Need-differences-requires
+differences-requires c κs = search needs
+
+differences-requires-2 : tie.Need-differences-requires-2
+differences-requires-2 c κs = search needs
+
+returns : tie.Need-returns
+returns c = λ w R hp hq.
+    (let d = c .before in
+    let a = d .before .before .before .before .before .before .args in
+    let first = d .differences .ensures (R .width) hp (sums-lt R) in
+    c .differences2 .ensures (R .width) hq (first-lt R (a .p .0) (d .differences .result) first)
+    ∙ ap (λ (v : List ℕ). five (eliminate (a .width) 1 (point (a .width) (a .q .0)) (at v))) first)
+
+returns-2 : tie.Need-returns-2
+returns-2 c = λ w R hp hq. absurd (omega (arith, hp, hq, c .if2 .left))
+
+returns-3 : tie.Need-returns-3
+returns-3 c = λ w R hp hq. absurd (omega (arith, hp, hq, c .if1 .left))
+
+pub without-two-spec : {M : Type 1} → statement M
+without-two-spec =
+    tie.close (tie.spec differences-requires differences-requires-2 returns returns-2 returns-3)

@@ -1,0 +1,44 @@
+-- `code::trial::products_times` meets its contract. Assumes nothing.
+use borrow.Author.Needs.{needs}
+use Rattle.field.specs.Field.{product}
+use Rattle.field.proofs.Evaluation.{five-of}
+use Rattle.code.specs.Place.{column}
+use Rattle.code.proofs.trial.products_times.Statement.{statement}
+use Rattle.code.proofs.trial.products_times.Tie as tie
+
+entry-times-requires : tie.Need-entry-times-requires
+entry-times-requires c κs = search needs
+
+entry-times-requires-2 : tie.Need-entry-times-requires-2
+entry-times-requires-2 c κs = search needs
+
+entry-times-requires-3 : tie.Need-entry-times-requires-3
+entry-times-requires-3 c κs = search needs
+
+entry-times-requires-4 : tie.Need-entry-times-requires-4
+entry-times-requires-4 c κs = search needs
+
+entry-times-requires-5 : tie.Need-entry-times-requires-5
+entry-times-requires-5 c κs = search needs
+
+returns : tie.Need-returns
+returns c = λ w h.
+    (let k3 = c .before in
+    let k2 = k3 .before in
+    let k1 = k2 .before in
+    let k0 = k1 .before in
+    let a = k0 .before .args in
+    five-of (λ k. product (a .width) (column (a .width) (a .p .0) k) (a .x)) _ _ _ _ _
+    (k0 .entry-times .ensures w h) (k1 .entry-times2 .ensures w h) (k2 .entry-times3 .ensures w h) (k3 .entry-times4 .ensures w h)
+    (c .entry-times5 .ensures w h))
+
+pub products-times-spec : {M : Type 1} → statement M
+products-times-spec =
+    tie.close
+    (tie.spec
+    entry-times-requires
+    entry-times-requires-2
+    entry-times-requires-3
+    entry-times-requires-4
+    entry-times-requires-5
+    returns)
