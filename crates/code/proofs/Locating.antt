@@ -61,7 +61,7 @@ module _ {m : ℕ} (F : IsField m) where
   column-nonzero p k h e = F .α-nonzero (k * (p - checks)) (sym (column-power m p k h) ∙ e)
 
   -- one row on, the column is the point times what it was
-  pub column-next : (p k y : ℕ) → checks ≤ p → product m (column m p (suc k)) y ≡ product m (point m p) (product m (column m p k) y)
+  column-next : (p k y : ℕ) → checks ≤ p → product m (column m p (suc k)) y ≡ product m (point m p) (product m (column m p k) y)
   column-next p k y h =
       ap (λ (n : ℕ). product m n y) (column-point p (suc k) h) ∙ term-suc F (point m p) k y
       ∙ ap (λ (n : ℕ). product m (point m p) (product m n y)) (sym (column-point p k h))

@@ -7,8 +7,8 @@ ghost use Rattle.code.specs.Word.{five};
 ghost use Rattle.code.specs.Place.{exponentOf, placeOf, multipleOf, column as columnM};
 use field::Exponent;
 use field::arithmetic::raise;
-use field::table::first_powers;
 use field::table::power_of_alpha;
+use field::table::powers_from;
 
 // Place 0 to 4 holds a check symbol, place 5 + i the data symbol i.
 pub struct Place(pub u8);
@@ -73,7 +73,7 @@ pub fn whole_column(width: u8, p: Place) -> [u8; 5]
     if width == 7 {
         if 5 <= place {
             if place < 132 {
-                return first_powers(exponent_of(p));
+                return powers_from(Exponent(0), exponent_of(p));
             }
         }
     }

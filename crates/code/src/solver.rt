@@ -80,14 +80,17 @@ fn add_row(width: u8, row: [u8; COLUMNS], k: u8, by: [u8; COLUMNS], ms: [u64; 7]
 pub fn add_times(width: u8, row: [u8; COLUMNS], k: u8, by: [u8; COLUMNS]) -> [u8; COLUMNS]
     ensures { λ r. ⌜ (Operand width k → Operands width by → r ≡ rowAdd width row k by) ⌝ }
 {
-    add_row(width, row, k, by, multiples(by))
+    if width == 7 {
+        return add_multiple(row, k, multiples(by));
+    }
+    add_products(width, row, k, by)
 }
 
 // k times the row.
 fn scale_row(width: u8, k: u8, row: [u8; COLUMNS]) -> [u8; COLUMNS]
     ensures { λ r. ⌜ (Operand width k → Operands width row → r ≡ scale width k row) ⌝ }
 {
-    add_row(width, [0; COLUMNS], k, row, multiples(row))
+    add_times(width, [0; COLUMNS], k, row)
 }
 
 // Column c becomes 1 in row p, whose symbol there is not 0, and 0 in every other row.

@@ -6,7 +6,7 @@ ghost use mathlib.Core.List.{List, _∷_};
 ghost use Prim.Native.Nat.{ℕ, _+_, _≤_, _<_};
 ghost use lib.ListN.{length, take};
 ghost use Rattle.field.specs.Polynomial.{add};
-ghost use Rattle.field.specs.Field.{order, product, power, α};
+ghost use Rattle.field.specs.Field.{order, product};
 ghost use Rattle.field.specs.Question.{isWidth, allBelow};
 ghost use Rattle.code.specs.Word.{checks, five, places, longest, at};
 ghost use Rattle.code.specs.Place.{column as columnM};
@@ -22,10 +22,9 @@ use crate::question::contains;
 use crate::slice::copy;
 use crate::solver::UNKNOWNS;
 use crate::syndrome::syndromes;
-use field::Exponent;
 use field::arithmetic::multiply;
 use field::arithmetic::ratio_exponent;
-use field::table::power_of_alpha;
+use field::table::powers_from;
 
 // Places taken as erased, the first `count` of them, and the five syndromes of the other places.
 pub struct Trial {
@@ -56,34 +55,12 @@ pub fn entry_times(width: u8, p: Place, k: u8, x: u8) -> u8
     multiply(width, column(width, p, k), x)
 }
 
-// The exponent of the product of two powers of α at width 7.
-fn exponent_sum(e: Exponent, i: Exponent) -> Exponent
-    requires { ⌜ (e .0 < 127) × (i .0 < 127) ⌝ }
-    ensures { λ r. ⌜ (r .0 < 127) × (power 7 α (r .0) ≡ product 7 (power 7 α (i .0)) (power 7 α (e .0))) ⌝ }
-{
-    let s = e.0 + i.0;
-    if s < 127 {
-        Exponent(s)
-    } else {
-        Exponent(s - 127)
-    }
-}
-
 // x times the column at the data place p at width 7, x not 0: row after row the exponent grows by that of the place.
 fn powers_times(p: Place, x: u8) -> [u8; 5]
     requires { ⌜ (5 ≤ p .0) × (p .0 < 132) ⌝ }
     ensures { λ r. ⌜ (x < 128 → x ≢ 0 → r ≡ five (λ k. product 7 (columnM 7 (p .0) k) x)) ⌝ }
 {
-    let i = exponent_of(p);
-    let e1 = exponent_sum(ratio_exponent(1, x), i);
-    let e2 = exponent_sum(e1, i);
-    let e3 = exponent_sum(e2, i);
-    let e4 = exponent_sum(e3, i);
-    let b = power_of_alpha(e1);
-    let c = power_of_alpha(e2);
-    let d = power_of_alpha(e3);
-    let e = power_of_alpha(e4);
-    [x, b, c, d, e]
+    powers_from(ratio_exponent(1, x), exponent_of(p))
 }
 
 // The column at place p, times x, product by product.

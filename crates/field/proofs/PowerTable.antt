@@ -3,8 +3,8 @@
 use mathlib.Core.Path.{_≡_, refl, sym, ap, _∙_, subst}
 use mathlib.Core.Bool.{Bool, true, _&&_}
 use mathlib.Core.List.{List, [], _∷_}
-use Prim.Native.Nat.{ℕ, zero, suc, _*_, _%_, _<_}
-use native.Mathlib.Nat.{le-of-suc-le-suc, not-suc-le-zero, zero-mul, one-mul}
+use Prim.Native.Nat.{ℕ, zero, suc, _+_, _*_, _%_, _<_}
+use native.Mathlib.Nat.{zero-add, le-of-suc-le-suc, not-suc-le-zero, zero-mul, one-mul}
 use native.Mathlib.Omega.{arith}
 use lib.Dec.{T, eqb, eqb→eq, lit<}
 use lib.ListN.{length, getD}
@@ -72,12 +72,14 @@ powers-at k h = doubling-at 7 (lit< tt) powers rule k h
 powers-mod : (k : ℕ) → getD powers (k % 127) 0 ≡ power 7 α k
 powers-mod k = powers-at (k % 127) (omega arith) ∙ power-mod 7 (fieldAt seven) k
 
--- the powers 0 to 4 of α^i
-pub first-powers : (i : ℕ) → i < 127
-    → _≡_ {A = List ℕ} (1 ∷ getD powers i 0 ∷ getD powers (2 * i % 127) 0 ∷ getD powers (3 * i % 127) 0 ∷ getD powers (4 * i % 127) 0 ∷ [])
-    (power 7 α (0 * i) ∷ power 7 α (1 * i) ∷ power 7 α (2 * i) ∷ power 7 α (3 * i) ∷ power 7 α (4 * i) ∷ [])
-first-powers i h =
-    simp (zero-mul, one-mul, power-zero, powers-at i (omega arith), powers-mod (2 * i), powers-mod (3 * i), powers-mod (4 * i))
+-- the powers at e, and at 1 to 4 times i more
+pub powers-from : (e i : ℕ) → e < 127
+    → _≡_ {A = List ℕ}
+    (getD powers e 0 ∷ getD powers ((i + e) % 127) 0 ∷ getD powers ((2 * i + e) % 127) 0 ∷ getD powers ((3 * i + e) % 127) 0
+    ∷ getD powers ((4 * i + e) % 127) 0 ∷ [])
+    (power 7 α (0 * i + e) ∷ power 7 α (1 * i + e) ∷ power 7 α (2 * i + e) ∷ power 7 α (3 * i + e) ∷ power 7 α (4 * i + e) ∷ [])
+powers-from e i h =
+    simp (zero-mul, one-mul, zero-add, powers-at e (omega arith), powers-mod (i + e), powers-mod (2 * i + e), powers-mod (3 * i + e), powers-mod (4 * i + e))
 
 -- the example of document 01: the powers 0 to 6 of α at width 3
 pub powers3 : orbit 3 1 7 ≡ 1 ∷ 2 ∷ 4 ∷ 3 ∷ 6 ∷ 7 ∷ 5 ∷ []

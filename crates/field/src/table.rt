@@ -1,7 +1,7 @@
 // The tables of width 7: the powers of α, and the logarithms to the base α. These functions are no entry points.
 ghost use mathlib.Core.Path.{_≡_};
 ghost use mathlib.Core.List.{_∷_, []};
-ghost use Prim.Native.Nat.{_*_, _<_};
+ghost use Prim.Native.Nat.{_+_, _*_, _<_};
 ghost use Rattle.field.specs.Field.{power as powerM, α};
 ghost use Rattle.field.specs.Bytes.{unitFor, Logarithms};
 use crate::Exponent;
@@ -273,24 +273,30 @@ pub fn power_of_alpha(e: Exponent) -> u8
     POWERS[i]
 }
 
-// The powers 0 to 4 of α^e at width 7. No entry point: it requires that e is below 127. The table is named once, since each use of a constant
-// array copies it; of the exponents below 127 alone, since what is never read is not copied.
-pub fn first_powers(e: Exponent) -> [u8; 5]
-    requires { ⌜ e .0 < 127 ⌝ }
+// The powers of α at e, and at 1 to 4 times i more, at width 7. No entry point: it requires that both are below 127. The table is named
+// once, since each use of a constant array copies it; of the exponents below 127 alone, since what is never read is not copied.
+pub fn powers_from(e: Exponent, i: Exponent) -> [u8; 5]
+    requires { ⌜ (e .0 < 127) × (i .0 < 127) ⌝ }
     ensures { λ r.
         ⌜
         r
-        ≡ powerM 7 α (0 * e .0) ∷ powerM 7 α (1 * e .0) ∷ powerM 7 α (2 * e .0) ∷ powerM 7 α (3 * e .0) ∷ powerM 7 α (4 * e .0) ∷ []
+        ≡ powerM 7 α (0 * i .0 + e .0)
+        ∷ powerM 7 α (1 * i .0 + e .0)
+        ∷ powerM 7 α (2 * i .0 + e .0)
+        ∷ powerM 7 α (3 * i .0 + e .0)
+        ∷ powerM 7 α (4 * i .0 + e .0)
+        ∷ []
         ⌝ }
 {
     let powers = POWERS;
-    let i = e.0 as usize;
+    let a = e.0 as usize;
+    let s = i.0 as usize;
     [
-        1,
-        powers[i],
-        powers[2 * i % 127],
-        powers[3 * i % 127],
-        powers[4 * i % 127],
+        powers[a],
+        powers[(s + a) % 127],
+        powers[(2 * s + a) % 127],
+        powers[(3 * s + a) % 127],
+        powers[(4 * s + a) % 127],
     ]
 }
 

@@ -1,30 +1,28 @@
 -- `code::place::whole_column` meets its contract. Assumes nothing.
 use borrow.Author.Needs.{needs}
 use mathlib.Core.Path.{sym, ap, _∙_}
-use Prim.Native.Nat.{ℕ, _*_}
+use Prim.Native.Nat.{ℕ}
 use native.Mathlib.Omega.{arith}
-use Rattle.field.specs.Field.{power, α}
 use Rattle.field.specs.declared.Exponent.{Exponent}
-use Rattle.field.proofs.Evaluation.{five-of, five-cong}
+use Rattle.field.proofs.Evaluation.{five-of}
 use Rattle.code.specs.Word.{five}
 use Rattle.code.specs.Place.{column}
-use Rattle.code.proofs.Columns.{column-power}
+use Rattle.code.proofs.Times.{powers-column}
 use Rattle.code.proofs.place.whole_column.Statement.{statement}
 use Rattle.code.proofs.place.whole_column.Tie as tie
 
 exponent-of-requires : tie.Need-exponent-of-requires
 exponent-of-requires c κs = search needs
 
-first-powers-requires : tie.Need-first-powers-requires
-first-powers-requires c κs = omega (arith, ap (λ (e : Exponent). e .0) (c .exponent-of .ensures))
+powers-from-requires : tie.Need-powers-from-requires
+powers-from-requires c κs = (search needs, omega (arith, ap (λ (e : Exponent). e .0) (c .exponent-of .ensures)))
 
 returns : tie.Need-returns
 returns c = λ w.
     (let in5 = c .before .before .before in
     let p = in5 .before .before .args .p .0 in
-    c .first-powers .ensures
-    ∙ ap (λ (e : Exponent). five (λ k. power 7 α (k * e .0))) (c .before .exponent-of .ensures)
-    ∙ sym (five-cong _ _ (λ k l. column-power 7 p k (in5 .if2 .taken)))
+    c .powers-from .ensures
+    ∙ powers-column p (c .before .exponent-of .result .0) (in5 .if2 .taken) (ap (λ (e : Exponent). e .0) (c .before .exponent-of .ensures))
     ∙ ap (λ (m : ℕ). five (column m p)) (sym (in5 .before .if1 .taken)))
 
 column-requires : tie.Need-column-requires
@@ -56,7 +54,7 @@ whole-column-spec =
     tie.close
     (tie.spec
     exponent-of-requires
-    first-powers-requires
+    powers-from-requires
     returns
     column-requires
     column-requires-2

@@ -1,17 +1,41 @@
 -- `code::solver::add_times` meets its contract. Assumes nothing.
 use borrow.Author.Needs.{needs}
-use Rattle.field.proofs.Scaling.{multiples-own}
+use borrow.Kind.Array.{eInt, good-length}
+use mir.Syntax.{w8}
+use mathlib.Core.Path.{_≡_, sym, ap, _∙_}
+use Prim.Native.Nat.{ℕ}
+use Rattle.field.proofs.Scaling.{multiples-own, multiple-row}
+use Rattle.code.specs.Word.{at}
+use Rattle.code.specs.Matrix.{rowAdd}
+use Rattle.code.proofs.RowLaws.{below-order, eight-rowAdd}
 use Rattle.code.proofs.solver.add_times.Statement.{statement}
 use Rattle.code.proofs.solver.add_times.Tie as tie
 
 multiples-requires : tie.Need-multiples-requires
 multiples-requires c κs = search needs
 
-add-row-requires : tie.Need-add-row-requires
-add-row-requires c κs = search needs
+add-multiple-requires : tie.Need-add-multiple-requires
+add-multiple-requires c κs = search needs
 
 returns : tie.Need-returns
-returns c = λ k y. c .add-row .ensures k y (λ e b. multiples-own (c .before .before .args .by) (c .before .multiples .result) b (c .before .multiples .ensures))
+returns c =
+    let m = c .before in
+    let start = m .before .before in
+    let a = start .args in
+    let seven : a .width ≡ 7 = m .before .if1 .taken in
+    let long = good-length (eInt w8) 8 (a .row) _ (start .good .1 .0) in
+    let wide = good-length (eInt w8) 8 (a .by) _ (start .good .1 .1 .1 .0) in
+    λ k y. c .add-multiple .ensures
+    ∙ multiple-row (a .k) (at (a .by)) (m .multiples .result)
+    (multiples-own (a .by) (m .multiples .result) (λ j h. below-order seven (y j h)) (m .multiples .ensures)) (a .row) (below-order seven k)
+    ∙ eight-rowAdd 7 (a .row) (a .k) (a .by) long wide
+    ∙ ap (λ (m : ℕ). rowAdd m (a .row) (a .k) (a .by)) (sym seven)
+
+add-products-requires : tie.Need-add-products-requires
+add-products-requires c κs = search needs
+
+returns-2 : tie.Need-returns-2
+returns-2 c = c .add-products .ensures
 
 pub add-times-spec : {M : Type 1} → statement M
-add-times-spec = tie.close (tie.spec multiples-requires add-row-requires returns)
+add-times-spec = tie.close (tie.spec multiples-requires add-multiple-requires returns add-products-requires returns-2)
