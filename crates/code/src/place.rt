@@ -2,10 +2,12 @@
 ghost use mathlib.Core.Path.{_≡_};
 ghost use Prim.Native.Nat.{_+_, _*_, _≤_, _<_};
 ghost use mathlib.Core.Bool.{true};
+ghost use Rattle.field.specs.Field.{order, product};
 ghost use Rattle.field.specs.Question.{isWidth};
 ghost use Rattle.code.specs.Word.{five};
 ghost use Rattle.code.specs.Place.{exponentOf, placeOf, multipleOf, column as columnM};
 use field::Exponent;
+use field::arithmetic::multiply;
 use field::arithmetic::raise;
 use field::table::power_of_alpha;
 use field::table::powers_from;
@@ -65,23 +67,37 @@ pub fn point(width: u8, p: Place) -> u8
     column(width, p, 1)
 }
 
+// x times the column at the data place p: row after row a product with the point.
+pub fn point_times(width: u8, p: Place, x: u8) -> [u8; 5]
+    requires { ⌜ 5 ≤ p .0 ⌝ }
+    ensures { λ r. ⌜ (isWidth width ≡ true → x < order width → r ≡ five (λ k. product width (columnM width (p .0) k) x)) ⌝ }
+{
+    let a = point(width, p);
+    let b = multiply(width, a, x);
+    let c = multiply(width, a, b);
+    let d = multiply(width, a, c);
+    let e = multiply(width, a, d);
+    [x, b, c, d, e]
+}
+
 // The column at place p whole: at width 7 a data place takes one read of the table of powers.
 pub fn whole_column(width: u8, p: Place) -> [u8; 5]
     ensures { λ r. ⌜ (isWidth width ≡ true → r ≡ five (columnM width (p .0))) ⌝ }
 {
     let place = p.0;
+    if place < 5 {
+        return [
+            column(width, p, 0),
+            column(width, p, 1),
+            column(width, p, 2),
+            column(width, p, 3),
+            column(width, p, 4),
+        ];
+    }
     if width == 7 {
-        if 5 <= place {
-            if place < 132 {
-                return powers_from(Exponent(0), exponent_of(p));
-            }
+        if place < 132 {
+            return powers_from(Exponent(0), exponent_of(p));
         }
     }
-    [
-        column(width, p, 0),
-        column(width, p, 1),
-        column(width, p, 2),
-        column(width, p, 3),
-        column(width, p, 4),
-    ]
+    point_times(width, p, 1)
 }

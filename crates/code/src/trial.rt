@@ -17,6 +17,7 @@ ghost use Rattle.code.specs.Correction.{fill, Lent, placesOf, Ready, Wor
 use crate::place::Place;
 use crate::place::column;
 use crate::place::exponent_of;
+use crate::place::point_times;
 use crate::question::all_zero;
 use crate::question::contains;
 use crate::slice::copy;
@@ -63,8 +64,8 @@ fn powers_times(p: Place, x: u8) -> [u8; 5]
     powers_from(ratio_exponent(1, x), exponent_of(p))
 }
 
-// The column at place p, times x, product by product.
-fn products_times(width: u8, p: Place, x: u8) -> [u8; 5]
+// The column at place p, times x, entry by entry.
+fn entries_times(width: u8, p: Place, x: u8) -> [u8; 5]
     ensures { λ r. ⌜ (isWidth width ≡ true → x < order width → r ≡ five (λ k. product width (columnM width (p .0) k) x)) ⌝ }
 {
     let a = entry_times(width, p, 0, x);
@@ -80,16 +81,17 @@ fn column_times(width: u8, p: Place, x: u8) -> [u8; 5]
     ensures { λ r. ⌜ (isWidth width ≡ true → x < order width → r ≡ five (λ k. product width (columnM width (p .0) k) x)) ⌝ }
 {
     let place = p.0;
+    if place < 5 {
+        return entries_times(width, p, x);
+    }
     if width == 7 {
-        if 5 <= place {
-            if place < 132 {
-                if x != 0 {
-                    return powers_times(p, x);
-                }
+        if place < 132 {
+            if x != 0 {
+                return powers_times(p, x);
             }
         }
     }
-    products_times(width, p, x)
+    point_times(width, p, x)
 }
 
 // The syndromes without the symbol x at place p.

@@ -4,26 +4,13 @@ use mathlib.Core.Path.{sym, ap, _∙_}
 use Prim.Native.Nat.{ℕ}
 use native.Mathlib.Omega.{arith}
 use Rattle.field.specs.declared.Exponent.{Exponent}
+use Rattle.field.proofs.Widths.{field-of}
 use Rattle.field.proofs.Evaluation.{five-of}
 use Rattle.code.specs.Word.{five}
 use Rattle.code.specs.Place.{column}
-use Rattle.code.proofs.Times.{powers-column}
+use Rattle.code.proofs.Times.{powers-column, times-one}
 use Rattle.code.proofs.place.whole_column.Statement.{statement}
 use Rattle.code.proofs.place.whole_column.Tie as tie
-
-exponent-of-requires : tie.Need-exponent-of-requires
-exponent-of-requires c κs = search needs
-
-powers-from-requires : tie.Need-powers-from-requires
-powers-from-requires c κs = (search needs, omega (arith, ap (λ (e : Exponent). e .0) (c .exponent-of .ensures)))
-
-returns : tie.Need-returns
-returns c = λ w.
-    (let in5 = c .before .before .before in
-    let p = in5 .before .before .args .p .0 in
-    c .powers-from .ensures
-    ∙ powers-column p (c .before .exponent-of .result .0) (in5 .if2 .taken) (ap (λ (e : Exponent). e .0) (c .before .exponent-of .ensures))
-    ∙ ap (λ (m : ℕ). five (column m p)) (sym (in5 .before .if1 .taken)))
 
 column-requires : tie.Need-column-requires
 column-requires c κs = search needs
@@ -40,25 +27,50 @@ column-requires-4 c κs = search needs
 column-requires-5 : tie.Need-column-requires-5
 column-requires-5 c κs = search needs
 
-returns-2 : tie.Need-returns-2
-returns-2 c = λ w.
-    (let k3 = c .before in
+returns : tie.Need-returns
+returns c = λ w.
+    (let k4 = c .before in
+    let k3 = k4 .before in
     let k2 = k3 .before in
     let k1 = k2 .before in
-    let a = k1 .before .before .before .args in
+    let a = k1 .before .before .args in
     five-of (column (a .width) (a .p .0)) _ _ _ _ _
-    (k1 .before .column .ensures w) (k1 .column2 .ensures w) (k2 .column3 .ensures w) (k3 .column4 .ensures w) (c .column5 .ensures w))
+    (k1 .column .ensures w) (k2 .column2 .ensures w) (k3 .column3 .ensures w) (k4 .column4 .ensures w) (c .column5 .ensures w))
+
+exponent-of-requires : tie.Need-exponent-of-requires
+exponent-of-requires c κs = search needs
+
+powers-from-requires : tie.Need-powers-from-requires
+powers-from-requires c κs = (search needs, omega (arith, ap (λ (e : Exponent). e .0) (c .exponent-of .ensures)))
+
+returns-2 : tie.Need-returns-2
+returns-2 c = λ w.
+    (let e = c .before in
+    let i2 = e .before .before in
+    let l1 = i2 .before in
+    let p = l1 .before .args .p .0 in
+    c .powers-from .ensures
+    ∙ powers-column p (e .exponent-of .result .0) (l1 .if1 .left) (ap (λ (e : Exponent). e .0) (e .exponent-of .ensures))
+    ∙ ap (λ (m : ℕ). five (column m p)) (sym (i2 .if2 .taken)))
+
+point-times-requires : tie.Need-point-times-requires
+point-times-requires c κs = search needs
+
+returns-3 : tie.Need-returns-3
+returns-3 c = λ w. c .point-times .ensures w (field-of _ w .one-lt) ∙ times-one _ w _
 
 pub whole-column-spec : {M : Type 1} → statement M
 whole-column-spec =
     tie.close
     (tie.spec
-    exponent-of-requires
-    powers-from-requires
-    returns
     column-requires
     column-requires-2
     column-requires-3
     column-requires-4
     column-requires-5
-    returns-2)
+    returns
+    exponent-of-requires
+    powers-from-requires
+    returns-2
+    point-times-requires
+    returns-3)

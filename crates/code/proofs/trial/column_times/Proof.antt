@@ -8,24 +8,37 @@ use Rattle.code.specs.Place.{column}
 use Rattle.code.proofs.trial.column_times.Statement.{statement}
 use Rattle.code.proofs.trial.column_times.Tie as tie
 
+entries-times-requires : tie.Need-entries-times-requires
+entries-times-requires c κs = search needs
+
+returns : tie.Need-returns
+returns c = search needs
+
 powers-times-requires : tie.Need-powers-times-requires
 powers-times-requires c κs = search needs
 
-returns : tie.Need-returns
-returns c = λ w h.
+returns-2 : tie.Need-returns-2
+returns-2 c = λ w h.
     (let i4 = c .before in
-    let i1 = i4 .before .before .before in
-    let a = i1 .before .args in
-    let seven : a .width ≡ 7 = i1 .if1 .taken in
+    let i2 = i4 .before .before in
+    let a = i2 .before .before .args in
+    let seven : a .width ≡ 7 = i2 .if2 .taken in
     c .powers-times .ensures (subst (λ (m : ℕ). a .x < order m) seven h) (i4 .if4 .taken)
     ∙ ap (λ (m : ℕ). five (λ k. product m (column m (a .p .0) k) (a .x))) (sym seven))
 
-products-times-requires : tie.Need-products-times-requires
-products-times-requires c κs = search needs
+point-times-requires : tie.Need-point-times-requires
+point-times-requires c κs = search needs
 
-returns-2 : tie.Need-returns-2
-returns-2 c = search needs
+returns-3 : tie.Need-returns-3
+returns-3 c = search needs
 
 pub column-times-spec : {M : Type 1} → statement M
 column-times-spec =
-    tie.close (tie.spec powers-times-requires returns products-times-requires returns-2)
+    tie.close
+    (tie.spec
+    entries-times-requires
+    returns
+    powers-times-requires
+    returns-2
+    point-times-requires
+    returns-3)

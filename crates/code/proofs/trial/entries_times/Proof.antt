@@ -1,10 +1,10 @@
--- `code::trial::products_times` meets its contract. Assumes nothing.
+-- `code::trial::entries_times` meets its contract. Assumes nothing.
 use borrow.Author.Needs.{needs}
 use Rattle.field.specs.Field.{product}
 use Rattle.field.proofs.Evaluation.{five-of}
 use Rattle.code.specs.Place.{column}
-use Rattle.code.proofs.trial.products_times.Statement.{statement}
-use Rattle.code.proofs.trial.products_times.Tie as tie
+use Rattle.code.proofs.trial.entries_times.Statement.{statement}
+use Rattle.code.proofs.trial.entries_times.Tie as tie
 
 entry-times-requires : tie.Need-entry-times-requires
 entry-times-requires c κs = search needs
@@ -32,8 +32,8 @@ returns c = λ w h.
     (k0 .entry-times .ensures w h) (k1 .entry-times2 .ensures w h) (k2 .entry-times3 .ensures w h) (k3 .entry-times4 .ensures w h)
     (c .entry-times5 .ensures w h))
 
-pub products-times-spec : {M : Type 1} → statement M
-products-times-spec =
+pub entries-times-spec : {M : Type 1} → statement M
+entries-times-spec =
     tie.close
     (tie.spec
     entry-times-requires
