@@ -9,7 +9,8 @@ use Rattle.card.specs.Record.{recordSize, recordOf}
 use Rattle.card.specs.Card.{recordNumbered, Check, noBad, bad, firstRefused}
 use Rattle.card.specs.Placed.{Writes}
 use Rattle.card.specs.Batch.{batchSize}
-use Rattle.card.specs.Words.{bytesOf, refusalLine}
+use Rattle.card.specs.Listing.{bytesOf}
+use Rattle.card.specs.Words.{refusalLine}
 use Rattle.card.specs.declared.checked.Found.{Found}
 
 -- the line of a record that would be refused

@@ -2,6 +2,8 @@
 use mathlib.Core.Bool.{cond}
 use mathlib.Core.List.{List, [], _∷_, _++_}
 use Prim.Native.Nat.{ℕ, zero, suc, _+_, _/_, _%_, _*_}
+use Prim.Native.Char.{code}
+use Prim.Native.String.{String, [] as none, _∷_ as _then_}
 use lib.Dec.{ltb}
 use lib.ListN.{length, take, getD}
 use Rattle.field.specs.Question.{Outcome, accepted, refused}
@@ -9,6 +11,11 @@ use Rattle.card.specs.declared.Totals.{Totals}
 use Rattle.card.specs.declared.Progress.{Progress}
 use Rattle.card.specs.Record.{recordSize, recordOf}
 use Rattle.card.specs.Card.{recordCount, recordAt, isBlank}
+
+-- the bytes of a text in ASCII
+abbrev pub bytesOf : String → List ℕ
+bytesOf none = []
+bytesOf (c then s) = code c ∷ bytesOf s
 
 -- the decimal digits of n as text, without leading zeros; the first argument bounds their number
 unfoldable pub digitsFrom : ℕ → ℕ → List ℕ
@@ -46,7 +53,7 @@ recordLine n bytes = lineText n (getD bytes 0 0) (refusalOf (recordOf bytes)) (c
 
 -- the word blank
 abbrev pub blankWord : List ℕ
-blankWord = 98 ∷ 108 ∷ 97 ∷ 110 ∷ 107 ∷ []
+blankWord = bytesOf "blank"
 
 -- the line of a blank slot: its number, and the word
 abbrev pub blankLine : ℕ → List ℕ
@@ -93,7 +100,7 @@ partProgress s part = progressAt s part (recordCount (length part))
 
 -- the five letters total
 abbrev pub totalWord : List ℕ
-totalWord = 116 ∷ 111 ∷ 116 ∷ 97 ∷ 108 ∷ []
+totalWord = bytesOf "total"
 
 -- the last line: the five letters, then accepted records, refused records and changed places
 abbrev pub totalLine : Totals → List ℕ
@@ -102,7 +109,7 @@ totalLine t =
 
 -- the line that says that the card goes on behind the records listed
 abbrev pub moreLine : List ℕ
-moreLine = 109 ∷ 111 ∷ 114 ∷ 101 ∷ newline ∷ []
+moreLine = bytesOf "more\n"
 
 -- no more records than this are listed, blank slots among them
 abbrev pub mostRecords : ℕ

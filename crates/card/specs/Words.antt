@@ -1,16 +1,9 @@
 -- Refusals in plain words, and the line that names a refused record. Assumes nothing.
 use mathlib.Core.List.{List, [], _∷_, _++_}
 use Prim.Native.Nat.{ℕ, _+_, _*_}
-use Prim.Native.Char.{code}
-use Prim.Native.String.{String, [] as none, _∷_ as _then_}
 use lib.ListN.{getD}
-use Rattle.card.specs.Listing.{decimal, space, newline}
+use Rattle.card.specs.Listing.{bytesOf, decimal, space, newline}
 use Rattle.card.specs.Batch.{longestField}
-
--- the bytes of a text in ASCII
-abbrev pub bytesOf : String → List ℕ
-bytesOf none = []
-bytesOf (c then s) = code c ∷ bytesOf s
 
 -- the refusals, in the order of their numbers; 0 is none
 unfoldable pub words : ℕ → List ℕ

@@ -4,7 +4,7 @@ use mathlib.Core.List.{List, [], _∷_, _++_}
 use Prim.Native.Nat.{ℕ, zero, suc, _+_, _*_}
 use lib.Dec.{eqb, ltb}
 use Rattle.code.specs.Word.{at}
-use Rattle.card.specs.Listing.{decimal, space, newline, blankWord, moreLine}
+use Rattle.card.specs.Listing.{bytesOf, decimal, space, newline, blankWord, moreLine}
 use Rattle.card.specs.Batch.{longestField}
 use Rattle.report.specs.declared.window.Date.{Date}
 use Rattle.report.specs.declared.window.Row.{Row}
@@ -27,15 +27,7 @@ dateText d = decimal (d .year + 2000) ++ (hyphen ∷ twoDigits (d .month) ++ (hy
 
 -- the names of the columns: pump sheets starts full highest date quotient remainder
 abbrev pub headerLine : List ℕ
-headerLine =
-    112 ∷ 117 ∷ 109 ∷ 112 ∷ space
-    ∷ 115 ∷ 104 ∷ 101 ∷ 101 ∷ 116 ∷ 115 ∷ space
-    ∷ 115 ∷ 116 ∷ 97 ∷ 114 ∷ 116 ∷ 115 ∷ space
-    ∷ 102 ∷ 117 ∷ 108 ∷ 108 ∷ space
-    ∷ 104 ∷ 105 ∷ 103 ∷ 104 ∷ 101 ∷ 115 ∷ 116 ∷ space
-    ∷ 100 ∷ 97 ∷ 116 ∷ 101 ∷ space
-    ∷ 113 ∷ 117 ∷ 111 ∷ 116 ∷ 105 ∷ 101 ∷ 110 ∷ 116 ∷ space
-    ∷ 114 ∷ 101 ∷ 109 ∷ 97 ∷ 105 ∷ 110 ∷ 100 ∷ 101 ∷ 114 ∷ newline ∷ []
+headerLine = bytesOf "pump sheets starts full highest date quotient remainder\n"
 
 -- the first five columns of pump p: its number and its sheets; in the window the starts, the counts of 127, the highest count
 unfoldable pub countFields : ℕ → Row → List ℕ
@@ -67,7 +59,7 @@ pumpLines report (suc p) = pumpLines report p ++ pumpLine report p
 
 -- the word refused
 abbrev pub refusedWord : List ℕ
-refusedWord = 114 ∷ 101 ∷ 102 ∷ 117 ∷ 115 ∷ 101 ∷ 100 ∷ []
+refusedWord = bytesOf "refused"
 
 -- the refused records and the blank slots, always, and the line "more" where the card goes on
 unfoldable pub lastLines : List ℕ → List ℕ

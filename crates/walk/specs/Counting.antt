@@ -12,7 +12,7 @@ use Rattle.card.specs.Record.{recordSize, recordWritten}
 use Rattle.card.specs.Card.{recordCount, recordAt, isBlank}
 use Rattle.card.specs.Listing.{decimal, newline, slotCounted, progressAt, partProgress, start}
 use Rattle.card.specs.Batch.{longestField, further}
-use Rattle.card.specs.Words.{bytesOf}
+use Rattle.card.specs.Listing.{bytesOf}
 use Rattle.walk.specs.declared.Walk.{Walk}
 use Rattle.walk.specs.declared.counting.Counted.{Counted}
 use Rattle.walk.specs.Restored.{restoredFrom, restoredCard}

@@ -8,11 +8,12 @@ ghost use Rattle.card.specs.Card.{recordCount};
 ghost use Rattle.walk.specs.Restored.{restoredFrom};
 ghost use Rattle.walk.specs.Walk.{stepRecords, begun, stepAsked, Steps};
 ghost use Rattle.walk.specs.Look.{rowSize, lookAsked, Looks, LooksAt, Shows};
+use card::Progress;
+use card::Totals;
 use card::cards::is_number;
 use card::cards::record_count;
 use card::cards::record_from;
 use card::records::RECORD;
-use card::records::restore_record;
 use card::records::restored_copy;
 use code::Repair;
 use code::slice::copy;
@@ -41,32 +42,6 @@ pub struct Stepped {
 pub struct View {
     pub verdict: Verdict,
     pub row: [u8; ROW],
-}
-
-// Record i of the card, counted from 0, is restored in its place.
-fn restore_at(card: &mut [u8], i: usize)
-    requires { ⌜ i < recordCount (length (now card)) ⌝ }
-    ensures { λ r. ⌜ now (card .exit) ≡ restoredFrom i 1 (now (card .entry)) ⌝ }
-{
-    let start = i * RECORD;
-    if card.len() - start < RECORD {
-        restore_record(&mut card[start..]);
-    } else {
-        let end = start + RECORD;
-        restore_record(&mut card[start..end]);
-    }
-}
-
-// The `count` records behind the first ones are restored in their places.
-fn restore_from(card: &mut [u8], first: usize, count: usize)
-    requires { ⌜ first + count ≤ recordCount (length (now card)) ⌝ }
-    ensures { λ r. ⌜ now (card .exit) ≡ restoredFrom first count (now (card .entry)) ⌝ }
-{
-    let mut i = 0;
-    while i < count {
-        restore_at(card, first + i);
-        i += 1;
-    }
 }
 
 // The number of records of a step where so many are left: fewer than 16 only at the end.
@@ -105,25 +80,16 @@ impl Walk {
     pub fn step(self, card: &mut [u8]) -> Stepped
         ensures { λ r. ⌜ Steps self (now (card .entry)) r (now (card .exit)) ⌝ }
     {
-        let n = card.len();
-        match ask_step(self, n) {
-            Verdict::Passed => {
-                let first = self.next - 1;
-                let count = step_count(record_count(n) - first);
-                restore_from(card, first, count);
-                Stepped {
-                    verdict: Verdict::Passed,
-                    state: Walk {
-                        length: n,
-                        next: self.next + count,
-                    },
-                }
-            }
-            Verdict::Refused(q) => Stepped {
-                verdict: Verdict::Refused(q),
-                state: self,
+        let uncounted = Progress {
+            next: 1,
+            totals: Totals {
+                accepted: 0,
+                refused: 0,
+                changed: 0,
             },
-        }
+        };
+        let counted = self.step_counting(card, uncounted);
+        counted.step
     }
 }
 
