@@ -14,7 +14,8 @@ use Rattle.field.specs.declared.Verdict.the-variants.{Refused as RefusedBy}
 use Rattle.field.proofs.Ask.{and-true-left, and-true-right}
 use Rattle.code.specs.declared.Repair.the-variants.{Refused}
 use Rattle.card.specs.Record.{sizeOf, erasureBytes, recordSize, widthOf, allAre, askedIn, reachOf, recordOf, recordWritten}
-use Rattle.card.specs.Card.{blankIn, isBlank, isAccepted, passes, fine}
+use Rattle.card.specs.Slots.{blankIn, isBlank}
+use Rattle.card.specs.Card.{isAccepted, passes, fine}
 use Rattle.card.proofs.Layouts.{width-no}
 use Rattle.card.proofs.Recording.{restores-refused, longest-reach}
 

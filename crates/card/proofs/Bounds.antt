@@ -10,11 +10,10 @@ use Rattle.field.specs.declared.Verdict.{Verdict}
 use Rattle.field.specs.declared.Verdict.the-variants.{Passed, Refused as RefusedBy}
 use Rattle.code.specs.Call.{restoreOf}
 use Rattle.code.proofs.Demands.{few-changed}
-use Rattle.card.specs.declared.Totals.{Totals}
 use Rattle.card.specs.declared.Progress.{Progress}
-use Rattle.card.specs.Record.{widthOf, wordOf, erasuresOf, recordAsked, recordWithinOf, recordOf, mostChanges, recordSize}
-use Rattle.card.specs.Card.{recordCount, recordAt, isBlank}
-use Rattle.card.specs.Listing.{refusalOf, changesOf, lineText, recordLine, blankLine, slotLine, counted, slotCounted, linesOf, totalsOf, progressAt}
+use Rattle.card.specs.Record.{widthOf, wordOf, erasuresOf, recordAsked, recordWithinOf, recordOf, mostChanges, erasureBytes, recordSize}
+use Rattle.card.specs.Slots.{recordCount, recordAt, isBlank, overFirst}
+use Rattle.card.specs.Listing.{refusalOf, changesOf, lineText, recordLine, blankLine, slotLine, counted, slotFurther, slotTold, untold}
 use Rattle.card.specs.Listing.{partProgress, mostRecords, listedPart, start}
 use Rattle.card.specs.Batch.{longestLine, Within}
 use Rattle.card.proofs.Writing.{length-decimal}
@@ -32,12 +31,13 @@ slot-short n slot = go (isBlank slot)
     go true = simp length-append (omega (arith, length-decimal n))
     go false = line-short n (widthOf slot) (refusalOf (recordOf slot)) (changesOf (recordOf slot))
 
-pub lines-short : (n : ℕ) (part : List ℕ) (k : ℕ) → length (linesOf n part k) ≤ k * longestLine
-unfolding linesOf
-lines-short n part zero = omega arith
-lines-short n part (suc k) =
-    let line = slotLine (n + k) (recordAt part k) in
-    omega (arith, length-append (linesOf n part k) line, lines-short n part k, slot-short (n + k) (recordAt part k))
+pub lines-short : (s : Progress) (part : List ℕ) (k : ℕ) → length (overFirst erasureBytes slotTold (untold s) part k .text) ≤ k * longestLine
+unfolding overFirst
+lines-short s part zero = omega arith
+lines-short s part (suc k) =
+    let t = overFirst erasureBytes slotTold (untold s) part k in
+    let line = slotLine (t .progress .next) (recordAt part k) in
+    omega (arith, length-append (t .text) line, lines-short s part k, slot-short (t .progress .next) (recordAt part k))
 
 -- ---- changed places
 
@@ -55,36 +55,35 @@ few-places r k e =
 
 -- ---- the numbers of a listing
 
--- no more than k slots were counted from t to u
-record Grown (k : ℕ) (t u : Totals) : Type 0 where
-  accepted : u .accepted ≤ t .accepted + k
-  refused : u .refused ≤ t .refused + k
-  changed : u .changed ≤ t .changed + k * mostChanges
+-- k slots were counted from s to u
+record Grown (k : ℕ) (s u : Progress) : Type 0 where
+  next : u .next ≡ s .next + k
+  accepted : u .totals .accepted ≤ s .totals .accepted + k
+  refused : u .totals .refused ≤ s .totals .refused + k
+  changed : u .totals .changed ≤ s .totals .changed + k * mostChanges
 
-grown-record : (k : ℕ) (t u : Totals) (o : Outcome) → ((n : ℕ) → o ≡ accepted n → n ≤ mostChanges) → Grown k t u → Grown (suc k) t (counted u o)
-grown-record k t u (accepted n) few G = let h = few n refl in omega arith
-grown-record k t u (refused n) few G = omega arith
-
-grown-slot : (k : ℕ) (t u : Totals) (slot : List ℕ) → Grown k t u → Grown (suc k) t (slotCounted u slot)
-grown-slot k t u slot G = go (isBlank slot)
+grown-slot : (k : ℕ) (s u : Progress) (slot : List ℕ) → Grown k s u → Grown (suc k) s (slotFurther u slot)
+grown-slot k s u slot G = go (isBlank slot) (recordOf slot) (few-places slot)
   where
-    go : (b : Bool) → Grown (suc k) t (cond b u (counted u (recordOf slot)))
-    go true = omega arith
-    go false = grown-record k t u (recordOf slot) (few-places slot) G
+    go : (b : Bool) (o : Outcome) → ((n : ℕ) → o ≡ accepted n → n ≤ mostChanges)
+        → Grown (suc k) s (record { next = u .next + 1; totals = cond b (u .totals) (counted (u .totals) o) })
+    go true o few = omega arith
+    go false (accepted n) few = let h = few n refl in omega arith
+    go false (refused n) few = omega arith
 
-totals-grown : (t : Totals) (part : List ℕ) (k : ℕ) → Grown k t (totalsOf t part k)
-unfolding totalsOf
-totals-grown t part zero = omega arith
-totals-grown t part (suc k) = grown-slot k t (totalsOf t part k) (recordAt part k) (totals-grown t part k)
+progress-grown : (s : Progress) (part : List ℕ) (k : ℕ) → Grown k s (overFirst erasureBytes slotFurther s part k)
+unfolding overFirst
+progress-grown s part zero = omega arith
+progress-grown s part (suc k) = grown-slot k s (overFirst erasureBytes slotFurther s part k) (recordAt part k) (progress-grown s part k)
 
 -- where a listing has come to u from s, over k slots
-pub progress-within : (b c : ℕ) (s u : Progress) (part : List ℕ) (k : ℕ) → u ≡ progressAt s part k → Within b s → b + k * mostChanges ≤ c
-    → Within c u
-progress-within b c s u part k e W h = let G = totals-grown (s .totals) part k in rw e (omega arith)
+pub progress-within : (b c : ℕ) (s u : Progress) (part : List ℕ) (k : ℕ) → u ≡ overFirst erasureBytes slotFurther s part k → Within b s
+    → b + k * mostChanges ≤ c → Within c u
+progress-within b c s u part k e W h = let G = progress-grown s part k in rw e (omega arith)
 
 -- the sum of changed places, in the last line of the listing of any card
 pub sum-most : (card : List ℕ) → partProgress start (listedPart card) .totals .changed ≤ 2000000
 sum-most card =
     let part = listedPart card in
     let most : length part ≤ mostRecords * recordSize = simp length-take (omega arith) in
-    omega (arith, totals-grown (start .totals) part (recordCount (length part)) .changed)
+    omega (arith, progress-grown start part (recordCount (length part)) .changed)

@@ -1,10 +1,10 @@
 -- The card check. Assumes nothing.
 use mathlib.Core.Path.{_≡_, refl, sym, ap, _∙_, subst}
 use mathlib.Core.Logic.{_↔_}
-use mathlib.Core.Bool.{Bool, true, false, cond, not}
+use mathlib.Core.Bool.{Bool, true, false, not, false≢true}
 use mathlib.Core.List.{List}
 use Prim.Native.Nat.{ℕ, zero, suc, _+_, _-_, _*_, _≤_, _<_}
-use native.Mathlib.Decide.{ℕ-discrete}
+use native.Mathlib.Decide.{decLt}
 use native.Mathlib.Omega.{arith}
 use borrow.Author.Count.{below-more}
 use borrow.Author.Tests.{not-true, not-false}
@@ -14,8 +14,10 @@ use Rattle.field.specs.declared.Question.{Question}
 use Rattle.code.specs.Call.{repair}
 use Rattle.code.specs.declared.Repair.{Repair}
 use Rattle.code.specs.declared.Repair.the-variants.{Restored, Refused}
-use Rattle.card.specs.Record.{recordSize, recordOf}
-use Rattle.card.specs.Card.{recordCount, recordAt, isAccepted, passes, fine, Check, noBad, bad, firstFrom, firstRefused, FirstBad, NoneBad, Checks}
+use Rattle.card.specs.Record.{erasureBytes, recordSize, recordOf}
+use Rattle.card.specs.Slots.{recordCount, recordAt, overFirst}
+use Rattle.card.specs.Card.{isAccepted, passes, fine, Check, noBad, bad, Search, passed, named, sought, searched, answer, firstRefused}
+use Rattle.card.specs.Card.{FirstBad, NoneBad, Checks}
 
 -- a shorter last piece
 pub last-piece : (card : List ℕ) (at : ℕ) → length card - at < recordSize
@@ -41,72 +43,68 @@ pass-no x q bytes e p = ap (λ (y : Repair). isAccepted (repair y)) (sym p) ∙ 
 -- ---- the first slot that is not fine
 
 module _ (card : List ℕ) where
-  -- the slots from i on, up to slot m, are fine
-  AllFine : ℕ → ℕ → Type 0
-  AllFine i m = (j : ℕ) → i ≤ j → j < m → fine (recordAt card j) ≡ true
+  unfoldable pub AllFine : ℕ → Type 0
+  AllFine n = (j : ℕ) → j < n → fine (recordAt card j) ≡ true
 
-  from-none : (i k : ℕ) → AllFine i (i + k) → firstFrom card i k ≡ noBad
-  unfolding firstFrom AllFine
-  from-none i zero h = refl
-  from-none i (suc k) h = rw (h i (omega arith) (omega arith)) (from-none (suc i) k (λ j l m. h j (omega arith) (omega arith)))
+  -- what a search over the first n slots says of them
+  unfoldable pub Means : ℕ → Search → Type 0
+  Means n (passed m) = (m ≡ n) × AllFine n
+  Means n (named m r) = (1 ≤ m) × (m ≤ n) × (r ≡ recordAt card (m - 1)) × (fine (recordAt card (m - 1)) ≡ false) × AllFine (m - 1)
 
-  from-some : (i k m : ℕ) → i ≤ m → m < i + k → AllFine i m → fine (recordAt card m) ≡ false → firstFrom card i k ≡ bad (suc m)
-  unfolding firstFrom AllFine
-  from-some i zero m l u h t = absurd (omega arith)
-  from-some i (suc k) m l u h t = go (ℕ-discrete i m) (λ a b. from-some (suc i) k m a b (λ j x y. h j (omega arith) y) t)
+  means : (n : ℕ) → Means n (overFirst erasureBytes sought (passed 0) card n)
+  unfolding overFirst AllFine Means
+  means zero = (refl, λ j h. absurd (omega arith))
+  means (suc n) = go (overFirst erasureBytes sought (passed 0) card n) (means n) (fine (recordAt card n)) refl
     where
-      go : Dec (i ≡ m) → (suc i ≤ m → m < suc i + k → firstFrom card (suc i) k ≡ bad (suc m))
-          → firstFrom card i (suc k) ≡ bad (suc m)
-      go (yes e) next = rw (ap (λ (n : ℕ). fine (recordAt card n)) e ∙ t) (ap (λ (n : ℕ). bad (suc n)) e)
-      go (no n) next = rw (h i (omega arith) (omega arith)) (next (omega arith) (omega arith))
+      go : (u : Search) → Means n u → (b : Bool) → fine (recordAt card n) ≡ b → Means (suc n) (sought u (recordAt card n))
+      go (named m r) M b t = (M .0, omega (arith, M .1), M .2, M .3, M .4)
+      go (passed m) M true t =
+          rw t (omega (arith, M .0), λ j h. below-more (λ (x : ℕ). fine (recordAt card x) ≡ true) n (M .1) t j (omega arith))
+      go (passed m) M false t =
+          let here : n ≡ m + 1 - 1 = omega (arith, M .0) in
+          rw t (
+            omega arith,
+            omega (arith, M .0),
+            ap (recordAt card) here,
+            ap (λ (x : ℕ). fine (recordAt card x)) (sym here) ∙ t,
+            λ j h. M .1 j (omega (arith, here)),
+          )
 
-  fine-more : (i m : ℕ) → fine (recordAt card i) ≡ true → AllFine (suc i) m → AllFine i m
-  unfolding AllFine
-  fine-more i m t h j l u = go (ℕ-discrete i j)
-    where
-      go : Dec (i ≡ j) → fine (recordAt card j) ≡ true
-      go (yes e) = ap (λ (n : ℕ). fine (recordAt card n)) (sym e) ∙ t
-      go (no n) = h j (omega arith) u
-
-  -- what an answer says
-  From : ℕ → ℕ → Check → Type 0
-  From i k noBad = AllFine i (i + k)
-  From i k (bad n) = (i < n) × (n ≤ i + k) × (fine (recordAt card (n - 1)) ≡ false) × AllFine i (n - 1)
-
-  from-means : (i k : ℕ) → From i k (firstFrom card i k)
-  unfolding firstFrom AllFine From
-  from-means i zero = λ j l m. absurd (omega arith)
-  from-means i (suc k) = go (fine (recordAt card i)) refl (firstFrom card (suc i) k) (from-means (suc i) k)
-    where
-      go : (b : Bool) → fine (recordAt card i) ≡ b → (r : Check) → From (suc i) k r → From i (suc k) (cond b r (bad (suc i)))
-      go true t noBad F = fine-more i (i + suc k) t (λ j l u. F j l (omega arith))
-      go true t (bad n) F = (omega (arith, F .0), omega (arith, F .1), F .2, fine-more i (n - 1) t (F .3))
-      go false t r F =
-          let less : suc i - 1 ≡ i = omega arith in
-          (omega arith, omega arith, ap (λ (n : ℕ). fine (recordAt card n)) less ∙ t, λ j l u. absurd (omega arith))
+  pub searched-means : Means (recordCount (length card)) (searched 0 card)
+  searched-means = means (recordCount (length card))
 
 -- the card check gives the number k exactly when record k would be refused and every record before it would be accepted or is blank
 pub first-some : (card : List ℕ) (k : ℕ) → firstRefused card ≡ bad k ↔ FirstBad card k
-unfolding AllFine From
-first-some card k = (
-  λ e.
-      let F = subst (From card 0 (recordCount (length card))) e (from-means card 0 (recordCount (length card))) in
-      record { number = F .0; inside = omega (arith, F .1); refused = F .2; before = λ j h. F .3 j (omega arith) h },
-  λ B.
-      let last : suc (k - 1) ≡ k = omega (arith, B .number) in
-      from-some card 0 (recordCount (length card)) (k - 1) (omega arith) (omega (arith, B .number, B .inside)) (λ j l h. B .before j h) (B .refused)
-      ∙ ap bad last,
-)
+unfolding AllFine Means
+first-some card k = (to (searched 0 card) (searched-means card), from (searched 0 card) (searched-means card))
+  where
+    to : (u : Search) → Means card (recordCount (length card)) u → answer u ≡ bad k → FirstBad card k
+    to (passed m) M e = let z : _≡_ {A = ℕ} 0 1 = cc in absurd (omega arith)
+    to (named m r) M e =
+        let same : m ≡ k = cc in
+        subst (FirstBad card) same (record { number = M .0; inside = M .1; refused = M .3; before = M .4 })
+
+    from : (u : Search) → Means card (recordCount (length card)) u → FirstBad card k → answer u ≡ bad k
+    from (passed m) M B = absurd (false≢true (sym (B .refused) ∙ M .1 (k - 1) (omega (arith, B .number, B .inside))))
+    from (named m r) M B = ap bad (go (decLt m k) (decLt k m))
+      where
+        go : Dec (m < k) → Dec (k < m) → m ≡ k
+        go (yes l) d = absurd (false≢true (sym (M .3) ∙ B .before (m - 1) (omega (arith, M .0))))
+        go (no n) (yes l) = absurd (false≢true (sym (B .refused) ∙ M .4 (k - 1) (omega (arith, B .number))))
+        go (no n) (no o) = omega arith
 
 -- it gives no number exactly when no record would be refused
 pub first-none : (card : List ℕ) → firstRefused card ≡ noBad ↔ NoneBad card
-unfolding AllFine From
-first-none card = (
-  λ e i h.
-      let F = subst (From card 0 (recordCount (length card))) e (from-means card 0 (recordCount (length card))) in
-      F i (omega arith) (omega arith),
-  λ N. from-none card 0 (recordCount (length card)) (λ j l h. N j (omega arith)),
-)
+unfolding AllFine Means
+first-none card = (to (searched 0 card) (searched-means card), from (searched 0 card) (searched-means card))
+  where
+    to : (u : Search) → Means card (recordCount (length card)) u → answer u ≡ noBad → NoneBad card
+    to (passed m) M e = M .1
+    to (named m r) M e = let z : _≡_ {A = ℕ} 0 1 = cc in absurd (omega arith)
+
+    from : (u : Search) → Means card (recordCount (length card)) u → NoneBad card → answer u ≡ noBad
+    from (passed m) M N = refl
+    from (named m r) M N = absurd (false≢true (sym (M .3) ∙ N (m - 1) (omega (arith, M .0, M .1))))
 
 -- and it is a card check as document 01 has it
 pub checks : (card : List ℕ) → Checks card (firstRefused card)

@@ -17,11 +17,10 @@ use Rattle.field.specs.declared.Verdict.the-variants.{Passed, Refused}
 use Rattle.field.proofs.Ask.{ask-yes, and-true-left, and-true-right}
 use Rattle.code.specs.Call.{written, done}
 use Rattle.card.specs.Record.{sizeOf, hasWidth, fewIn, paddedIn, erasureBytes}
-use Rattle.card.specs.Card.{slotIn, blankIn}
-use Rattle.card.specs.Conversion.{oldErasureBytes, slotCount, convertedSlots, convertedCard, lengthsFit, blankOr}
-use Rattle.card.specs.Conversion.{every, everyRecord, atMostFour}
+use Rattle.card.specs.Slots.{slotIn, blankIn, slotCount, overFirst}
+use Rattle.card.specs.Conversion.{oldErasureBytes, convertedCard, lengthsFit, blankOr, everyRecord, atMostFour}
+use Rattle.card.specs.Leading.{convertedSlots, every, cardPasses, verdictAt}
 use Rattle.card.specs.Conversion.{cardAsked, fourAsked, Converts, toNewAsked, toOldAsked}
-use Rattle.card.specs.Leading.{cardPasses, verdictAt}
 use Rattle.card.proofs.Layouts.{asked-late, few-fit}
 use Rattle.card.proofs.Leading.{verdict-card}
 
@@ -123,7 +122,7 @@ or-follows false x y f h = f h
 
 module _ (k : ℕ) (p : List ℕ → Bool) (card : List ℕ) where
   pub every-at : (n : ℕ) → every k p card n ≡ true → (i : ℕ) → i < n → blankOr k p (slotIn k card i) ≡ true
-  unfolding every
+  unfolding overFirst
   every-at zero h i l = absurd (omega arith)
   every-at (suc n) h i l = go (ℕ-discrete i n) (every-at n (and-true-left (every k p card n) (blankOr k p (slotIn k card n)) h) i)
     where
@@ -133,7 +132,7 @@ module _ (k : ℕ) (p : List ℕ → Bool) (card : List ℕ) where
       go (no e) f = f (omega arith)
 
   pub every-all : (n : ℕ) → ((i : ℕ) → i < n → blankOr k p (slotIn k card i) ≡ true) → every k p card n ≡ true
-  unfolding every
+  unfolding overFirst
   every-all zero f = refl
   every-all (suc n) f =
       ap (λ (x : Bool). x && blankOr k p (slotIn k card n)) (every-all n (λ i h. f i (omega arith))) ∙ f n (omega arith)

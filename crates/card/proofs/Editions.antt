@@ -17,11 +17,11 @@ use Rattle.code.specs.Word.{places}
 use Rattle.code.specs.Call.{maxErasures, restoreOf}
 use Rattle.card.specs.Record.{sizeOf, widthOf, countOf, erasuresOf, unusedIn, wordIn, tailIn, allowedIn, allAre}
 use Rattle.card.specs.Record.{hasWidth, fewIn, paddedIn, askedIn, erasureBytes, recordWithinOf, recordOf}
-use Rattle.card.specs.Card.{blankIn}
+use Rattle.card.specs.Slots.{blankIn}
 use Rattle.card.specs.Conversion.{oldErasureBytes, converted, blankOr, atMostFour, outcomeIn, SameSlot}
 use Rattle.card.proofs.Layouts.{all-replicate}
 use Rattle.card.proofs.Blank.{blank-whole, blank-asked}
-use Rattle.card.proofs.Slots.{converted-size}
+use Rattle.card.proofs.Converted.{converted-size}
 
 -- the slot in the other edition
 abbrev pub toNew : List ℕ → List ℕ

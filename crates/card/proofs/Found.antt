@@ -2,30 +2,28 @@
 -- the conversion's verdict and the first offending record. Assumes nothing.
 use mathlib.Core.Path.{_≡_, refl, sym, ap, ap₂, _∙_, subst}
 use mathlib.Core.Bool.{Bool, true, false}
-use mathlib.Core.List.{List, [], _∷_, _++_, append-assoc, append-nil}
+use mathlib.Core.List.{List, [], _∷_, _++_}
 use mathlib.Core.Logic.{_⊎_, inl, inr, ⊎-elim}
 use Prim.Native.Nat.{ℕ, zero, suc, _+_, _-_, _*_, _/_, _%_, _≤_, _<_, min}
 use native.Mathlib.Decide.{ℕ-discrete}
-use native.Mathlib.Nat.{add-zero, add-suc, div-mul-le-self, mul-add-div-right, mul-add-mod-self-right}
-use native.Mathlib.Numerals.{add-one}
+use native.Mathlib.Nat.{add-zero, div-mul-le-self}
 use native.Mathlib.Omega.{arith}
 use borrow.Author.Count.{below-more}
 use borrow.Author.Tests.{ltb-true, ltb-false, eq-eqb, ne-eqb, eqb-true}
 use lib.Dec.{eqb, ltb}
-use lib.ListN.{length, getD, length-append}
+use lib.ListN.{length, getD}
 use Rattle.field.specs.Question.{ask}
 use Rattle.field.specs.declared.Question.the-variants.{Length}
 use Rattle.field.specs.declared.Verdict.the-variants.{Passed, Refused}
 use Rattle.field.proofs.Ask.{ask-yes, ask-next}
 use Rattle.card.specs.declared.parts.Findings.{Findings}
 use Rattle.card.specs.Record.{sizeOf, erasureBytes}
-use Rattle.card.specs.Card.{slotIn}
-use Rattle.card.specs.Conversion.{oldErasureBytes, converted, convertedSlots, convertedCard, slotCount, blankOr, every, atMostFour}
-use Rattle.card.specs.Conversion.{cardAsked, fourAsked}
-use Rattle.card.specs.Leading.{leading, answers, slotPasses, cardPasses, verdictAt}
-use Rattle.card.specs.Found.{nothingFound, slotFound, slotsFound, partFound, foundVerdict, foundNumber, answerAt}
+use Rattle.card.specs.Slots.{slotIn, slotCount, overFirst, appended}
+use Rattle.card.specs.Conversion.{oldErasureBytes, converted, convertedCard, blankOr, atMostFour, cardAsked, fourAsked}
+use Rattle.card.specs.Leading.{convertedSlots, every, leading, answers, slotPasses, cardPasses, verdictAt}
+use Rattle.card.specs.Found.{nothingFound, slotFound, partFound, foundVerdict, foundNumber, answerAt}
 use Rattle.card.specs.Found.{FoundInParts, NumberIs, ToNewInParts, ToOldInParts}
-use Rattle.card.proofs.Slots.{slot-front, slot-behind}
+use Rattle.card.proofs.Folding.{whole-parts, rest-two, each-front}
 use Rattle.card.proofs.Leading.{passed-start, one-more}
 use Rattle.card.proofs.Converting.{card-whole, lengths-whole, lengths-are, asked-refused, asked-verdict, passed-out, new-asked, old-asked}
 
@@ -61,19 +59,14 @@ module _ (k : ℕ) (s : Findings) (slot : List ℕ) where
 pub slots-fit : (k : ℕ) (part : List ℕ) (s : ℕ) → s ≡ sizeOf k → length part / s * sizeOf k ≤ length part
 slots-fit k part s e = subst (λ (x : ℕ). length part / s * x ≤ length part) e (div-mul-le-self (length part) s)
 
+-- the first n slots of a part
+abbrev pub slotsFound : ℕ → Findings → List ℕ → ℕ → Findings
+slotsFound k s part n = overFirst k (slotFound k) s part n
+
 module _ (k : ℕ) (s : Findings) (part : List ℕ) where
-  pub found-start : s ≡ slotsFound k s part 0
-  unfolding slotsFound
-  found-start = refl
-
-  pub found-more : (i : ℕ) (slot : List ℕ) (u v : Findings) → u ≡ slotsFound k s part i → v ≡ slotFound k u slot → slot ≡ slotIn k part i
-      → v ≡ slotsFound k s part (i + 1)
-  unfolding slotsFound
-  found-more i slot u v eu ev es = rw (add-one i) (ev ∙ ap₂ (slotFound k) eu es)
-
   -- the slots are counted
   pub found-slots : (n : ℕ) → slotsFound k s part n .slots ≡ s .slots + n
-  unfolding slotsFound
+  unfolding overFirst
   found-slots zero = sym (add-zero (s .slots))
   found-slots (suc n) =
       let u = slotsFound k s part n in
@@ -82,7 +75,7 @@ module _ (k : ℕ) (s : Findings) (part : List ℕ) where
 
   -- the fewest questions that a slot passes
   found-least : s .passed ≤ 4 → (n : ℕ) → slotsFound k s part n .passed ≡ min (s .passed) (cardPasses k part n)
-  unfolding slotsFound
+  unfolding overFirst
   found-least h zero = omega (arith, passed-start k part)
   found-least h (suc n) =
       let u = slotsFound k s part n in
@@ -115,64 +108,23 @@ module _ (k : ℕ) (a b : List ℕ) (w : length a % sizeOf k ≡ 0) where
   whole : length a ≡ slotCount k (length a) * sizeOf k
   whole = card-whole k (length a) (sizeOf k) refl w
 
-  length-two : length (a ++ b) ≡ slotCount k (length a) * sizeOf k + length b
-  length-two = length-append a b ∙ ap (λ (x : ℕ). x + length b) whole
-
-  count-two : slotCount k (length (a ++ b)) ≡ slotCount k (length a) + slotCount k (length b)
-  count-two = ap (λ (x : ℕ). x / sizeOf k) length-two ∙ mul-add-div-right (omega arith) (slotCount k (length a)) (length b)
-
-  pub rest-two : length (a ++ b) % sizeOf k ≡ length b % sizeOf k
-  rest-two = ap (λ (x : ℕ). x % sizeOf k) length-two ∙ mul-add-mod-self-right (slotCount k (length a)) (sizeOf k) (length b)
-
-  front : (i : ℕ) → i < slotCount k (length a) → slotIn k (a ++ b) i ≡ slotIn k a i
-  front i h = slot-front k a b i (slotCount k (length a)) h (omega (arith, whole))
-
-  behind : (i : ℕ) → slotIn k (a ++ b) (slotCount k (length a) + i) ≡ slotIn k b i
-  behind i = slot-behind k a b i (slotCount k (length a)) whole
-
-  module _ (s : Findings) where
-    found-front : (n : ℕ) → n ≤ slotCount k (length a) → slotsFound k s (a ++ b) n ≡ slotsFound k s a n
-    unfolding slotsFound
-    found-front zero h = refl
-    found-front (suc n) h = ap₂ (slotFound k) (found-front n (omega arith)) (front n h)
-
-    found-two : (n : ℕ) → slotsFound k s (a ++ b) (slotCount k (length a) + n) ≡ slotsFound k (partFound k s a) b n
-    unfolding slotsFound
-    found-two zero = rw (add-zero (slotCount k (length a))) (found-front (slotCount k (length a)) (omega arith))
-    found-two (suc n) = rw (add-suc (slotCount k (length a)) n) (ap₂ (slotFound k) (found-two n) (behind n))
-
-  module _ (j : ℕ) where
-    converted-front : (n : ℕ) → n ≤ slotCount k (length a) → convertedSlots k j (a ++ b) n ≡ convertedSlots k j a n
-    unfolding convertedSlots
-    converted-front zero h = refl
-    converted-front (suc n) h = ap₂ (λ (l r : List ℕ). l ++ converted k j r) (converted-front n (omega arith)) (front n h)
-
-    converted-two : (n : ℕ) → convertedSlots k j (a ++ b) (slotCount k (length a) + n) ≡ convertedCard k j a ++ convertedSlots k j b n
-    unfolding convertedSlots
-    converted-two zero =
-        rw (add-zero (slotCount k (length a)))
-        (converted-front (slotCount k (length a)) (omega arith) ∙ sym (append-nil (convertedCard k j a)))
-    converted-two (suc n) =
-        rw (add-suc (slotCount k (length a)) n)
-        (ap₂ (λ (l r : List ℕ). l ++ converted k j r) (converted-two n) (behind n)
-        ∙ append-assoc (convertedCard k j a) (convertedSlots k j b n) (converted k j (slotIn k b n)))
-
-    converted-both : convertedCard k j (a ++ b) ≡ convertedCard k j a ++ convertedCard k j b
-    converted-both = ap (convertedSlots k j (a ++ b)) count-two ∙ converted-two (slotCount k (length b))
+  converted-both : (j : ℕ) → convertedCard k j (a ++ b) ≡ convertedCard k j a ++ convertedCard k j b
+  converted-both j =
+      whole-parts k (appended (converted k j)) a b (slotCount k (length a)) whole []
+      ∙ each-front k (converted k j) (convertedCard k j a) b (slotCount k (length b))
 
   passes-two : cardPasses k (a ++ b) (slotCount k (length (a ++ b)))
       ≡ min (cardPasses k a (slotCount k (length a))) (cardPasses k b (slotCount k (length b)))
   passes-two =
       let n = slotCount k (length a) in
       let m = slotCount k (length b) in
-      ap (cardPasses k (a ++ b)) count-two
-      ∙ sym (found-passed k (a ++ b) (n + m))
-      ∙ ap (λ (v : Findings). v .passed) (found-two nothingFound m)
+      sym (found-passed k (a ++ b) (slotCount k (length (a ++ b))))
+      ∙ ap (λ (v : Findings). v .passed) (whole-parts k (slotFound k) a b n whole nothingFound)
       ∙ found-least k (partFound k nothingFound a) b (omega (arith, found-passed k a n, passes-most k a n)) m
       ∙ ap (λ (x : ℕ). min x (cardPasses k b m)) (found-passed k a n)
 
 pub found-in-parts : FoundInParts
-found-in-parts k s a b w = ap (slotsFound k s (a ++ b)) (count-two k a b w) ∙ found-two k a b w s (slotCount k (length b))
+found-in-parts k s a b w = whole-parts k (slotFound k) a b (slotCount k (length a)) (whole k a b w) s
 
 -- ---- the verdict
 
@@ -247,7 +199,7 @@ module _ (k j : ℕ) (a b : List ℕ) (m : ℕ) (w : length a % sizeOf k ≡ 0)
 
   behind-passes : cardAsked k j b (slotCount k (length b) * sizeOf j) (fourAsked k b) ≡ Passed
   unfolding n right
-  behind-passes = tells-passed k j b (sym (rest-two k a b w) ∙ told .0) (omega (arith, told .1, passes-two k a b w))
+  behind-passes = tells-passed k j b (sym (rest-two k a b (slotCount k (length a)) (whole k a b w)) ∙ told .0) (omega (arith, told .1, passes-two k a b w))
 
 pub to-new-in-parts : ToNewInParts
 unfolding right
@@ -334,7 +286,7 @@ module _ (k : ℕ) (card : List ℕ) where
         (slot-found k s (slotIn k card n))
 
   found : (n : ℕ) → Least n (slotsFound k nothingFound card n)
-  unfolding slotsFound
+  unfolding overFirst
   found zero =
       record {
         most = omega arith;

@@ -8,10 +8,10 @@ use Rattle.field.specs.Question.{ask}
 use Rattle.field.specs.declared.Question.the-variants.{Width, ErasureCount, Padding, FourErasures}
 use Rattle.field.specs.declared.Verdict.the-variants.{Passed}
 use Rattle.card.specs.Record.{hasWidth, fewIn, paddedIn}
-use Rattle.card.specs.Card.{slotIn, blankIn}
-use Rattle.card.specs.Conversion.{oldErasureBytes, blankOr, every, atMostFour}
+use Rattle.card.specs.Slots.{slotIn, blankIn, overFirst}
+use Rattle.card.specs.Conversion.{oldErasureBytes, blankOr, atMostFour}
+use Rattle.card.specs.Leading.{every, leading, recordPasses, slotPasses, cardPasses, verdictAt}
 use Rattle.card.proofs.Layouts.{verdict-asked}
-use Rattle.card.specs.Leading.{leading, recordPasses, slotPasses, cardPasses, verdictAt}
 
 -- ---- a slot; b is what `is_blank` says of it
 
@@ -42,11 +42,11 @@ both-pass a b c d a′ b′ c′ d′ =
 
 module _ (k : ℕ) (card : List ℕ) where
   pub passed-start : 4 ≡ cardPasses k card 0
-  unfolding cardPasses every
+  unfolding cardPasses overFirst
   passed-start = refl
 
   pub one-more : (n : ℕ) → cardPasses k card (suc n) ≡ min (cardPasses k card n) (slotPasses k (slotIn k card n))
-  unfolding cardPasses slotPasses every
+  unfolding cardPasses slotPasses overFirst
   one-more n =
       let e : (List ℕ → Bool) → Bool = λ p. every k p card n in
       let o : (List ℕ → Bool) → Bool = λ p. blankOr k p (slotIn k card n) in

@@ -1,31 +1,24 @@
 -- Listing slot by slot, and a listing in parts: the lines and the progress of two parts are those of the first and then those of the
 -- second. Assumes nothing.
 use borrow.Author.Tests.{lt-ltb, le-ltb}
-use mathlib.Core.Path.{_≡_, refl, sym, ap, ap₂, _∙_}
+use mathlib.Core.Path.{_≡_, refl, sym, ap, ap₂, _∙_, subst}
 use mathlib.Core.Bool.{Bool, true, false, cond}
 use mathlib.Core.List.{List, [], _++_, append-assoc, append-nil}
-use Prim.Native.Nat.{ℕ, zero, suc, _+_, _*_, _≤_, _<_}
-use native.Mathlib.Nat.{add-zero, add-suc}
-use native.Mathlib.Numerals.{add-one}
+use Prim.Native.Nat.{ℕ, _+_, _*_, _≤_, _<_}
 use native.Mathlib.Omega.{arith}
 use lib.ListN.{length, getD, length-append, length-take, length-drop}
 use lib.Seq.{take-all, take-at}
 use Rattle.field.specs.Question.{Outcome}
-use Rattle.card.specs.declared.Totals.{Totals}
 use Rattle.card.specs.declared.Progress.{Progress}
 use Rattle.card.specs.declared.text.Listed.{Listed}
 use Rattle.card.specs.Record.{erasureBytes, recordSize, recordOf}
-use Rattle.card.specs.Card.{recordCount, recordAt, isBlank}
-use Rattle.card.specs.Listing.{lineText, refusalOf, changesOf, recordLine, blankLine, slotLine, counted, slotCounted, linesOf, totalsOf, progressAt}
-use Rattle.card.specs.Listing.{partLines, partProgress}
-use Rattle.card.specs.Listing.{totalLine, moreLine, mostRecords, start, listing}
+use Rattle.card.specs.Slots.{recordCount, recordAt, isBlank, overFirst, overSlots}
+use Rattle.card.specs.Listing.{lineText, refusalOf, changesOf, recordLine, blankLine, slotLine, counted, slotCounted, slotFurther}
+use Rattle.card.specs.Listing.{Told, slotTold, untold, partLines, partProgress, totalLine, moreLine, mostRecords, start, listing}
 use Rattle.card.specs.Batch.{further, Lists}
 use Rattle.card.proofs.Slots.{slot-front, slot-behind}
+use Rattle.card.proofs.Folding.{over-more, over-map, in-parts}
 use Rattle.card.proofs.Writing.{writes-none, writes-on}
-
--- the progress with this next number and these totals
-abbrev at : ℕ → Totals → Progress
-at n t = record { next = n; totals = t }
 
 -- ---- listing slot by slot
 
@@ -50,32 +43,43 @@ module _ (slot : List ℕ) (b : Bool) (e : b ≡ isBlank slot) (done : Listed) {
       → Lists (done .used) (slotLine (done .progress .next) slot) (further (done .progress) (slotCounted (done .progress .totals) slot)) old next new
   lists-record t l = let f : isBlank slot ≡ false = sym e ∙ t in rw f l
 
-module _ (s : Progress) (batch : List ℕ) where
-  pub lists-none : (out : List ℕ)
-      → Lists 0 (linesOf (s .next) batch 0) (progressAt s batch 0) out (record { used = 0; progress = s }) out
-  unfolding linesOf totalsOf
-  lists-none out = record { text = writes-none out 0 (omega arith); progress = ap (λ (n : ℕ). at n (s .totals)) (sym (add-zero (s .next))) }
+-- with a slot more
+pub lists-on : (t : Told) (slot : List ℕ) {done next : Listed} {a b c : List ℕ} → Lists 0 (t .text) (t .progress) a done b
+    → Lists (done .used) (slotLine (done .progress .next) slot) (slotFurther (done .progress) slot) b next c
+    → Lists 0 (slotTold t slot .text) (slotTold t slot .progress) a next c
+lists-on t slot w v =
+    record {
+      text = rw (← w .progress) (writes-on (w .text) (v .text));
+      progress = v .progress ∙ ap (λ (u : Progress). slotFurther u slot) (w .progress);
+    }
 
-  pub progress-more : (i : ℕ)
-      → further (progressAt s batch i) (slotCounted (totalsOf (s .totals) batch i) (recordAt batch i)) ≡ progressAt s batch (i + 1)
-  unfolding totalsOf
-  progress-more i =
-      let number : s .next + i + 1 ≡ s .next + suc i = omega arith in
-      rw (add-one i) (ap (λ (n : ℕ). at n (totalsOf (s .totals) batch (suc i))) number)
+-- the first i slots of a batch
+module _ (s : Progress) (batch : List ℕ) where
+  abbrev pub toldFirst : ℕ → Told
+  toldFirst i = overFirst erasureBytes slotTold (untold s) batch i
+
+  pub lists-none : (out : List ℕ) → Lists 0 (toldFirst 0 .text) (toldFirst 0 .progress) out (record { used = 0; progress = s }) out
+  unfolding overFirst
+  lists-none out = record { text = writes-none out 0 (omega arith); progress = refl }
 
   pub lists-more : (i : ℕ) (slot : List ℕ) → slot ≡ recordAt batch i → {done next : Listed} {a b c : List ℕ}
-      → Lists 0 (linesOf (s .next) batch i) (progressAt s batch i) a done b
-      → Lists (done .used) (slotLine (done .progress .next) slot) (further (done .progress) (slotCounted (done .progress .totals) slot)) b next c
-      → Lists 0 (linesOf (s .next) batch (i + 1)) (progressAt s batch (i + 1)) a next c
-  unfolding linesOf
-  lists-more i slot e {done} w v =
-      let number : done .progress .next ≡ s .next + i = ap (λ (u : Progress). u .next) (w .progress) in
-      record {
-        text = rw (add-one i, ← e, ← number) (writes-on (w .text) (v .text));
-        progress = v .progress
-            ∙ ap₂ (λ (u : Progress) (r : List ℕ). further u (slotCounted (u .totals) r)) (w .progress) e
-            ∙ progress-more i;
-      }
+      → Lists 0 (toldFirst i .text) (toldFirst i .progress) a done b
+      → Lists (done .used) (slotLine (done .progress .next) slot) (slotFurther (done .progress) slot) b next c
+      → Lists 0 (toldFirst (i + 1) .text) (toldFirst (i + 1) .progress) a next c
+  lists-more i slot e {done} {next} {a} {b} {c} w v =
+      subst (λ (t : Told). Lists 0 (t .text) (t .progress) a next c)
+      (ap (slotTold (toldFirst i)) e ∙ over-more erasureBytes slotTold (untold s) batch i) (lists-on (toldFirst i) slot w v)
+
+  -- how far it has come
+  pub told-progress : (i : ℕ) → overFirst erasureBytes slotTold (untold s) batch i .progress ≡ overFirst erasureBytes slotFurther s batch i
+  told-progress i = over-map erasureBytes slotTold slotFurther (λ (t : Told). t .progress) (λ t slot. refl) (untold s) batch i
+
+  pub lists-end : (i : ℕ) → i ≡ recordCount (length batch) → {r : Listed} {old new : List ℕ}
+      → Lists 0 (toldFirst i .text) (toldFirst i .progress) old r new → Lists 0 (partLines s batch) (partProgress s batch) old r new
+  lists-end i e {r} {old} {new} L =
+      let M : Lists 0 (toldFirst i .text) (overFirst erasureBytes slotFurther s batch i) old r new =
+      record { text = L .text; progress = L .progress ∙ told-progress i } in
+      rw e at M
 
 -- ---- two parts, the first of j whole slots
 
@@ -86,49 +90,30 @@ module _ (a b : List ℕ) where
   pub record-behind : (i j : ℕ) → length a ≡ j * recordSize → recordAt (a ++ b) (j + i) ≡ recordAt b i
   record-behind = slot-behind erasureBytes a b
 
-  -- the first slots stand in the first part alone
-  lines-front : (n j : ℕ) → j * recordSize ≤ length a → linesOf n (a ++ b) j ≡ linesOf n a j
-  unfolding linesOf
-  lines-front n zero h = refl
-  lines-front n (suc j) h =
-      ap₂ (λ (l r : List ℕ). l ++ slotLine (n + j) r) (lines-front n j (omega arith)) (record-front j (suc j) (omega arith) h)
+-- text that stands before the lines of a part
+told-front : (t : Told) (part : List ℕ) → overSlots slotTold t part .text ≡ t .text ++ partLines (t .progress) part
+told-front t part =
+    ap (λ (u : Told). u .text)
+    (sym (over-map erasureBytes slotTold slotTold before (λ u slot. ap (told (slotFurther (u .progress) slot)) (sym (append-assoc (t .text) (u .text) _)))
+    (untold (t .progress)) part (recordCount (length part))
+    ∙ ap (λ (xs : List ℕ). overSlots slotTold (told (t .progress) xs) part) (append-nil (t .text))))
+  where
+    told : Progress → List ℕ → Told
+    told = λ s xs. record { text = xs; progress = s }
 
-  totals-front : (t : Totals) (j : ℕ) → j * recordSize ≤ length a → totalsOf t (a ++ b) j ≡ totalsOf t a j
-  unfolding totalsOf
-  totals-front t zero h = refl
-  totals-front t (suc j) h =
-      ap₂ slotCounted (totals-front t j (omega arith)) (record-front j (suc j) (omega arith) h)
+    before : Told → Told
+    before = λ u. told (u .progress) (t .text ++ u .text)
 
-  module _ (j : ℕ) (whole : length a ≡ j * recordSize) where
-    lines-two : (n k : ℕ) → linesOf n (a ++ b) (j + k) ≡ linesOf n a j ++ linesOf (n + j) b k
-    unfolding linesOf
-    lines-two n zero = rw (add-zero j) (lines-front n j (omega arith) ∙ sym (append-nil (linesOf n a j)))
-    lines-two n (suc k) =
-        let number : n + (j + k) ≡ n + j + k = omega arith in
-        rw (add-suc j k)
-        (ap₂ _++_ (lines-two n k) (ap₂ slotLine number (record-behind k j whole))
-        ∙ append-assoc (linesOf n a j) (linesOf (n + j) b k) (slotLine (n + j + k) (recordAt b k)))
-
-    totals-two : (t : Totals) (k : ℕ) → totalsOf t (a ++ b) (j + k) ≡ totalsOf (totalsOf t a j) b k
-    unfolding totalsOf
-    totals-two t zero = rw (add-zero j) (totals-front t j (omega arith))
-    totals-two t (suc k) =
-        rw (add-suc j k) (ap₂ slotCounted (totals-two t k) (record-behind k j whole))
-
-    count-first : recordCount (length a) ≡ j
-    count-first = omega arith
-
-    count-two : recordCount (length (a ++ b)) ≡ j + recordCount (length b)
-    count-two = simp length-append (omega arith)
-
-    -- The listing of two parts is that of the first, and behind it that of the second from where the first has come to.
-    pub listing-batches : (s : Progress)
-        → (partLines s (a ++ b) ≡ partLines s a ++ partLines (partProgress s a) b)
-        × (partProgress s (a ++ b) ≡ partProgress (partProgress s a) b)
-    listing-batches s =
-        let k = recordCount (length b) in
-        let number : s .next + (j + k) ≡ s .next + j + k = omega arith in
-        rw (count-two, count-first) (lines-two (s .next) k, ap₂ at number (totals-two (s .totals) k))
+-- The listing of two parts is that of the first, and behind it that of the second from where the first has come to.
+pub listing-batches : (a b : List ℕ) (j : ℕ) → length a ≡ j * recordSize → (s : Progress)
+    → (partLines s (a ++ b) ≡ partLines s a ++ partLines (partProgress s a) b)
+    × (partProgress s (a ++ b) ≡ partProgress (partProgress s a) b)
+listing-batches a b j whole s = (
+  ap (λ (t : Told). t .text) (in-parts slotTold a b j whole (untold s))
+      ∙ told-front (overSlots slotTold (untold s) a) b
+      ∙ ap (λ (u : Progress). partLines s a ++ partLines u b) (told-progress s a (recordCount (length a))),
+  in-parts slotFurther a b j whole s,
+)
 
 -- ---- the whole listing
 

@@ -3,13 +3,12 @@ use mathlib.Core.Path.{_≡_, refl, sym, ap, ap₂, _∙_, subst}
 use mathlib.Core.Bool.{Bool, true, _&&_}
 use mathlib.Core.List.{List, _++_}
 use Prim.Native.Nat.{ℕ, zero, suc, _+_, _*_, _/_, _%_, _≤_, _<_}
-use native.Mathlib.Decide.{ℕ-discrete}
 use native.Mathlib.Nat.{zero-mul, suc-mul, mul-div-cancel, mul-mod-left}
 use native.Mathlib.Omega.{arith}
 use borrow.Author.Tests.{eq-eqb}
 use lib.Dec.{eqb}
-use lib.ListN.{length, take, drop, length-drop}
-use lib.Seq.{take-all, take-add, drop-at, drop-append-le, take-append-le}
+use lib.ListN.{length, take}
+use lib.Seq.{take-all, take-add}
 use Rattle.field.specs.Question.{accepted, ask}
 use Rattle.field.specs.declared.Question.{Question}
 use Rattle.field.specs.declared.Question.the-variants.{Width, Length, ErasureCount, Padding, FourErasures}
@@ -18,51 +17,22 @@ use Rattle.field.specs.declared.Verdict.the-variants.{Passed, Refused}
 use Rattle.field.proofs.Ask.{ask-yes, ask-next}
 use Rattle.code.specs.Call.{written, done}
 use Rattle.card.specs.Record.{sizeOf, hasWidth, fewIn, paddedIn, erasureBytes}
-use Rattle.card.specs.Card.{slotIn}
-use Rattle.card.specs.Conversion.{oldErasureBytes, converted, convertedSlots, slotCount, convertedCard, lengthsFit, blankOr}
-use Rattle.card.specs.Conversion.{every, everyRecord, atMostFour}
+use Rattle.card.specs.Slots.{slotIn, slotCount, overFirst}
+use Rattle.card.specs.Conversion.{oldErasureBytes, converted, convertedCard, lengthsFit, blankOr, everyRecord, atMostFour}
+use Rattle.card.specs.Leading.{convertedSlots, every}
 use Rattle.card.specs.Conversion.{cardAsked, fourAsked, toNewAsked, toNewOf, toNewWritten, toOldAsked, toOldOf, toOldWritten}
 use Rattle.card.specs.Conversion.{ThereAndBack, BackAndThere, SameSlot, SameSlots, NewSame, OldSame}
-use Rattle.card.proofs.Slots.{slot-before, slot-size, converted-size, slots-size}
+use Rattle.card.proofs.Slots.{slot-size}
+use Rattle.card.proofs.Converted.{converted-size, slots-size, converted-slot}
 use Rattle.card.proofs.Converting.{passed-card, passed-out, every-at, every-all}
 use Rattle.card.proofs.Editions.{Slot, toNew, toOld, twins, slot-new, slot-old, slot-twin, same-slot}
 
 -- ---- the slots of a converted card
 
-module _ (k j : ℕ) (sized : (r : List ℕ) → length r ≡ sizeOf k → length (converted k j r) ≡ sizeOf j) (card : List ℕ) (n : ℕ)
-    (size : length card ≡ n * sizeOf k) where
-  pub converted-slot : (m : ℕ) → m ≤ n → (i : ℕ) → i < m → slotIn j (convertedSlots k j card m) i ≡ converted k j (slotIn k card i)
-  unfolding convertedSlots
-  converted-slot zero h i l = absurd (omega arith)
-  converted-slot (suc m) h i l = go (ℕ-discrete i m) (converted-slot m (omega arith) i)
-    where
-      done : List ℕ
-      done = convertedSlots k j card m
-
-      last : List ℕ
-      last = converted k j (slotIn k card m)
-
-      long : length done ≡ m * sizeOf j
-      long = slots-size k j card sized n size m (omega arith)
-
-      go : Dec (i ≡ m) → (i < m → slotIn j done i ≡ converted k j (slotIn k card i))
-          → slotIn j (done ++ last) i ≡ converted k j (slotIn k card i)
-      go (yes e) f =
-          ap (λ (x : ℕ). slotIn j (done ++ last) x) e
-          ∙ ap (take (sizeOf j)) (drop-at done last (m * sizeOf j) long)
-          ∙ take-all (sizeOf j) last (omega (arith, sized (slotIn k card m) (slot-size k card n size m h)))
-          ∙ ap (λ (x : ℕ). converted k j (slotIn k card x)) (sym e)
-      go (no e) f =
-          let l : i < m = omega arith in
-          let inside = slot-before (sizeOf j) i m l in
-          ap (take (sizeOf j)) (drop-append-le (i * sizeOf j) done last (omega (arith, inside, long)))
-          ∙ take-append-le (sizeOf j) (drop (i * sizeOf j) done) last (simp length-drop (omega (arith, inside, long)))
-          ∙ f l
-
 -- a card whose slots, converted, are those of another is converted into the other
 module _ (k j : ℕ) (card other : List ℕ) (n : ℕ) (same : (i : ℕ) → i < n → converted k j (slotIn k card i) ≡ slotIn j other i) where
   first-slots : (m : ℕ) → m ≤ n → convertedSlots k j card m ≡ take (m * sizeOf j) other
-  unfolding convertedSlots
+  unfolding overFirst
   first-slots zero h = sym (ap (λ (x : ℕ). take x other) (zero-mul (sizeOf j)))
   first-slots (suc m) h =
       ap₂ _++_ (first-slots m (omega arith)) (same m h)
@@ -191,7 +161,7 @@ new-cards card m p =
     record {
       old-size = A .card-size;
       new-size = slots-size k erasureBytes card sized n (A .card-size) n (omega arith);
-      twin = converted-slot k erasureBytes sized card n (A .card-size) n (omega arith);
+      twin = converted-slot k erasureBytes card sized n (A .card-size) n (omega arith);
       slots = A .slots;
     }
 
@@ -223,7 +193,7 @@ module _ (card : List ℕ) (m : ℕ) (p : toOldAsked card m ≡ Passed) where
 
   slot : (i : ℕ) → i < n
       → slotIn oldErasureBytes (convertedSlots erasureBytes oldErasureBytes card n) i ≡ toOld (slotIn erasureBytes card i)
-  slot = converted-slot erasureBytes oldErasureBytes sized card n (A .card-size) n (omega arith)
+  slot = converted-slot erasureBytes oldErasureBytes card sized n (A .card-size) n (omega arith)
 
   back : (i : ℕ) → i < n → toNew (toOld (slotIn erasureBytes card i)) ≡ slotIn erasureBytes card i
   back i h = slot-twin (slotIn erasureBytes card i) (size i h) (A .slots i h) (four i h)

@@ -1,13 +1,13 @@
 -- Listing a card in batches, into a buffer. Assumes nothing.
 use mathlib.Core.Path.{_≡_}
-use mathlib.Core.Bool.{Bool, true}
+use mathlib.Core.Bool.{Bool}
 use mathlib.Core.List.{List}
 use Prim.Native.Nat.{ℕ, _+_, _*_, _^_, _≤_}
-use lib.ListN.{length}
 use Rattle.card.specs.declared.Totals.{Totals}
 use Rattle.card.specs.declared.Progress.{Progress}
 use Rattle.card.specs.declared.text.Listed.{Listed}
 use Rattle.card.specs.Record.{recordSize}
+use Rattle.card.specs.Slots.{Came}
 use Rattle.card.specs.Listing.{partProgress}
 use Rattle.card.specs.Placed.{Writes}
 
@@ -52,8 +52,5 @@ pub record Lists (used : ℕ) (xs : List ℕ) (s : Progress) (old : List ℕ) (r
   pub progress : r .progress ≡ s
 
 -- the listing has come from s to u over some bytes, n of them at most, and just n where the card may go on
-pub record Continues (n : ℕ) (s u : Progress) (going : Bool) : Type 0 where
-  pub bytes : List ℕ
-  pub progress : u ≡ partProgress s bytes
-  pub most : length bytes ≤ n
-  pub full : going ≡ true → length bytes ≡ n
+abbrev pub Continues : ℕ → Progress → Progress → Bool → Type 0
+Continues n s u going = Came partProgress n s u going

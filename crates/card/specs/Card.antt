@@ -1,23 +1,16 @@
--- A card: a row of slots without a header, each of which holds a record or is blank. Assumes nothing.
+-- A card by the numbers of its records, and the card check. Assumes nothing.
 use mathlib.Core.Path.{_≡_}
 use mathlib.Core.Bool.{Bool, true, false, cond, _&&_, _||_}
 use mathlib.Core.List.{List}
-use Prim.Native.Nat.{ℕ, zero, suc, _+_, _-_, _*_, _/_, _≤_, _<_}
-use lib.Dec.{eqb, leb}
+use Prim.Native.Nat.{ℕ, _+_, _-_, _≤_, _<_}
+use lib.Dec.{leb}
 use lib.ListN.{length, take, drop}
 use denote.Ref.{RefT, now}
 use Rattle.field.specs.Question.{Outcome, accepted, refused}
-use Rattle.card.specs.Record.{sizeOf, erasureBytes, recordSize, allAre, recordOf}
+use Rattle.card.specs.Record.{recordSize, recordOf}
+use Rattle.card.specs.Slots.{recordCount, recordAt, isBlank, overSlots}
 use Rattle.card.specs.declared.CardCheck.{CardCheck}
 use Rattle.card.specs.declared.CardCheck.the-variants.{AllAccepted, Refused}
-
--- the number of slots of a card of n bytes, and so of its records, blank slots counted; a shorter last piece counts as a record
-abbrev pub recordCount : ℕ → ℕ
-recordCount n = (n + (recordSize - 1)) / recordSize
-
--- slot i of a card, counted from 0, where records have k erasure bytes: its record, or blank; the last may be shorter
-abbrev pub slotIn : ℕ → List ℕ → ℕ → List ℕ
-slotIn k card i = take (sizeOf k) (drop (i * sizeOf k) card)
 
 -- the part r lies in the lent card itself, from its byte a on: in the card's own memory, not in a copy of it
 pub record LiesAt (card : RefT (List ℕ)) (a : ℕ) (r : RefT (List ℕ)) : Type 0 where
@@ -28,17 +21,6 @@ pub record LiesAt (card : RefT (List ℕ)) (a : ℕ) (r : RefT (List ℕ)) : Typ
 pub record SlotFrom (card : RefT (List ℕ)) (a : ℕ) (r : RefT (List ℕ)) : Type 0 where
   pub bytes : now r ≡ take recordSize (drop a (now card))
   pub lies : LiesAt card a r
-
--- is the slot blank, never written? Only a whole slot can be
-unfoldable pub blankIn : ℕ → List ℕ → Bool
-blankIn k slot = eqb (length slot) (sizeOf k) && allAre 255 slot
-
--- the same in today's edition
-abbrev pub recordAt : List ℕ → ℕ → List ℕ
-recordAt card i = slotIn erasureBytes card i
-
-abbrev pub isBlank : List ℕ → Bool
-isBlank slot = blankIn erasureBytes slot
 
 -- is the number 1 to n?
 unfoldable pub isNumber : ℕ → ℕ → Bool
@@ -71,14 +53,27 @@ abbrev pub checkOf : CardCheck → Check
 checkOf AllAccepted = noBad
 checkOf (Refused k) = bad k
 
--- of the k slots from slot i on, counted from 0, the first that is not fine, by its number, counted from 1
-unfoldable pub firstFrom : List ℕ → ℕ → ℕ → Check
-firstFrom card i zero = noBad
-firstFrom card i (suc k) = cond (fine (recordAt card i)) (firstFrom card (suc i) k) (bad (suc i))
+-- the search for the first slot that is not fine: so many are passed, or it is named, by its number, counted from 1, and with its bytes
+pub data Search : Type 0 where
+  passed : ℕ → Search
+  named : ℕ → List ℕ → Search
+
+-- with one slot more; behind the slot that is named nothing is looked at
+abbrev pub sought : Search → List ℕ → Search
+sought (passed n) slot = cond (fine slot) (passed (n + 1)) (named (n + 1) slot)
+sought (named n r) slot = named n r
+
+-- over a part, where so many slots stand before it
+abbrev pub searched : ℕ → List ℕ → Search
+searched before part = overSlots sought (passed before) part
+
+abbrev pub answer : Search → Check
+answer (passed n) = noBad
+answer (named n r) = bad n
 
 -- what the card check says: the lowest number of a record that would be refused, if there is one
 abbrev pub firstRefused : List ℕ → Check
-firstRefused card = firstFrom card 0 (recordCount (length card))
+firstRefused card = answer (searched 0 card)
 
 -- ---- what the answer says; proofs/Checking.antt proves it
 

@@ -2,11 +2,12 @@
 use mathlib.Core.Path.{_≡_}
 use mathlib.Core.Bool.{Bool, true, false}
 use mathlib.Core.List.{List, [], _++_}
-use Prim.Native.Nat.{ℕ, _+_, _*_, _≤_}
+use Prim.Native.Nat.{ℕ, _+_, _*_}
 use lib.ListN.{length}
 use Rattle.field.specs.Question.{Outcome, accepted, refused}
 use Rattle.card.specs.Record.{recordSize, recordOf}
-use Rattle.card.specs.Card.{recordNumbered, Check, noBad, bad, firstRefused}
+use Rattle.card.specs.Slots.{overSlots, Came}
+use Rattle.card.specs.Card.{Check, noBad, bad, Search, passed, named, sought, searched, firstRefused}
 use Rattle.card.specs.Placed.{Writes}
 use Rattle.card.specs.Batch.{batchSize}
 use Rattle.card.specs.Listing.{bytesOf}
@@ -18,33 +19,33 @@ abbrev pub outcomeLine : ℕ → Outcome → List ℕ
 outcomeLine n (accepted k) = []
 outcomeLine n (refused r) = refusalLine n r
 
--- the line of the record that the check of a part names, where so many slots stand before the part; none where it names none
-abbrev pub foundLine : ℕ → List ℕ → Check → List ℕ
-foundLine before part noBad = []
-foundLine before part (bad k) = outcomeLine (before + k) (recordOf (recordNumbered part k))
+-- the line of the record that a search has named; none where it has named none
+abbrev pub foundLine : Search → List ℕ
+foundLine (passed n) = []
+foundLine (named n r) = outcomeLine n (recordOf r)
 
 -- the line of a card whose records would all be accepted
 abbrev pub okLine : List ℕ
 okLine = bytesOf "ok\n"
 
--- the line of a card, by the answer of its check
-abbrev pub lineOf : List ℕ → Check → List ℕ
-lineOf card noBad = okLine
-lineOf card (bad k) = foundLine 0 card (bad k)
+-- the line of a card, by the search over it
+abbrev pub lineOf : Search → List ℕ
+lineOf (passed n) = okLine
+lineOf (named n r) = foundLine (named n r)
 
 -- what a check of the card says
 unfoldable pub checkText : List ℕ → List ℕ
-checkText card = lineOf card (firstRefused card)
+checkText card = lineOf (searched 0 card)
 
--- does the check name a record?
-abbrev pub names : Check → Bool
-names noBad = false
-names (bad k) = true
+-- has the search named a record?
+abbrev pub names : Search → Bool
+names (passed n) = false
+names (named n r) = true
 
--- the check of a part, where so many slots stand before it: whether it names a record, whose line is then written
-pub record Finds (before : ℕ) (part old : List ℕ) (r : Found) (new : List ℕ) : Type 0 where
-  pub any : r .any ≡ names (firstRefused part)
-  pub text : Writes old 0 (foundLine before part (firstRefused part)) new (r .used)
+-- what a search has come to: whether it has named a record, whose line is then written
+pub record Finds (u : Search) (old : List ℕ) (r : Found) (new : List ℕ) : Type 0 where
+  pub any : r .any ≡ names u
+  pub text : Writes old 0 (foundLine u) new (r .used)
 
 -- ---- a card in parts; proofs/Finding.antt proves it
 
@@ -65,17 +66,16 @@ FirstInParts =
 
 -- ---- for a program that reads batch after batch
 
--- some bytes were checked, those of one batch
+-- one batch was searched, where so many slots stand before it
 pub record FindsBatch (before : ℕ) (old : List ℕ) (r : Found) (going : Bool) (new : List ℕ) : Type 0 where
-  pub bytes : List ℕ
-  pub found : Finds before bytes old r new
-  pub most : length bytes ≤ batchSize
-  pub full : going ≡ true → length bytes ≡ batchSize
+  pub end : Search
+  pub came : Came (overSlots sought) batchSize (passed before) end going
+  pub found : Finds end old r new
 
--- some bytes were checked, from the card's first slot on
+-- some bytes were searched, from the card's first slot on
 pub record FindsSome (old : List ℕ) (r : Found) (new : List ℕ) : Type 0 where
   pub bytes : List ℕ
-  pub found : Finds 0 bytes old r new
+  pub found : Finds (searched 0 bytes) old r new
 
 -- and what is written says so
 pub record Says (old : List ℕ) (used : ℕ) (new : List ℕ) : Type 0 where

@@ -3,7 +3,7 @@
 use mathlib.Core.Path.{_≡_}
 use mathlib.Core.Bool.{Bool, true, false, _&&_, _||_}
 use mathlib.Core.List.{List, [], _++_}
-use Prim.Native.Nat.{ℕ, zero, suc, _+_, _-_, _*_, _/_, _%_, _<_, min}
+use Prim.Native.Nat.{ℕ, _-_, _*_, _%_, _<_, min}
 use lib.Dec.{eqb, leb}
 use lib.ListN.{length, take, drop, replicate}
 use Rattle.field.specs.Question.{Outcome, accepted, ask, after}
@@ -13,7 +13,7 @@ use Rattle.field.specs.declared.Verdict.the-variants.{Passed}
 use Rattle.code.specs.Call.{written, done, restoreOf}
 use Rattle.card.specs.Record.{headerOf, sizeOf, widthOf, countOf, erasuresOf, wordIn, hasWidth, fewIn, paddedIn, askedIn}
 use Rattle.card.specs.Record.{erasureBytes, recordOf}
-use Rattle.card.specs.Card.{slotIn, blankIn}
+use Rattle.card.specs.Slots.{slotIn, blankIn, slotCount, overWhole, appended}
 
 -- the old edition has four erasure bytes
 abbrev pub oldErasureBytes : ℕ
@@ -26,18 +26,9 @@ oldErasureBytes = 4
 unfoldable pub converted : ℕ → ℕ → List ℕ → List ℕ
 converted k j r = take (headerOf (min k j)) r ++ (replicate (j - k) 255 ++ drop (headerOf k) r)
 
--- the first n slots of the card
-unfoldable pub convertedSlots : ℕ → ℕ → List ℕ → ℕ → List ℕ
-convertedSlots k j card zero = []
-convertedSlots k j card (suc n) = convertedSlots k j card n ++ converted k j (slotIn k card n)
-
--- the whole slots among n bytes
-abbrev pub slotCount : ℕ → ℕ → ℕ
-slotCount k n = n / sizeOf k
-
 -- the whole card
 abbrev pub convertedCard : ℕ → ℕ → List ℕ → List ℕ
-convertedCard k j card = convertedSlots k j card (slotCount k (length card))
+convertedCard k j card = overWhole k (appended (converted k j)) [] card
 
 -- ---- what is asked
 
@@ -49,14 +40,13 @@ lengthsFit k j n m = eqb (n % sizeOf k) 0 && eqb m (slotCount k n * sizeOf j)
 abbrev pub blankOr : ℕ → (List ℕ → Bool) → List ℕ → Bool
 blankOr k p slot = blankIn k slot || p slot
 
--- a question, put to the first n slots of the card
-unfoldable pub every : ℕ → (List ℕ → Bool) → List ℕ → ℕ → Bool
-every k p card zero = true
-every k p card (suc n) = every k p card n && blankOr k p (slotIn k card n)
+-- and to all slots before it
+abbrev pub alsoTo : ℕ → (List ℕ → Bool) → Bool → List ℕ → Bool
+alsoTo k p b slot = b && blankOr k p slot
 
 -- a question, put to all slots of the card
 abbrev pub everyRecord : ℕ → (List ℕ → Bool) → List ℕ → Bool
-everyRecord k p card = every k p card (slotCount k (length card))
+everyRecord k p card = overWhole k (alsoTo k p) true card
 
 -- at most four erasures
 abbrev pub atMostFour : List ℕ → Bool

@@ -3,7 +3,7 @@
 use mathlib.Core.Path.{_≡_}
 use mathlib.Core.Bool.{Bool, true, false, cond}
 use mathlib.Core.List.{List, _++_}
-use Prim.Native.Nat.{ℕ, zero, suc, _+_, _-_, _*_, _%_, _≤_, _<_}
+use Prim.Native.Nat.{ℕ, _+_, _-_, _*_, _%_, _≤_, _<_}
 use lib.Dec.{eqb, ltb}
 use lib.ListN.{length, getD}
 use Rattle.field.specs.Question.{ask}
@@ -12,8 +12,8 @@ use Rattle.field.specs.declared.Verdict.{Verdict}
 use Rattle.field.specs.declared.Verdict.the-variants.{Passed}
 use Rattle.card.specs.declared.parts.Findings.{Findings}
 use Rattle.card.specs.Record.{sizeOf, erasureBytes}
-use Rattle.card.specs.Card.{slotIn}
-use Rattle.card.specs.Conversion.{oldErasureBytes, slotCount, convertedCard, blankOr, atMostFour, toNewAsked, toOldAsked}
+use Rattle.card.specs.Slots.{slotIn, slotCount, overWhole, Came}
+use Rattle.card.specs.Conversion.{oldErasureBytes, convertedCard, blankOr, atMostFour, toNewAsked, toOldAsked}
 use Rattle.card.specs.Leading.{answers, slotPasses, verdictAt}
 
 -- before the first slot
@@ -27,14 +27,9 @@ slotFound k s slot =
     (record { slots = s .slots + 1; passed = slotPasses k slot; first = s .slots + 1 })
     (record { slots = s .slots + 1; passed = s .passed; first = s .first })
 
--- the first n slots of a part
-unfoldable pub slotsFound : ℕ → Findings → List ℕ → ℕ → Findings
-slotsFound k s part zero = s
-slotsFound k s part (suc n) = slotFound k (slotsFound k s part n) (slotIn k part n)
-
 -- all slots of a part; a piece of a slot behind them is left out
 abbrev pub partFound : ℕ → Findings → List ℕ → Findings
-partFound k s part = slotsFound k s part (slotCount k (length part))
+partFound k s part = overWhole k (slotFound k) s part
 
 -- the verdict on a card, and the number of its first offending record: behind its slots a piece of so many bytes is left
 abbrev pub foundVerdict : Findings → ℕ → Verdict
@@ -76,14 +71,14 @@ NumberIs =
     × (partFound k nothingFound card .passed ≡ 4 → partFound k nothingFound card .first ≡ 0)
 
 -- where the whole card passes, so does each part, and their conversions, one behind the other, are that of the card
-pub record InParts (k j : ℕ) (asked : List ℕ → ℕ → Verdict) (a b : List ℕ) : Type 0 where
+pub record PartsPass (k j : ℕ) (asked : List ℕ → ℕ → Verdict) (a b : List ℕ) : Type 0 where
   pub front : asked a (slotCount k (length a) * sizeOf j) ≡ Passed
   pub behind : asked b (slotCount k (length b) * sizeOf j) ≡ Passed
   pub both : convertedCard k j (a ++ b) ≡ convertedCard k j a ++ convertedCard k j b
 
 abbrev pub ConvertsInParts : ℕ → ℕ → (List ℕ → ℕ → Verdict) → Type 0
 ConvertsInParts k j asked =
-    (a b : List ℕ) (m : ℕ) → length a % sizeOf k ≡ 0 → asked (a ++ b) m ≡ Passed → InParts k j asked a b
+    (a b : List ℕ) (m : ℕ) → length a % sizeOf k ≡ 0 → asked (a ++ b) m ≡ Passed → PartsPass k j asked a b
 
 -- old to new, and new to old
 abbrev pub ToNewInParts : Type 0
@@ -97,8 +92,5 @@ ToOldInParts = VerdictIs erasureBytes oldErasureBytes toOldAsked × ConvertsInPa
 -- the questions have come from s to u over some bytes, n of them at most, and just n where the card may go on; behind their slots so many are
 -- left
 pub record Asks (k n : ℕ) (s u : Findings) (rest : ℕ) (going : Bool) : Type 0 where
-  pub bytes : List ℕ
-  pub findings : u ≡ partFound k s bytes
-  pub left : rest ≡ length bytes % sizeOf k
-  pub most : length bytes ≤ n
-  pub full : going ≡ true → length bytes ≡ n
+  pub came : Came (partFound k) n s u going
+  pub left : rest ≡ length (came .bytes) % sizeOf k

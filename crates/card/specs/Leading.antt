@@ -8,7 +8,8 @@ use Rattle.field.specs.declared.Question.the-variants.{Width, ErasureCount, Pad
 use Rattle.field.specs.declared.Verdict.{Verdict}
 use Rattle.field.specs.declared.Verdict.the-variants.{Passed, Refused}
 use Rattle.card.specs.Record.{countOf, hasWidth, fewIn, paddedIn}
-use Rattle.card.specs.Conversion.{blankOr, every, atMostFour}
+use Rattle.card.specs.Slots.{overFirst, appended}
+use Rattle.card.specs.Conversion.{converted, blankOr, alsoTo, atMostFour}
 
 -- the number of yeses before the first no
 abbrev pub leading : List Bool → ℕ
@@ -28,7 +29,11 @@ recordPasses k most r = leading (answers k (λ s. leb (countOf s) most) (λ p. p
 unfoldable pub slotPasses : ℕ → List ℕ → ℕ
 slotPasses k slot = leading (answers k atMostFour (λ p. blankOr k p slot))
 
--- to the first n slots of a card
+-- a question, put to the first n slots of a card
+abbrev pub every : ℕ → (List ℕ → Bool) → List ℕ → ℕ → Bool
+every k p card n = overFirst k (alsoTo k p) true card n
+
+-- the four questions, put to them
 unfoldable pub cardPasses : ℕ → List ℕ → ℕ → ℕ
 cardPasses k card n = leading (answers k atMostFour (λ p. every k p card n))
 
@@ -39,3 +44,8 @@ verdictAt (suc zero) = Refused ErasureCount
 verdictAt (suc (suc zero)) = Refused Padding
 verdictAt (suc (suc (suc zero))) = Refused FourErasures
 verdictAt (suc (suc (suc (suc n)))) = Passed
+
+-- ---- what is written of the first n slots, where records have j erasure bytes in the output
+
+abbrev pub convertedSlots : ℕ → ℕ → List ℕ → ℕ → List ℕ
+convertedSlots k j card n = overFirst k (appended (converted k j)) [] card n

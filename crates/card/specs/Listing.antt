@@ -10,7 +10,7 @@ use Rattle.field.specs.Question.{Outcome, accepted, refused}
 use Rattle.card.specs.declared.Totals.{Totals}
 use Rattle.card.specs.declared.Progress.{Progress}
 use Rattle.card.specs.Record.{recordSize, recordOf}
-use Rattle.card.specs.Card.{recordCount, recordAt, isBlank}
+use Rattle.card.specs.Slots.{isBlank, overSlots}
 
 -- the bytes of a text in ASCII
 abbrev pub bytesOf : String → List ℕ
@@ -72,29 +72,32 @@ counted t (refused n) = record { accepted = t .accepted; refused = t .refused + 
 abbrev pub slotCounted : Totals → List ℕ → Totals
 slotCounted t slot = cond (isBlank slot) t (counted t (recordOf slot))
 
--- ---- part by part: a part of a card is a row of slots, the last of which may be shorter
+-- one slot further: the next number, and the totals
+abbrev pub slotFurther : Progress → List ℕ → Progress
+slotFurther s slot = record { next = s .next + 1; totals = slotCounted (s .totals) slot }
 
--- the lines of the first k slots of the part, the first with the number n
-unfoldable pub linesOf : ℕ → List ℕ → ℕ → List ℕ
-linesOf n part zero = []
-linesOf n part (suc k) = linesOf n part k ++ slotLine (n + k) (recordAt part k)
+-- ---- part by part
 
--- the totals t, with the first k slots of the part
-unfoldable pub totalsOf : Totals → List ℕ → ℕ → Totals
-totalsOf t part zero = t
-totalsOf t part (suc k) = slotCounted (totalsOf t part k) (recordAt part k)
-
--- how far the listing has come behind the first k slots of the part: the number of the next slot, and the totals
-abbrev pub progressAt : Progress → List ℕ → ℕ → Progress
-progressAt s part k = record { next = s .next + k; totals = totalsOf (s .totals) part k }
-
--- the lines of all slots of the part, where the listing has come to s before it
-abbrev pub partLines : Progress → List ℕ → List ℕ
-partLines s part = linesOf (s .next) part (recordCount (length part))
-
--- and how far it has come behind them
+-- how far the listing has come behind a part, where it has come to s before it
 abbrev pub partProgress : Progress → List ℕ → Progress
-partProgress s part = progressAt s part (recordCount (length part))
+partProgress s part = overSlots slotFurther s part
+
+-- some text, and how far the listing has come with it
+pub record Told : Type 0 where
+  pub text : List ℕ
+  pub progress : Progress
+
+-- the line of one slot more
+abbrev pub slotTold : Told → List ℕ → Told
+slotTold t slot = record { text = t .text ++ slotLine (t .progress .next) slot; progress = slotFurther (t .progress) slot }
+
+-- before the first slot
+abbrev pub untold : Progress → Told
+untold s = record { text = []; progress = s }
+
+-- the lines of all slots of the part
+abbrev pub partLines : Progress → List ℕ → List ℕ
+partLines s part = overSlots slotTold (untold s) part .text
 
 -- ---- the whole listing
 

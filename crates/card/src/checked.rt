@@ -2,6 +2,7 @@
 ghost use Prim.Native.Nat.{_^_, _≤_};
 ghost use lib.ListN.{length};
 ghost use Rattle.card.specs.Record.{recordOf};
+ghost use Rattle.card.specs.Card.{searched};
 ghost use Rattle.card.specs.Batch.{batchSize};
 ghost use Rattle.card.specs.Placed.{Writes};
 ghost use Rattle.card.specs.Words.{longestRefusal};
@@ -35,7 +36,7 @@ fn put_outcome(bytes: &[u8], number: u64, out: &mut [u8]) -> usize
 // is one. No entry point: it requires at most a batch, a number that does not overflow, and room for the line.
 pub fn check_batch(batch: &[u8], before: u64, out: &mut [u8]) -> Found
     requires { ⌜ (length (now batch) ≤ batchSize) × (before ≤ 2 ^ 62) × (longestRefusal ≤ length (now out)) ⌝ }
-    ensures { λ r. ⌜ Finds before (now (batch .entry)) (now (out .entry)) r (now (out .exit)) ⌝ }
+    ensures { λ r. ⌜ Finds (searched before (now (batch .entry))) (now (out .entry)) r (now (out .exit)) ⌝ }
 {
     match check(batch) {
         CardCheck::AllAccepted => Found {

@@ -4,7 +4,7 @@ ghost use mathlib.Core.List.{[], _∷_, _++_};
 ghost use Prim.Native.Nat.{_+_, _*_, _^_, _≤_, _<_};
 ghost use lib.ListN.{length};
 ghost use Rattle.card.specs.Listing.{decimal, lineText, blankLine, totalLine, moreLine, recordLine, slotLine, refusalOf, changesOf};
-ghost use Rattle.card.specs.Listing.{counted, slotCounted, partLines, partProgress};
+ghost use Rattle.card.specs.Listing.{counted, slotFurther, partLines, partProgress};
 ghost use Rattle.code.specs.Call.{repair};
 ghost use Rattle.card.specs.Record.{recordOf};
 ghost use Rattle.card.specs.Batch.{longestField, longestLine, longestTotal, batchRecords, batchSize, Within, further, Lists};
@@ -209,7 +209,7 @@ fn list_slot(slot: &[u8], done: Listed, out: &mut [u8]) -> Listed
     ensures { λ r.
         ⌜
         Lists (done .used) (slotLine (done .progress .next) (now (slot .entry)))
-        (further (done .progress) (slotCounted (done .progress .totals) (now (slot .entry)))) (now (out .entry)) r (now (out .exit))
+        (slotFurther (done .progress) (now (slot .entry))) (now (out .entry)) r (now (out .exit))
         ⌝ }
 {
     if is_blank(slot) {

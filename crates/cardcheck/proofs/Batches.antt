@@ -6,7 +6,7 @@ use Prim.Native.Nat.{ℕ, _+_, _*_}
 use native.Mathlib.Omega.{arith}
 use borrow.Author.Tests.{not-false}
 use lib.ListN.{length, length-append}
-use Rattle.card.specs.Card.{noBad, firstRefused, firstFrom}
+use Rattle.card.specs.Card.{noBad, firstRefused}
 use Rattle.card.specs.Batch.{batchSize}
 use Rattle.card.specs.Checked.{okLine, Finds, FindsBatch, FindsSome, Says}
 use Rattle.card.specs.Placed.{Writes}

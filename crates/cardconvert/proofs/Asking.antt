@@ -12,9 +12,9 @@ use lib.ListN.{length, take, length-append}
 use lib.Seq.{length-take-le}
 use Rattle.card.specs.declared.parts.Findings.{Findings}
 use Rattle.card.specs.Record.{sizeOf, erasureBytes}
-use Rattle.card.specs.Conversion.{slotCount}
+use Rattle.card.specs.Slots.{slotCount}
 use Rattle.card.specs.Batch.{batchRecords, batchSize, mostBatches}
-use Rattle.card.specs.Found.{nothingFound, slotsFound, partFound, Asks}
+use Rattle.card.specs.Found.{nothingFound, partFound, Asks}
 use Rattle.card.proofs.Found.{found-start, found-slots, found-in-parts, rest-two}
 
 -- the bytes of a batch

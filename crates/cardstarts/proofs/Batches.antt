@@ -9,7 +9,7 @@ use lib.Dec.{eqb, lit≤}
 use lib.ListN.{length, length-append}
 use lib.Seq.{take-at}
 use Rattle.card.specs.Record.{recordSize}
-use Rattle.card.specs.Card.{recordCount}
+use Rattle.card.specs.Slots.{recordCount}
 use Rattle.card.specs.Listing.{mostRecords}
 use Rattle.card.specs.Batch.{batchRecords, batchSize}
 use Rattle.report.specs.Window.{isWindow, noReport, partAdded, finished, reportSize, dayMost, Countable}

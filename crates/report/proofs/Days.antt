@@ -18,7 +18,7 @@ use Rattle.code.proofs.Lengths.{length-is, places-most}
 use Rattle.code.proofs.Demands.{accepts}
 use Rattle.card.specs.Record.{headerSize, recordSize, widthOf, wordOf, erasuresOf, recordAsked, reachOf, clearRecord, onAccept, recordOf, copyWritten}
 use Rattle.card.specs.Record.{recordWithinOf, recordWithinWritten, recordWritten}
-use Rattle.card.specs.Card.{recordAt}
+use Rattle.card.specs.Slots.{recordAt}
 use Rattle.card.proofs.Layouts.{asked}
 use Rattle.card.proofs.Recording.{copy-accepted}
 use Rattle.sheet.specs.Sheet.{sheetWidth, sheetSize, symbolsOf}

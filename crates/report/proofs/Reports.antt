@@ -20,7 +20,7 @@ use Rattle.field.proofs.Ask.{ask-yes, ask-next}
 use Rattle.code.specs.Word.{at}
 use Rattle.code.specs.Call.{written, done}
 use Rattle.card.specs.Record.{recordSize}
-use Rattle.card.specs.Card.{recordCount, recordAt, isBlank}
+use Rattle.card.specs.Slots.{recordCount, recordAt, isBlank}
 use Rattle.card.specs.Listing.{mostRecords, listedPart}
 use Rattle.card.proofs.Lines.{record-front, record-behind}
 use Rattle.sheet.specs.Sheet.{yearAt, monthAt, dayAt, pumpAt, sheetSize}

@@ -15,7 +15,7 @@ use Rattle.field.specs.Question.{accepted, refused}
 use Rattle.code.specs.Word.{at}
 use Rattle.code.specs.Demands.{occurs}
 use Rattle.card.specs.Record.{recordSize}
-use Rattle.card.specs.Card.{recordCount, recordAt, isBlank}
+use Rattle.card.specs.Slots.{recordCount, recordAt, isBlank}
 use Rattle.card.specs.Listing.{mostRecords, listedPart}
 use Rattle.card.proofs.Blank.{blank-refused}
 use Rattle.card.proofs.Lines.{record-front}

@@ -12,7 +12,8 @@ use Rattle.code.specs.Word.{Codeword}
 use Rattle.code.specs.declared.Repair.{Repair}
 use Rattle.code.specs.declared.Repair.the-variants.{Restored, Refused as RefusedRepair}
 use Rattle.card.specs.Record.{recordSize, widthOf, wordOf, recordOf, copyWritten}
-use Rattle.card.specs.Card.{recordCount, isNumber, recordAt, LiesAt}
+use Rattle.card.specs.Slots.{recordCount, recordAt}
+use Rattle.card.specs.Card.{isNumber, LiesAt}
 use Rattle.sheet.specs.Sheet.{sheetSize, symbolsOf}
 use Rattle.sheet.specs.Call.{readSheetAsked}
 use Rattle.report.specs.declared.day.Reading.{Reading}

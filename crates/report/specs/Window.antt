@@ -13,7 +13,7 @@ use Rattle.code.specs.Word.{at}
 use Rattle.code.specs.Call.{written, done}
 use Rattle.code.specs.Demands.{occurs}
 use Rattle.card.specs.Record.{recordSize}
-use Rattle.card.specs.Card.{recordCount, recordAt, isBlank}
+use Rattle.card.specs.Slots.{recordCount, recordAt, isBlank}
 use Rattle.card.specs.Listing.{mostRecords, listedPart}
 use Rattle.sheet.specs.Sheet.{quarters, yearAt, monthAt, dayAt, pumpAt}
 use Rattle.report.specs.Day.{Day, sheet, noSheet, dayOf}

@@ -20,7 +20,8 @@ use Rattle.code.specs.declared.Repair.{Repair}
 use Rattle.code.specs.declared.Repair.the-variants.{Restored, Refused as RefusedRepair}
 use Rattle.card.specs.declared.RestoredCopy.{RestoredCopy}
 use Rattle.card.specs.Record.{headerSize, recordSize, wordOf, recordOf, onAccept, recordWritten, RestoresCopy}
-use Rattle.card.specs.Card.{recordCount, recordAt, isNumber, recordNumbered}
+use Rattle.card.specs.Slots.{recordCount, recordAt}
+use Rattle.card.specs.Card.{isNumber, recordNumbered}
 use Rattle.card.proofs.Recording.{copy-accepted}
 use Rattle.card.proofs.Again.{refused-stays, accepted-whole, restored-again, restored-symbols, written-size, written-again}
 use Rattle.walk.specs.declared.Walk.{Walk}

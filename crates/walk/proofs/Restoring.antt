@@ -8,7 +8,7 @@ use native.Mathlib.Omega.{arith}
 use lib.ListN.{length, take, drop, length-append, length-take, length-drop, take-append-drop, drop-of-length-le}
 use lib.Seq.{take-at, drop-at, take-take, take-all, take-append-le, drop-drop, drop-append-le, drop-append-add}
 use Rattle.card.specs.Record.{recordSize, recordWritten}
-use Rattle.card.specs.Card.{recordCount, recordAt}
+use Rattle.card.specs.Slots.{recordCount, recordAt}
 use Rattle.card.proofs.Again.{written-size}
 use Rattle.card.proofs.Checking.{last-piece, whole-piece}
 use Rattle.walk.specs.Restored.{restoredFirst, restoredFrom}

@@ -16,7 +16,7 @@ use Rattle.code.specs.declared.Repair.{Repair}
 use Rattle.card.specs.declared.Totals.{Totals}
 use Rattle.card.specs.declared.Progress.{Progress}
 use Rattle.card.specs.Record.{recordSize, recordOf, recordWritten, RestoresRecord}
-use Rattle.card.specs.Card.{recordCount, recordAt, isBlank}
+use Rattle.card.specs.Slots.{recordCount, recordAt, isBlank}
 use Rattle.card.specs.Listing.{counted, slotCounted, totalsOf, progressAt, partProgress, start}
 use Rattle.card.specs.Batch.{further, Within}
 use Rattle.card.proofs.Again.{written-again}

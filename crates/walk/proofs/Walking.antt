@@ -15,7 +15,8 @@ use Rattle.field.specs.declared.Verdict.{Verdict}
 use Rattle.field.specs.declared.Verdict.the-variants.{Passed, Refused}
 use Rattle.field.proofs.Ask.{ask-yes, ask-next}
 use Rattle.code.specs.Call.{done, written}
-use Rattle.card.specs.Card.{recordCount, isNumber}
+use Rattle.card.specs.Slots.{recordCount}
+use Rattle.card.specs.Card.{isNumber}
 use Rattle.walk.specs.declared.Walk.{Walk}
 use Rattle.walk.specs.Restored.{restoredFirst, restoredFrom}
 use Rattle.walk.specs.Walk.{stepRecords, walkAt, stepAsked, stepCount, stateAfter, stepState, stepWritten, Steps}

@@ -9,10 +9,9 @@ use Rattle.field.specs.declared.Verdict.{Verdict}
 use Rattle.field.specs.declared.Verdict.the-variants.{Passed, Refused}
 use Rattle.card.specs.declared.Progress.{Progress}
 use Rattle.card.specs.Record.{recordSize, recordWritten}
-use Rattle.card.specs.Card.{recordCount, recordAt, isBlank}
-use Rattle.card.specs.Listing.{decimal, newline, slotCounted, progressAt, partProgress, start}
+use Rattle.card.specs.Slots.{recordCount, recordAt, isBlank}
+use Rattle.card.specs.Listing.{decimal, newline, slotCounted, progressAt, partProgress, start, bytesOf}
 use Rattle.card.specs.Batch.{longestField, further}
-use Rattle.card.specs.Listing.{bytesOf}
 use Rattle.walk.specs.declared.Walk.{Walk}
 use Rattle.walk.specs.declared.counting.Counted.{Counted}
 use Rattle.walk.specs.Restored.{restoredFrom, restoredCard}

@@ -7,7 +7,7 @@ use Prim.Native.Nat.{ℕ, _+_, _≤_, _<_}
 use lib.ListN.{length}
 use Rattle.field.specs.Question.{accepted, refused}
 use Rattle.card.specs.Record.{recordOf, recordWritten}
-use Rattle.card.specs.Card.{recordCount, recordAt}
+use Rattle.card.specs.Slots.{recordCount, recordAt}
 use Rattle.walk.specs.declared.Walk.{Walk}
 use Rattle.walk.specs.Restored.{restoredCard}
 use Rattle.walk.specs.Walk.{stepOf, stepState, stepWritten, afterSteps, stepsOf, stateOver, afterStates}

@@ -11,7 +11,8 @@ use Rattle.field.specs.declared.Verdict.the-variants.{Passed}
 use Rattle.code.specs.Word.{longest}
 use Rattle.code.specs.Call.{done}
 use Rattle.card.specs.Record.{wordOf, recordOf, onAccept, recordWritten}
-use Rattle.card.specs.Card.{recordCount, isNumber, recordNumbered}
+use Rattle.card.specs.Slots.{recordCount}
+use Rattle.card.specs.Card.{isNumber, recordNumbered}
 use Rattle.walk.specs.declared.View.{View}
 
 -- a row has room for the longest word

@@ -3,7 +3,7 @@ use mathlib.Core.List.{List, _++_}
 use Prim.Native.Nat.{ℕ, zero, suc, _*_}
 use lib.ListN.{length, take, drop}
 use Rattle.card.specs.Record.{recordSize, recordWritten}
-use Rattle.card.specs.Card.{recordCount}
+use Rattle.card.specs.Slots.{recordCount}
 
 -- the first k records restored, each alone; what comes behind them is as it was
 unfoldable pub restoredFirst : ℕ → List ℕ → List ℕ

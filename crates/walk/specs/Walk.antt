@@ -9,7 +9,8 @@ use Rattle.field.specs.declared.Question.the-variants.{Length, RecordNumber}
 use Rattle.field.specs.declared.Verdict.{Verdict}
 use Rattle.field.specs.declared.Verdict.the-variants.{Passed, Refused}
 use Rattle.code.specs.Call.{done, written}
-use Rattle.card.specs.Card.{recordCount, isNumber}
+use Rattle.card.specs.Slots.{recordCount}
+use Rattle.card.specs.Card.{isNumber}
 use Rattle.walk.specs.declared.Walk.{Walk}
 use Rattle.walk.specs.declared.Stepped.{Stepped}
 use Rattle.walk.specs.Restored.{restoredFrom}

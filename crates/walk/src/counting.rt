@@ -2,12 +2,11 @@
 ghost use mathlib.Core.List.{[], _∷_, _++_};
 ghost use Prim.Native.Nat.{_+_, _*_, _^_, _≤_, _<_};
 ghost use lib.ListN.{length};
-ghost use Rattle.card.specs.Card.{recordCount};
+ghost use Rattle.card.specs.Slots.{recordCount};
 ghost use Rattle.card.specs.Listing.{decimal};
 ghost use Rattle.card.specs.Batch.{longestField, Within};
 ghost use Rattle.walk.specs.Walk.{stepRecords};
-ghost use Rattle.walk.specs.Counting.{CountsSlot, CountsFrom, CountsCard, StepsCounting};
-ghost use Rattle.walk.specs.Counting.{Sound, restoredLine, longestRestored};
+ghost use Rattle.walk.specs.Counting.{CountsSlot, CountsFrom, CountsCard, StepsCounting, Sound, restoredLine, longestRestored};
 ghost use Rattle.card.specs.Placed.{Writes};
 use crate::Stepped;
 use crate::Walk;

@@ -4,7 +4,7 @@ pub mod counting;
 ghost use mathlib.Core.Path.{_≡_};
 ghost use Prim.Native.Nat.{_+_, _≤_, _<_, min};
 ghost use lib.ListN.{length};
-ghost use Rattle.card.specs.Card.{recordCount};
+ghost use Rattle.card.specs.Slots.{recordCount};
 ghost use Rattle.walk.specs.Restored.{restoredFrom};
 ghost use Rattle.walk.specs.Walk.{stepRecords, begun, stepAsked, Steps};
 ghost use Rattle.walk.specs.Look.{rowSize, lookAsked, Looks, LooksAt, Shows};

@@ -3,7 +3,7 @@ use borrow.Author.Needs.{needs}
 use Prim.Native.Nat.{_≤_}
 use native.Mathlib.Omega.{arith}
 use lib.ListN.{length}
-use Rattle.card.specs.Card.{recordCount}
+use Rattle.card.specs.Slots.{recordCount}
 use Rattle.card.proofs.Finding.{named-low, named-high, finds-none, finds-some}
 use Rattle.card.proofs.checked.check_batch.Statement.{statement}
 use Rattle.card.proofs.checked.check_batch.Tie as tie

@@ -6,7 +6,7 @@ use native.Mathlib.Omega.{arith}
 use lib.ListN.{length, take, drop}
 use lib.Seq.{length-take-le}
 use Rattle.code.proofs.Loops.{part-drop, two-parts}
-use Rattle.card.proofs.Slots.{header-part}
+use Rattle.card.proofs.Converted.{header-part}
 use Rattle.card.proofs.conversion.convert_slot.Statement.{statement}
 use Rattle.card.proofs.conversion.convert_slot.Tie as tie
 

@@ -5,10 +5,11 @@ use Prim.Native.Nat.{ℕ, _+_, _-_, _*_, _/_, _≤_}
 use native.Mathlib.Nat.{div-le-self}
 use native.Mathlib.Omega.{arith}
 use lib.ListN.{length}
+use Rattle.card.specs.Found.{slotFound}
 use Rattle.card.specs.declared.parts.Findings.{Findings}
-use Rattle.card.specs.Found.{slotsFound}
 use Rattle.card.proofs.Slots.{slot-cut, slot-whole, slot-inside}
-use Rattle.card.proofs.Found.{slots-fit, found-start, found-more, found-slots}
+use Rattle.card.proofs.Found.{slots-fit, slotsFound, found-slots}
+use Rattle.card.proofs.Folding.{over-none, over-on}
 use Rattle.card.proofs.parts.see_part.Statement.{statement}
 use Rattle.card.proofs.parts.see_part.Tie as tie
 
@@ -25,7 +26,7 @@ div-n : tie.Need-div-n Inv-loop μ-loop
 div-n c = search needs
 
 loop-holds : tie.Need-loop-holds Inv-loop μ-loop
-loop-holds c = let a = c .before .before .args in (omega arith, found-start (a .k) (a .s) (a .part .now))
+loop-holds c = let a = c .before .before .args in (omega arith, over-none (a .k) (slotFound (a .k)) (a .s) (a .part .now))
 
 -- slot i is inside the part
 room : (c : tie.In-loop Inv-loop μ-loop)
@@ -82,7 +83,7 @@ loop-again c =
     let x = t .before .size-of in
     let a = t .before .before .before .args in (
       omega arith,
-      found-more (a .k) (a .s) (a .part .now) (t .loop .i) _ _ _ (t .loop .inv .1) (c .see-slot .ensures)
+      over-on (a .k) (slotFound (a .k)) (a .s) (a .part .now) (t .loop .i) _ _ _ (t .loop .inv .1) (c .see-slot .ensures)
           (slot-cut (a .k) (a .part .now) (t .loop .i) (x .result) (x .ensures)),
     )
 

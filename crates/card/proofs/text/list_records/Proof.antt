@@ -1,14 +1,13 @@
 -- `card::text::list_records` meets its contract. Before turn i the lines of the first i slots are written, and the listing has come to the
 -- next one. Assumes nothing.
 use borrow.Author.Needs.{needs}
-use mathlib.Core.Path.{_≡_}
+use mathlib.Core.Path.{_≡_, _∙_}
 use Prim.Native.Nat.{_-_, _^_, _≤_}
 use native.Mathlib.Omega.{arith}
 use lib.ListN.{length}
-use Rattle.card.specs.Card.{recordCount}
-use Rattle.card.specs.Listing.{linesOf, progressAt}
+use Rattle.card.specs.Slots.{recordCount}
 use Rattle.card.specs.Batch.{Lists}
-use Rattle.card.proofs.Lines.{piece-some, lists-none, lists-more}
+use Rattle.card.proofs.Lines.{piece-some, toldFirst, lists-none, lists-more, lists-end, told-progress}
 use Rattle.card.proofs.Bounds.{lines-short, progress-within}
 use Rattle.card.proofs.text.list_records.Statement.{statement}
 use Rattle.card.proofs.text.list_records.Tie as tie
@@ -17,7 +16,7 @@ abbrev Inv-loop : tie.InvT-loop
 Inv-loop batch out₀ n done₀ i₀ out done i =
     (i ≤ n)
     × (length out ≡ length out₀)
-    × Lists 0 (linesOf (done₀ .progress .next) batch i) (progressAt (done₀ .progress) batch i) out₀ done out
+    × Lists 0 (toldFirst (done₀ .progress) batch i .text) (toldFirst (done₀ .progress) batch i .progress) out₀ done out
 
 abbrev μ-loop : tie.MeasureT-loop
 μ-loop batch out₀ n done₀ i₀ out done i = n - i
@@ -42,8 +41,8 @@ list-slot-requires c κs =
     let i = turn .loop .i in
     let done = turn .loop .inv .2 in (
       piece-some batch _ i (c .before .record-from .ensures .bytes) (omega arith),
-      omega (arith, done .text .behind, lines-short (s .args .s .next) batch i),
-      progress-within (2 ^ 62) (2 ^ 63) (s .args .s) _ batch i (done .progress) (s .pre .2) (omega arith),
+      omega (arith, done .text .behind, lines-short (s .args .s) batch i),
+      progress-within (2 ^ 62) (2 ^ 63) (s .args .s) _ batch i (done .progress ∙ told-progress (s .args .s) batch i) (s .pre .2) (omega arith),
     )
 
 add-i : tie.Need-add-i Inv-loop μ-loop
@@ -67,8 +66,9 @@ same-length c = search needs
 
 returns : tie.Need-returns Inv-loop μ-loop
 returns c =
-    let all : c .before .loop .i ≡ recordCount (length (c .before .before .before .before .before .args .batch .now)) = omega arith in
-    rw all at (c .before .loop .inv .2)
+    let a = c .before .before .before .before .before .args in
+    let all : c .before .loop .i ≡ recordCount (length (a .batch .now)) = omega arith in
+    lists-end (a .s) (a .batch .now) (c .before .loop .i) all (c .before .loop .inv .2)
 
 pub list-records-spec : {M : Type 1} → statement M
 list-records-spec =

@@ -5,7 +5,7 @@ use mathlib.Core.Bool.{false≢true}
 use Prim.Native.Nat.{_≤_}
 use native.Mathlib.Omega.{arith}
 use lib.ListN.{length}
-use Rattle.card.specs.Card.{recordCount}
+use Rattle.card.specs.Slots.{recordCount}
 use Rattle.card.proofs.Numbering.{number-low, number-high}
 use Rattle.report.proofs.Days.{slot-some, slot-none}
 use Rattle.report.proofs.day.slot.Statement.{statement}

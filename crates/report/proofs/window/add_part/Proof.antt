@@ -4,7 +4,7 @@ use mathlib.Core.Path.{_≡_, refl, ap, _∙_, sym, subst}
 use native.Mathlib.Omega.{arith}
 use Prim.Native.Nat.{_+_, _-_, _*_, _^_, _≤_}
 use lib.ListN.{length}
-use Rattle.card.specs.Card.{recordCount}
+use Rattle.card.specs.Slots.{recordCount}
 use Rattle.report.specs.Window.{slotsAdded, Countable, dayMost}
 use Rattle.report.proofs.Reports.{slots-start, slots-on, slots-countable, countable-more}
 use Rattle.report.proofs.window.add_part.Statement.{statement}

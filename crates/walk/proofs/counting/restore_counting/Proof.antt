@@ -3,7 +3,7 @@ use borrow.Author.Needs.{needs}
 use Prim.Native.Nat.{_+_, _-_, _*_, _^_}
 use native.Mathlib.Omega.{arith}
 use lib.ListN.{length}
-use Rattle.card.specs.Card.{recordCount}
+use Rattle.card.specs.Slots.{recordCount}
 use Rattle.walk.proofs.Tallying.{Walked, walked-start, walked-within, walked-on, walked-further, walked-end}
 use Rattle.walk.proofs.counting.restore_counting.Statement.{statement}
 use Rattle.walk.proofs.counting.restore_counting.Tie as tie
