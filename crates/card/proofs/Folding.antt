@@ -27,17 +27,19 @@ module _ {A : Type 0} (k : ℕ) (step : A → List ℕ → A) (s : A) where
       → v ≡ overFirst k step s part (i + 1)
   over-on part i slot u v eu ev es = ev ∙ ap₂ step eu es ∙ over-more part i
 
-  -- parts with the same slots
-  pub over-same : (a b : List ℕ) (n : ℕ) → ((i : ℕ) → i < n → slotIn k a i ≡ slotIn k b i) → overFirst k step s a n ≡ overFirst k step s b n
+  -- parts of whose slots the step makes the same
+  pub over-same : (a b : List ℕ) (n : ℕ) → ((i : ℕ) → i < n → (u : A) → step u (slotIn k a i) ≡ step u (slotIn k b i))
+      → overFirst k step s a n ≡ overFirst k step s b n
   unfolding overFirst
   over-same a b zero h = refl
-  over-same a b (suc n) h = ap₂ step (over-same a b n (λ i l. h i (omega arith))) (h n (omega arith))
+  over-same a b (suc n) h =
+      ap (λ (u : A). step u (slotIn k a n)) (over-same a b n (λ i l. h i (omega arith))) ∙ h n (omega arith) (overFirst k step s b n)
 
   -- two parts, the first of j whole slots
   pub over-two : (a b : List ℕ) (j : ℕ) → length a ≡ j * sizeOf k → (n : ℕ)
       → overFirst k step s (a ++ b) (j + n) ≡ overFirst k step (overFirst k step s a j) b n
   unfolding overFirst
-  over-two a b j whole zero = rw (add-zero j) (over-same (a ++ b) a j (λ i l. slot-front k a b i j l (omega (arith, whole))))
+  over-two a b j whole zero = rw (add-zero j) (over-same (a ++ b) a j (λ i l u. ap (step u) (slot-front k a b i j l (omega (arith, whole)))))
   over-two a b j whole (suc n) = rw (add-suc j n) (ap₂ step (over-two a b j whole n) (slot-behind k a b n j whole))
 
 -- what h makes of the carried is carried too
@@ -48,6 +50,14 @@ unfolding overFirst
 over-map k f g h same s part zero = refl
 over-map k f g h same s part (suc n) =
     same (overFirst k f s part n) (slotIn k part n) ∙ ap (λ (v : _). g v (slotIn k part n)) (over-map k f g h same s part n)
+
+-- one slot, whole or not
+pub over-one : {A : Type 0} (step : A → List ℕ → A) (s : A) (slot : List ℕ) → 0 < length slot → length slot ≤ recordSize
+    → overSlots step s slot ≡ step s slot
+unfolding overFirst
+over-one step s slot h l =
+    let one : recordCount (length slot) ≡ 1 = omega arith in
+    rw one (ap (step s) (take-all recordSize slot l))
 
 -- ---- all slots of two parts
 

@@ -1,6 +1,6 @@
 -- The theorems about walk and look, and the laws that the functions' proofs use. Assumes nothing.
-pub mod Restoring  -- records restored one behind the other, each lent as a part and put back
+pub mod Restoring  -- a card restored part by part: `restored-in-parts`, `each-alone`, `card-again`
 pub mod Walking  -- a step by its verdict, and the moment after k steps: `walk-done`, `walk-through`
-pub mod Tallying  -- slots counted as they are restored: `slots-counted`, `restored-in-parts`, `card-again`
+pub mod Tallying  -- slots counted as they are restored, each lent as a part and put back: `slots-counted`
 pub mod Looking  -- a look at one record, at a number, between and among steps
 pub mod Demands  -- every demand, under its name in small letters

@@ -1,13 +1,13 @@
 -- A look at a record, and looks between the steps of a walk. Assumes nothing.
 use borrow.Author.Tests.{eq-eqb, ne-eqb, eqb-true}
-use mathlib.Core.Path.{_≡_, refl, sym, ap, ap₂, _∙_}
+use mathlib.Core.Path.{_≡_, refl, sym, ap, ap₂, _∙_, subst}
 use mathlib.Core.Bool.{Bool, true, false}
-use mathlib.Core.List.{List, [], _∷_}
+use mathlib.Core.List.{List, [], _∷_, _++_, append-nil}
 use Prim.Native.Nat.{ℕ, _+_, _-_, _*_, _≤_, _<_}
 use native.Mathlib.Decide.{decLt}
 use native.Mathlib.Omega.{arith}
 use lib.Dec.{eqb}
-use lib.ListN.{length, take, drop, length-drop}
+use lib.ListN.{length, take, drop, length-append, length-take, length-drop, take-append-drop, drop-of-length-le}
 use lib.Seq.{take-all}
 use Rattle.field.specs.Question.{Outcome, accepted, refused, refusal, after}
 use Rattle.field.specs.declared.Question.{Question}
@@ -25,12 +25,13 @@ use Rattle.card.specs.Card.{isNumber, recordNumbered}
 use Rattle.card.proofs.Recording.{copy-accepted}
 use Rattle.card.proofs.Again.{refused-stays, accepted-whole, restored-again, restored-symbols, written-size, written-again}
 use Rattle.walk.specs.declared.Walk.{Walk}
-use Rattle.walk.specs.Restored.{restoredFirst, restoredFrom}
+use Rattle.walk.specs.Restored.{restoredCard, slotsFrom, restoredFrom}
 use Rattle.walk.specs.Walk.{stepAsked, stepCount, stepWritten, afterSteps, afterStates}
 use Rattle.walk.specs.Look.{rowSize, inRow, symbolsOf, uncounted, Shows, lookAsked, lookOf, lookWritten, Looks}
 use Rattle.walk.specs.Demands.{Tells, LookBetween, LookAmong}
+use Rattle.card.proofs.Lines.{record-front, record-behind}
 use Rattle.card.proofs.Numbering.{number-yes, number-low, number-high}
-use Rattle.walk.proofs.Restoring.{first-size, from-size, from-none, record-restored, record-untouched, record-before, record-behind, record-there}
+use Rattle.walk.proofs.Restoring.{card-size, each-alone, from-none}
 use Rattle.walk.proofs.Walking.{going-low, card-by, reached, at-moment}
 
 -- ---- at one record
@@ -152,38 +153,75 @@ pub record SameShown (old new : List ℕ) : Type 0 where
 restored-shown : (r : List ℕ) → SameShown r (recordWritten r)
 restored-shown r = record { answer = uncounted-again r; symbols = ap (λ (w : List ℕ). inRow (wordOf w)) (written-again r) }
 
-first-shown : (k i : ℕ) (card : List ℕ) → i * recordSize < length card → SameShown (recordAt card i) (recordAt (restoredFirst k card) i)
-first-shown k i card h = go (decLt i k)
-  where
-    go : Dec (i < k) → SameShown (recordAt card i) (recordAt (restoredFirst k card) i)
-    go (yes l) = rw (record-restored k i card h l) (restored-shown (recordAt card i))
-    go (no n) = rw (record-untouched k i card h (omega arith)) (record { answer = refl; symbols = refl })
+-- cards of one length, each record of which shows the same
+record Shown (old new : List ℕ) : Type 0 where
+  size : length new ≡ length old
+  each : (i : ℕ) → i * recordSize < length old → SameShown (recordAt old i) (recordAt new i)
 
--- the same with k records behind the first f restored
-from-shown : (f k i : ℕ) (card : List ℕ) → f * recordSize ≤ length card → i * recordSize < length card
-    → SameShown (recordAt card i) (recordAt (restoredFrom f k card) i)
-from-shown f k i card hf h = go (decLt i f)
+shown-same : (card : List ℕ) → Shown card card
+shown-same card = record { size = refl; each = λ i h. record { answer = refl; symbols = refl } }
+
+shown-restored : (card : List ℕ) → Shown card (restoredCard card)
+shown-restored card =
+    record {
+      size = card-size card;
+      each = λ i h. rw (each-alone card .each i (omega arith)) (restored-shown (recordAt card i));
+    }
+
+-- one part behind another, the first of j whole slots
+shown-both : (a b c d : List ℕ) (j : ℕ) → length a ≡ j * recordSize → Shown a c → Shown b d → Shown (a ++ b) (c ++ d)
+shown-both a b c d j whole A B =
+    record {
+      size = length-append c d ∙ omega (arith, A .size, B .size, length-append a b);
+      each = λ i h. go i h (decLt i j);
+    }
   where
-    go : Dec (i < f) → SameShown (recordAt card i) (recordAt (restoredFrom f k card) i)
-    go (yes l) = rw (record-before f k i card hf l) (record { answer = refl; symbols = refl })
+    go : (i : ℕ) → i * recordSize < length (a ++ b) → Dec (i < j) → SameShown (recordAt (a ++ b) i) (recordAt (c ++ d) i)
+    go i h (yes l) =
+        rw (record-front a b i j l (omega (arith, whole)), record-front c d i j l (omega (arith, whole, A .size)))
+        (A .each i (omega (arith, whole)))
+    go i h (no n) =
+        let at : i ≡ j + (i - j) = omega arith in
+        subst (λ (x : ℕ). SameShown (recordAt (a ++ b) x) (recordAt (c ++ d) x)) (sym at)
+        (rw (record-behind a b (i - j) j whole, record-behind c d (i - j) j (A .size ∙ whole))
+        (B .each (i - j) (omega (arith, whole, length-append a b))))
+
+-- k slots behind the first f are restored
+from-shown : (f k : ℕ) (card : List ℕ) → f * recordSize ≤ length card → Shown card (restoredFrom f k card)
+from-shown f k card h =
+    subst (λ (x : List ℕ). Shown x (restoredFrom f k card)) (take-append-drop (f * recordSize) card)
+    (shown-both (take (f * recordSize) card) behind (take (f * recordSize) card) _ f (length-take (f * recordSize) card ∙ omega arith)
+    (shown-same (take (f * recordSize) card))
+    (subst (λ (x : List ℕ). Shown x (restoredCard (slotsFrom f k card) ++ rest)) (take-append-drop (k * recordSize) behind)
+    (go (decLt (length (slotsFrom f k card)) (k * recordSize)))))
+  where
+    behind : List ℕ
+    behind = drop (f * recordSize) card
+
+    rest : List ℕ
+    rest = drop (k * recordSize) (drop (f * recordSize) card)
+
+    -- the last of them may be shorter, and nothing stands behind it
+    none : length (slotsFrom f k card) < k * recordSize → rest ≡ []
+    none l = drop-of-length-le behind {i = k * recordSize} (omega (arith, length-take (k * recordSize) behind))
+
+    go : Dec (length (slotsFrom f k card) < k * recordSize) → Shown (slotsFrom f k card ++ rest) (restoredCard (slotsFrom f k card) ++ rest)
+    go (yes l) = rw (none l, append-nil, append-nil) (shown-restored (slotsFrom f k card))
     go (no n) =
-        let l : f ≤ i = omega arith in
-        let rest : (i - f) * recordSize < length (drop (f * recordSize) card) = simp length-drop (omega arith) in
-        rw (record-behind f k i card hf l, ← record-there f k i card hf l) (first-shown k (i - f) (drop (f * recordSize) card) rest)
+        shown-both (slotsFrom f k card) rest (restoredCard (slotsFrom f k card)) rest k
+        (omega (arith, length-take (k * recordSize) behind)) (shown-restored (slotsFrom f k card)) (shown-same rest)
 
 -- a look at any number, range or not, gives the same on both cards
 pub record SameLook (old new : List ℕ) (number : ℕ) (row : List ℕ) : Type 0 where
   pub answer : lookOf new number row ≡ lookOf old number row
   pub symbols : lookWritten new number row ≡ lookWritten old number row
 
--- cards of one length, each record of which shows the same
-module _ (card new : List ℕ) (size : length new ≡ length card) (number : ℕ) (row : List ℕ)
-    (shown : (i : ℕ) → i * recordSize < length card → SameShown (recordAt card i) (recordAt new i)) where
+module _ (card new : List ℕ) (S : Shown card new) (number : ℕ) (row : List ℕ) where
   same-look : SameLook card new number row
   same-look = go (lookAsked (length card) number (length row)) refl
     where
       same-asked : lookAsked (length card) number (length row) ≡ lookAsked (length new) number (length row)
-      same-asked = ap (λ (n : ℕ). lookAsked n number (length row)) (sym size)
+      same-asked = ap (λ (n : ℕ). lookAsked n number (length row)) (sym (S .size))
 
       go : (v : Verdict) → v ≡ lookAsked (length card) number (length row) → SameLook card new number row
       go (Refused q) e =
@@ -192,7 +230,7 @@ module _ (card new : List ℕ) (size : length new ≡ length card) (number : ℕ
             symbols = sym (written-by new number row (Refused q) (e ∙ same-asked)) ∙ written-by card number row (Refused q) e;
           }
       go Passed e =
-          let s = shown (number - 1) (looked-at (length card) number (length row) Passed e refl) in
+          let s = S .each (number - 1) (looked-at (length card) number (length row) Passed e refl) in
           record {
             answer = sym (answer-by new number row Passed (e ∙ same-asked)) ∙ s .answer ∙ answer-by card number row Passed e;
             symbols = sym (written-by new number row Passed (e ∙ same-asked))
@@ -200,11 +238,9 @@ module _ (card new : List ℕ) (size : length new ≡ length card) (number : ℕ
                 ∙ written-by card number row Passed e;
           }
 
-pub first-look : (card : List ℕ) (k number : ℕ) (row : List ℕ) → SameLook card (restoredFirst k card) number row
-first-look card k number row = same-look card (restoredFirst k card) (first-size k card) number row (λ i h. first-shown k i card h)
-
 pub look-same : (card : List ℕ) (k number : ℕ) (row : List ℕ) → SameLook card (afterSteps k card .card) number row
-look-same card k number row = rw (at-moment k card) (first-look card (reached k card) number row)
+look-same card k number row =
+    rw (at-moment k card) (same-look card (restoredFrom 0 (reached k card) card) (from-shown 0 (reached k card) card (omega arith)) number row)
 
 -- after one step in any state
 step-look : (w : Walk) (card : List ℕ) (number : ℕ) (row : List ℕ) → SameLook card (stepWritten w card) number row
@@ -221,7 +257,7 @@ step-look w card number row = go (stepAsked w (length card)) refl
 
     treated : 1 ≤ w .next → Dec (f < recordCount (length card)) → SameLook card (restoredFrom f count card) number row
     treated l (yes h) =
-        same-look card (restoredFrom f count card) (from-size f count card) number row (λ i hi. from-shown f count i card (omega arith) hi)
+        same-look card (restoredFrom f count card) (from-shown f count card (omega arith)) number row
     treated l (no n) =
         let none : count ≡ 0 = omega arith in
         rw (none, from-none f card) unchanged

@@ -5,6 +5,7 @@ use mathlib.Core.Bool.{Bool, true, false}
 use mathlib.Core.List.{List}
 use Prim.Native.Nat.{ℕ, zero, suc, _+_, _-_, _*_, _≤_, _<_, min}
 use native.Mathlib.Decide.{decLt}
+use native.Mathlib.Nat.{zero-add}
 use native.Mathlib.Omega.{arith}
 use lib.Dec.{eqb}
 use lib.ListN.{length}
@@ -15,15 +16,16 @@ use Rattle.field.specs.declared.Verdict.{Verdict}
 use Rattle.field.specs.declared.Verdict.the-variants.{Passed, Refused}
 use Rattle.field.proofs.Ask.{ask-yes, ask-next}
 use Rattle.code.specs.Call.{done, written}
+use Rattle.card.specs.Record.{recordSize}
 use Rattle.card.specs.Slots.{recordCount}
 use Rattle.card.specs.Card.{isNumber}
 use Rattle.walk.specs.declared.Walk.{Walk}
-use Rattle.walk.specs.Restored.{restoredFirst, restoredFrom}
+use Rattle.walk.specs.Restored.{restoredFrom}
 use Rattle.walk.specs.Walk.{stepRecords, walkAt, stepAsked, stepCount, stateAfter, stepState, stepWritten, Steps}
 use Rattle.walk.specs.Walk.{Moment, stepped, afterSteps, stepsOf, stateOver}
 use Rattle.walk.specs.Demands.{WalkDone, WalkThrough, AfterEnd, OtherLength, RefusedStep, Unmoved}
 use Rattle.card.proofs.Numbering.{number-yes, number-low, number-high}
-use Rattle.walk.proofs.Restoring.{first-size, first-on, from-none}
+use Rattle.walk.proofs.Restoring.{from-size, from-none, from-all, from-on}
 
 -- ---- the questions
 
@@ -175,11 +177,15 @@ abbrev stateAt : ℕ → List ℕ → Walk
 stateAt k card = stateIn k (length card)
 
 abbrev cardAt : ℕ → List ℕ → List ℕ
-cardAt k card = restoredFirst (reached k card) card
+cardAt k card = restoredFrom 0 (reached k card) card
+
+step-on : (i m : ℕ) (card : List ℕ) → i * recordSize ≤ length card → restoredFrom i m (restoredFrom 0 i card) ≡ restoredFrom 0 (i + m) card
+step-on i m card h =
+    ap (λ (n : ℕ). restoredFrom n m (restoredFrom 0 i card)) (sym (zero-add i)) ∙ from-on 0 i card (rw zero-add h) m
 
 module _ (k : ℕ) (card : List ℕ) where
   size : length (cardAt k card) ≡ length card
-  size = first-size (reached k card) card
+  size = from-size 0 (reached k card) card
 
   asked-at : Passed ≡ stepAsked (stateAt k card) (length (cardAt k card))
   asked-at = asked-in k (length card) (cardAt k card) size
@@ -202,22 +208,23 @@ module _ (k : ℕ) (card : List ℕ) where
       go : Dec (reached k card < recordCount (length card)) → restoredFrom (reached k card) count (cardAt k card) ≡ cardAt (suc k) card
       go (yes h) =
           let more : reached k card + count ≡ reached (suc k) card = omega (arith, size) in
-          first-on (reached k card) count card (omega arith) ∙ ap (λ (i : ℕ). restoredFirst i card) more
+          step-on (reached k card) count card (omega arith) ∙ ap (λ (i : ℕ). restoredFrom 0 i card) more
       go (no n) =
           let none : count ≡ 0 = omega (arith, size) in
           let same : reached k card ≡ reached (suc k) card = omega arith in
           ap (λ (m : ℕ). restoredFrom (reached k card) m (cardAt k card)) none
           ∙ from-none (reached k card) (cardAt k card)
-          ∙ ap (λ (i : ℕ). restoredFirst i card) same
+          ∙ ap (λ (i : ℕ). restoredFrom 0 i card) same
 
 abbrev moment : List ℕ → Walk → Moment
 moment c w = record { state = w; card = c }
 
 pub at-moment : (k : ℕ) (card : List ℕ) → afterSteps k card ≡ record { state = stateAt k card; card = cardAt k card }
-unfolding afterSteps restoredFirst
+unfolding afterSteps
 at-moment zero card =
     let none : 0 ≡ reached 0 card = omega arith in
-    ap₂ (λ (c : List ℕ) (i : ℕ). moment c (walkAt (length card) (i + 1))) (ap (λ (i : ℕ). restoredFirst i card) none) none
+    ap₂ (λ (c : List ℕ) (i : ℕ). moment c (walkAt (length card) (i + 1)))
+    (sym (from-none 0 card) ∙ ap (λ (i : ℕ). restoredFrom 0 i card) none) none
 at-moment (suc k) card = ap stepped (at-moment k card) ∙ ap₂ moment (card-on k card) (state-on k card)
 
 pub walk-done : WalkDone
@@ -228,5 +235,5 @@ walk-done card =
       passed = λ j h. rw (at-moment j card) (sym (ap done (asked-at j card)));
       not-before = λ j h. rw (at-moment j card) (omega arith);
       next = rw (at-moment steps card) (ap (λ (i : ℕ). i + 1) all);
-      content = rw (at-moment steps card) (ap (λ (i : ℕ). restoredFirst i card) all);
+      content = rw (at-moment steps card) (from-all (reached steps card) card (omega (arith, all)));
     }

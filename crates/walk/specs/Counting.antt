@@ -3,27 +3,19 @@
 use mathlib.Core.Path.{_≡_}
 use mathlib.Core.Bool.{cond}
 use mathlib.Core.List.{List, [], _∷_, _++_}
-use Prim.Native.Nat.{ℕ, zero, suc, _+_, _-_, _*_, _≤_}
-use lib.ListN.{length, drop}
+use Prim.Native.Nat.{ℕ, _+_, _-_, _*_, _≤_}
+use lib.ListN.{length}
 use Rattle.field.specs.declared.Verdict.{Verdict}
 use Rattle.field.specs.declared.Verdict.the-variants.{Passed, Refused}
 use Rattle.card.specs.declared.Progress.{Progress}
 use Rattle.card.specs.Record.{recordSize, recordWritten}
-use Rattle.card.specs.Slots.{recordCount, recordAt, isBlank}
-use Rattle.card.specs.Listing.{decimal, newline, slotCounted, progressAt, partProgress, start, bytesOf}
-use Rattle.card.specs.Batch.{longestField, further}
+use Rattle.card.specs.Slots.{recordCount, isBlank, overSlots}
+use Rattle.card.specs.Listing.{bytesOf, decimal, newline, slotFurther, partProgress, start}
+use Rattle.card.specs.Batch.{longestField}
 use Rattle.walk.specs.declared.Walk.{Walk}
 use Rattle.walk.specs.declared.counting.Counted.{Counted}
-use Rattle.walk.specs.Restored.{restoredFrom, restoredCard}
+use Rattle.walk.specs.Restored.{slotsFrom, restoredFrom, restoredCard}
 use Rattle.walk.specs.Walk.{stepAsked, stepCount, Steps}
-
--- one slot further: a record is counted by what restoring it answers, a blank slot enters no total
-abbrev pub slotFurther : Progress → List ℕ → Progress
-slotFurther s slot = further s (slotCounted (s .totals) slot)
-
--- the k slots behind the first i, as they are on this card
-abbrev pub progressFrom : Progress → List ℕ → ℕ → ℕ → Progress
-progressFrom s card i k = progressAt s (drop (i * recordSize) card) k
 
 -- a slot is restored in its place and counted
 pub record CountsSlot (s : Progress) (old : List ℕ) (r : Progress) (new : List ℕ) : Type 0 where
@@ -33,7 +25,7 @@ pub record CountsSlot (s : Progress) (old : List ℕ) (r : Progress) (new : List
 -- so are the k slots behind the first i
 pub record CountsFrom (i k : ℕ) (s : Progress) (old : List ℕ) (r : Progress) (new : List ℕ) : Type 0 where
   pub content : new ≡ restoredFrom i k old
-  pub progress : r ≡ progressFrom s old i k
+  pub progress : r ≡ partProgress s (slotsFrom i k old)
 
 -- so is a card
 pub record CountsCard (s : Progress) (old : List ℕ) (r : Progress) (new : List ℕ) : Type 0 where
@@ -48,7 +40,7 @@ progressAfter Passed old new = new
 progressAfter (Refused q) old new = old
 
 unfoldable pub stepProgress : Walk → Progress → List ℕ → Progress
-stepProgress w s card = progressAfter (stepAsked w (length card)) s (progressFrom s card (w .next - 1) (stepCount w (length card)))
+stepProgress w s card = progressAfter (stepAsked w (length card)) s (partProgress s (slotsFrom (w .next - 1) (stepCount w (length card)) card))
 
 -- it does as one that does not count, and counts the slots that it treats
 pub record StepsCounting (w : Walk) (s : Progress) (old : List ℕ) (r : Counted) (new : List ℕ) : Type 0 where
@@ -57,10 +49,13 @@ pub record StepsCounting (w : Walk) (s : Progress) (old : List ℕ) (r : Counted
 
 -- ---- blank slots
 
--- the blank ones among the first k slots of the card
-unfoldable pub blanksOf : List ℕ → ℕ → ℕ
-blanksOf card zero = 0
-blanksOf card (suc k) = blanksOf card k + cond (isBlank (recordAt card k)) 1 0
+-- one more where the slot is blank
+abbrev pub blankCounted : ℕ → List ℕ → ℕ
+blankCounted n slot = n + cond (isBlank slot) 1 0
+
+-- the blank slots of the card
+abbrev pub blanksOf : List ℕ → ℕ
+blanksOf card = overSlots blankCounted 0 card
 
 -- all slots but the accepted and the refused records
 abbrev pub blanksCounted : Progress → ℕ
@@ -91,8 +86,8 @@ longestRestored = 34 + 4 * longestField
 -- accepted and refused records and blank slots make the slots of the card, and those that are counted blank are blank
 pub record AllCounted (card : List ℕ) (s : Progress) : Type 0 where
   pub slots : s .next ≡ recordCount (length card) + 1
-  pub make : s .totals .accepted + s .totals .refused + blanksOf card (recordCount (length card)) ≡ recordCount (length card)
-  pub blank : blanksCounted s ≡ blanksOf card (recordCount (length card))
+  pub make : s .totals .accepted + s .totals .refused + blanksOf card ≡ recordCount (length card)
+  pub blank : blanksCounted s ≡ blanksOf card
 
 abbrev pub SlotsCounted : Type 0
 SlotsCounted = (card : List ℕ) → AllCounted card (partProgress start card)

@@ -1,5 +1,5 @@
 -- The definitions of the walk over a card, and of a look at a record. Assumes nothing.
-pub mod Restored  -- records of a card, each restored alone
+pub mod Restored  -- a card restored, and some of its slots in their place
 pub mod Walk  -- a step (`Steps`), steps one after the other, over other cards, and in any states
 pub mod Look  -- a look at a record, with a lent row (`Looks`) or one by value (`LooksAt`)
 pub mod Counting  -- a walk that counts as a listing does, and its last line

@@ -1,19 +1,19 @@
--- The records of a card, each restored alone. Assumes nothing.
-use mathlib.Core.List.{List, _++_}
-use Prim.Native.Nat.{ℕ, zero, suc, _*_}
-use lib.ListN.{length, take, drop}
+-- The slots of a card, each restored alone. Assumes nothing.
+use mathlib.Core.List.{List, [], _++_}
+use Prim.Native.Nat.{ℕ, _*_}
+use lib.ListN.{take, drop}
 use Rattle.card.specs.Record.{recordSize, recordWritten}
-use Rattle.card.specs.Slots.{recordCount}
+use Rattle.card.specs.Slots.{overSlots, appended}
 
--- the first k records restored, each alone; what comes behind them is as it was
-unfoldable pub restoredFirst : ℕ → List ℕ → List ℕ
-restoredFirst zero bytes = bytes
-restoredFirst (suc k) bytes = recordWritten (take recordSize bytes) ++ restoredFirst k (drop recordSize bytes)
-
--- the k records behind the first i restored
-abbrev pub restoredFrom : ℕ → ℕ → List ℕ → List ℕ
-restoredFrom i k card = take (i * recordSize) card ++ restoredFirst k (drop (i * recordSize) card)
-
--- every record restored
+-- every record restored; a blank slot is refused as a record, and stays
 abbrev pub restoredCard : List ℕ → List ℕ
-restoredCard card = restoredFirst (recordCount (length card)) card
+restoredCard card = overSlots (appended recordWritten) [] card
+
+-- the k slots behind the first i
+abbrev pub slotsFrom : ℕ → ℕ → List ℕ → List ℕ
+slotsFrom i k card = take (k * recordSize) (drop (i * recordSize) card)
+
+-- these restored in their place; what stands before and behind them is as it was
+abbrev pub restoredFrom : ℕ → ℕ → List ℕ → List ℕ
+restoredFrom i k card =
+    take (i * recordSize) card ++ (restoredCard (slotsFrom i k card) ++ drop (k * recordSize) (drop (i * recordSize) card))

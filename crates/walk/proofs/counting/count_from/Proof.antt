@@ -5,7 +5,7 @@ use Prim.Native.Nat.{_-_, _*_, _^_, _≤_}
 use native.Mathlib.Omega.{arith}
 use lib.ListN.{length}
 use Rattle.walk.specs.Counting.{CountsFrom}
-use Rattle.walk.proofs.Tallying.{counts-none, loop-within-bound, counts-on, counts-end}
+use Rattle.walk.proofs.Tallying.{counts-none, counts-within, counts-on, counts-end}
 use Rattle.walk.proofs.counting.count_from.Statement.{statement}
 use Rattle.walk.proofs.counting.count_from.Tie as tie
 
@@ -27,7 +27,7 @@ count-at-requires c κs =
     let turn = c .before .before .loop in
     let start = c .before .before .before .before in (
       omega arith,
-      loop-within-bound _ (turn .i) (start .args .count) (start .args .s) (turn .progress) _ _ (turn .inv .2) (3 * 2 ^ 61) (2 ^ 63) (start .pre .2)
+      counts-within _ (turn .i) (start .args .s) (turn .progress) _ _ (turn .inv .2) (3 * 2 ^ 61) (2 ^ 63) (start .pre .2)
           (omega arith),
     )
 

@@ -4,7 +4,7 @@ use Prim.Native.Nat.{_+_, _-_, _*_, _^_}
 use native.Mathlib.Omega.{arith}
 use lib.ListN.{length}
 use Rattle.card.specs.Slots.{recordCount}
-use Rattle.walk.proofs.Tallying.{Walked, walked-start, walked-within, walked-on, walked-further, walked-end}
+use Rattle.walk.proofs.Tallying.{Walked, walked-start, walked-long, walked-within, walked-on, walked-further, walked-end}
 use Rattle.walk.proofs.counting.restore_counting.Statement.{statement}
 use Rattle.walk.proofs.counting.restore_counting.Tie as tie
 
@@ -38,7 +38,7 @@ loop-again : tie.Need-loop-again Inv-loop μ-loop
 loop-again c = walked-on (c .before .before .before .before .before .before .before .before .before .loop .inv) (c .before .before .before .before .before .step-counting .ensures) (omega arith)
 
 same-length : tie.Need-same-length Inv-loop μ-loop
-same-length c = c .before .before .loop .inv .long
+same-length c = walked-long (c .before .before .loop .inv)
 
 returns : tie.Need-returns Inv-loop μ-loop
 returns c = walked-end (c .before .before .loop .inv) (omega arith)
