@@ -11,9 +11,11 @@ use borrow.Author.Tests.{eqb-true, not-false}
 use lib.Dec.{eqb, lit≤}
 use lib.ListN.{length, length-append}
 use Rattle.card.specs.declared.Progress.{Progress}
-use Rattle.card.specs.Slots.{recordCount, Came}
+use Rattle.card.specs.Record.{erasureBytes, recordSize}
+use Rattle.card.specs.Slots.{recordCount, overSlots, Came}
 use Rattle.card.specs.Listing.{start}
 use Rattle.card.specs.Batch.{batchRecords, batchSize, mostBatches, Within, Continues}
+use Rattle.card.proofs.Folding.{over-none, in-parts}
 use Rattle.card.proofs.Bounds.{progress-within}
 
 module _ {A : Type 0} (over : A → List ℕ → A) where
@@ -53,6 +55,22 @@ module _ {A : Type 0} (over : A → List ℕ → A) where
         let E = came-more in
         let last : (i + 1) * (batchRecords * size) ≤ m * (batchRecords * size) = mul-le-mul-right (batchRecords * size) (omega arith) in
         record { bytes = E .bytes; content = E .content; most = omega (arith, last, E .most); full = λ b. absurd (false≢true b) }
+
+-- ---- the slots of today's edition
+
+module _ {A : Type 0} (step : A → List ℕ → A) (s : A) where
+  pub slots-start : Came (overSlots step) 0 s s true
+  slots-start = came-start (overSlots step) batchSize s (over-none erasureBytes step s [])
+
+  module _ (i : ℕ) (t : A) (C : Came (overSlots step) (i * batchSize) s t true) (u : A) (going : Bool) (D : Came (overSlots step) batchSize t u going) where
+    pub slots-more : Came (overSlots step) ((i + 1) * batchSize) s u going
+    slots-more = came-more (overSlots step) recordSize (in-parts step) s i t C u going D
+
+    pub slots-on : not going ≡ false → Came (overSlots step) ((i + 1) * batchSize) s u true
+    slots-on = came-on (overSlots step) recordSize (in-parts step) s i t C u going D
+
+    pub slots-end : (m : ℕ) → i < m → Came (overSlots step) (m * batchSize) s u false
+    slots-end = came-end (overSlots step) recordSize (in-parts step) s i t C u going D
 
 -- the numbers of a listing are small
 pub continues-within : (i : ℕ) (s : Progress) → Continues (i * batchSize) start s true → i ≤ mostBatches → Within (2 ^ 62) s

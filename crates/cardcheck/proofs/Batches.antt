@@ -1,58 +1,62 @@
 -- The check comes from batch to batch. Assumes nothing.
-use mathlib.Core.Path.{_≡_, refl, sym, _∙_}
+use mathlib.Core.Path.{_≡_, refl, sym, ap, _∙_, subst}
 use mathlib.Core.Bool.{Bool, true, false, not}
-use mathlib.Core.List.{List, [], _++_}
+use mathlib.Core.List.{List}
 use Prim.Native.Nat.{ℕ, _+_, _*_}
 use native.Mathlib.Omega.{arith}
 use borrow.Author.Tests.{not-false}
-use lib.ListN.{length, length-append}
-use Rattle.card.specs.Card.{noBad, firstRefused}
-use Rattle.card.specs.Batch.{batchSize}
-use Rattle.card.specs.Checked.{okLine, Finds, FindsBatch, FindsSome, Says}
+use lib.ListN.{length}
+use Rattle.card.specs.Slots.{recordCount, overSlots, Came}
+use Rattle.card.specs.Card.{Search, passed, sought}
+use Rattle.card.specs.Batch.{batchRecords, batchSize}
+use Rattle.card.specs.Checked.{okLine, checkText, names, Finds, FindsBatch, FindsSome, Says}
 use Rattle.card.specs.Placed.{Writes}
 use Rattle.card.specs.declared.checked.Found.{Found}
-use Rattle.card.specs.declared.CardCheck.the-variants.{AllAccepted}
-use Rattle.card.proofs.Finding.{finds-none, finds-behind, found-none, says-found, says-ok}
+use Rattle.card.proofs.Coming.{slots-start, slots-more, slots-on}
+use Rattle.card.proofs.Finding.{passed-all, found-none, says-found, says-ok}
+use Rattle.card.proofs.Writing.{writes-none}
 
 -- i whole batches were checked, and no record of them would be refused
-pub record Fine (i : ℕ) : Type 0 where
-  pub bytes : List ℕ
-  pub whole : length bytes ≡ i * batchSize
-  pub none : firstRefused bytes ≡ noBad
+abbrev pub Fine : ℕ → Type 0
+Fine i = Came (overSlots sought) (i * batchSize) (passed 0) (passed (i * batchRecords)) true
 
 pub fine-start : Fine 0
-unfolding firstFrom
-fine-start = record { bytes = []; whole = refl; none = refl }
+fine-start = slots-start sought (passed 0)
 
 -- nothing is written before a record is named
-pub some-none : {i : ℕ} → Fine i → (out : List ℕ) → FindsSome out (record { any = false; used = 0 }) out
-some-none F out = record { bytes = F .bytes; found = finds-none 0 (F .bytes) AllAccepted (sym (F .none)) refl out }
+pub some-none : (i : ℕ) → Fine i → (out : List ℕ) → FindsSome out (record { any = false; used = 0 }) out
+some-none i F out =
+    let N : Finds (passed (i * batchRecords)) out (record { any = false; used = 0 }) out =
+    record { any = refl; text = writes-none out 0 (omega arith) } in
+    record { bytes = F .bytes; found = subst (λ (u : Search). Finds u out _ out) (F .content) N }
 
 -- and one more batch
-module _ {i : ℕ} (F : Fine i) {old new : List ℕ} {r : Found} {going : Bool} (G : FindsBatch (i * 400) old r going new) where
-  both : Finds 0 (F .bytes ++ G .bytes) old r new
-  both = finds-behind (F .bytes) (G .bytes) (i * 400) (omega (arith, F .whole)) (F .none) (G .found)
-
+module _ (i : ℕ) (F : Fine i) {old new : List ℕ} {r : Found} {going : Bool} (G : FindsBatch (i * batchRecords) old r going new) where
   pub some-found : FindsSome old r new
-  some-found = record { bytes = F .bytes ++ G .bytes; found = both }
+  some-found =
+      let both = slots-more sought (passed 0) i (passed (i * batchRecords)) F (G .end) going (G .came) in
+      record { bytes = both .bytes; found = subst (λ (u : Search). Finds u old r new) (both .content) (G .found) }
 
   pub fine-more : r .any ≡ false → not going ≡ false → Fine (i + 1)
   fine-more t g =
-      let long = length-append (F .bytes) (G .bytes) in
-      let full = G .full (not-false going g) in
-      record {
-        bytes = F .bytes ++ G .bytes;
-        whole = long ∙ omega (arith, F .whole, full);
-        none = found-none (F .bytes ++ G .bytes) both t .0;
-      }
+      let full = G .came .full (not-false going g) in
+      let all : i * batchRecords + recordCount (length (G .came .bytes)) ≡ (i + 1) * batchRecords = omega (arith, full) in
+      let none = ap names (G .came .content) in
+      subst (λ (u : Search). Came (overSlots sought) ((i + 1) * batchSize) (passed 0) u true)
+      (G .came .content
+      ∙ passed-all (i * batchRecords) (G .came .bytes) (sym none ∙ found-none (G .end) (G .found) t .0)
+      ∙ ap passed all)
+      (slots-on sought (passed 0) i (passed (i * batchRecords)) F (G .end) going (G .came) g)
 
   pub same-out : r .any ≡ false → new ≡ old
-  same-out t = found-none (F .bytes ++ G .bytes) both t .1
+  same-out t = found-none (G .end) (G .found) t .1
 
 -- the line of the card
 module _ {old new : List ℕ} {r : Found} (S : FindsSome old r new) where
   pub says-record : r .any ≡ true → Says old (r .used) new
-  says-record t = record { bytes = S .bytes; text = says-found (S .bytes) (S .found) t }
+  unfolding checkText
+  says-record t = record { bytes = S .bytes; text = says-found _ (S .found) t }
 
   pub says-fine : r .any ≡ false → {last : List ℕ} {u : ℕ} → Writes new 0 okLine last u → Says old u last
-  says-fine t w = record { bytes = S .bytes; text = says-ok (S .bytes) (S .found) t w }
+  unfolding checkText
+  says-fine t w = record { bytes = S .bytes; text = says-ok _ (S .found) t w }

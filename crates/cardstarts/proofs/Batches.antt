@@ -14,17 +14,9 @@ use Rattle.card.specs.Listing.{mostRecords}
 use Rattle.card.specs.Batch.{batchRecords, batchSize}
 use Rattle.report.specs.Window.{isWindow, noReport, partAdded, finished, reportSize, dayMost, Countable}
 use Rattle.report.specs.declared.window.Window.{Window}
-use Rattle.report.proofs.Reports.{zeros-countable, slots-countable, countable-more, slots-start, in-parts}
+use Rattle.report.proofs.Reports.{zeros-countable, slots-countable, countable-more}
 use Rattle.report.proofs.Reports.{report-short, report-long, report-countable}
 use Rattle.cardstarts.specs.Batches.{Adds, Reported}
-
--- the bytes of one batch
-pub adds-batch : (w : Window) (old new bytes : List ℕ) (n : ℕ) → new ≡ partAdded w old bytes → length bytes ≡ n → n ≤ batchSize
-    → Adds batchSize w old new (eqb n batchSize)
-adds-batch w old new bytes n e l h = record { bytes = bytes; content = e; most = omega arith; full = λ t. l ∙ eqb-true n batchSize t }
-
-pub adds-start : (w : Window) → Adds 0 w noReport noReport true
-adds-start w = record { bytes = []; content = slots-start w noReport []; most = lit≤ tt; full = λ t. refl }
 
 -- behind i whole batches
 module _ (w : Window) (i : ℕ) (R : List ℕ) (A : Adds (i * batchSize) w noReport R true) where
@@ -36,29 +28,6 @@ module _ (w : Window) (i : ℕ) (R : List ℕ) (A : Adds (i * batchSize) w noRep
       rw (A .content)
       (countable-more (0 + k * dayMost) (2 ^ 62) (omega arith) (partAdded w noReport (A .bytes))
       (slots-countable w wh 0 noReport (zeros-countable 0 reportSize refl) (A .bytes) k))
-
-  -- and one more
-  module _ (S : List ℕ) (going : Bool) (B : Adds batchSize w R S going) where
-    adds-more : Adds ((i + 1) * batchSize) w noReport S going
-    adds-more =
-        let whole : length (A .bytes) ≡ i * batchRecords * recordSize = A .full refl ∙ omega arith in
-        let both = length-append (A .bytes) (B .bytes) in
-        record {
-          bytes = A .bytes ++ B .bytes;
-          content = B .content
-              ∙ ap (λ (x : List ℕ). partAdded w x (B .bytes)) (A .content)
-              ∙ sym (in-parts w (A .bytes) (B .bytes) (i * batchRecords) whole noReport);
-          most = omega (arith, both, whole, B .most);
-          full = λ g. both ∙ omega (arith, whole, B .full g);
-        }
-
-    pub adds-on : not going ≡ false → Adds ((i + 1) * batchSize) w noReport S true
-    adds-on g = subst (λ (b : Bool). Adds ((i + 1) * batchSize) w noReport S b) (not-false going g) adds-more
-
-    pub adds-end : i < 2500 → Adds (mostRecords * recordSize) w noReport S false
-    adds-end h =
-        let E = adds-more in
-        record { bytes = E .bytes; content = E .content; most = omega (arith, E .most); full = λ t. absurd (false≢true t) }
 
 -- behind all batches: the card ends there, or goes on with some byte
 module _ (w : Window) (R new : List ℕ) where

@@ -17,17 +17,18 @@ use Rattle.code.specs.Word.{at}
 use Rattle.code.specs.Demands.{occurs}
 use Rattle.card.specs.Record.{recordSize}
 use Rattle.card.specs.Card.{LiesAt}
+use Rattle.card.proofs.Folding.{in-parts}
 use Rattle.sheet.specs.Sheet.{quarters}
 use Rattle.sheet.proofs.Asking.{after-accepted}
 use Rattle.report.specs.Day.{hasRecord, slotOf, Day, sheet, noSheet, dayOf, daySymbols}
 use Rattle.report.specs.Compare.{signsOf, sheetSigns, sameDay, chosenOf, comparedOf, shownSigns, shownTotal}
 use Rattle.report.specs.Compare.{symbolsAt, numbersAsked, compareOf, compareSigns, compareTotal, partOf}
+use Rattle.report.specs.Window.{slotAdded}
 use Rattle.report.specs.Demands.{Agreed, CompareAccepts, SignsStand, TotalsCount, TotalsMake, StandsAt, PartStands, RefusedNothing}
 use Rattle.report.specs.Demands.{AllCounted, TotalsStand, KindsCounted, MoreSaid, MeanStands, HighestStands, Ordered, PartsAdded, QuartersRead}
 use Rattle.report.proofs.Days.{slot-some, is-sheet}
 use Rattle.report.proofs.Comparing.{sheet-signs-long, sheet-signs-at, compared-number, compared-other}
 use Rattle.report.proofs.Order.{earlier-irreflexive, earlier-transitive, earlier-total}
-use Rattle.report.proofs.Reports.{in-parts}
 use Rattle.report.proofs.Quarters.{stands-for, quarter-texts}
 use Rattle.report.proofs.Starts.{all-looked, row-totals, refused-total, blank-total, goes-on, goes-not-on, row-mean, row-none, row-highest}
 
@@ -187,7 +188,7 @@ pub ordered : Ordered
 ordered = record { irreflexive = earlier-irreflexive; transitive = earlier-transitive; total = earlier-total }
 
 pub parts-added : PartsAdded
-parts-added w report a b j whole = in-parts w a b j whole report
+parts-added w report a b j whole = in-parts (slotAdded w) a b j whole report
 
 -- ---- quarter hours
 

@@ -4,8 +4,7 @@ use mathlib.Core.Logic.{_≢_}
 use mathlib.Core.Bool.{Bool, true, false, cond}
 use mathlib.Core.List.{List, [], _∷_, _++_, append-nil}
 use Prim.Native.Nat.{ℕ, zero, suc, _+_, _-_, _*_, _^_, _≤_, _<_}
-use native.Mathlib.Nat.{add-zero, add-suc, div-le-self, mod-le}
-use native.Mathlib.Numerals.{add-one}
+use native.Mathlib.Nat.{div-le-self, mod-le}
 use native.Mathlib.Omega.{arith}
 use borrow.Author.Tests.{lt-ltb, le-ltb, ltb-true, ltb-false, eqb-true}
 use lib.Dec.{eqb, ltb}
@@ -19,16 +18,15 @@ use Rattle.field.specs.declared.Verdict.the-variants.{Passed, Refused}
 use Rattle.field.proofs.Ask.{ask-yes, ask-next}
 use Rattle.code.specs.Word.{at}
 use Rattle.code.specs.Call.{written, done}
-use Rattle.card.specs.Record.{recordSize}
-use Rattle.card.specs.Slots.{recordCount, recordAt, isBlank}
+use Rattle.card.specs.Record.{erasureBytes, recordSize}
+use Rattle.card.specs.Slots.{recordCount, recordAt, isBlank, overFirst}
 use Rattle.card.specs.Listing.{mostRecords, listedPart}
-use Rattle.card.proofs.Lines.{record-front, record-behind}
 use Rattle.sheet.specs.Sheet.{yearAt, monthAt, dayAt, pumpAt, sheetSize}
 use Rattle.sheet.specs.Demands.{SheetSymbols}
 use Rattle.report.specs.Day.{Day, sheet, noSheet, dayOf}
 use Rattle.report.specs.Window.{isWindow, countsIn, highestOf, countsOf, dateOf, leads, rowWith}
 use Rattle.report.specs.Window.{pumps, rowSize, refusedAt, blankAt, moreAt, reportSize, rowFrom, rowNumbers, rowOf, withRow, oneMore, noReport}
-use Rattle.report.specs.Window.{dayAdded, slotAdded, slotsAdded, partAdded, finished, goesOn, reportOf, startsAsked, Starts, Within, Countable, Most, dayMost}
+use Rattle.report.specs.Window.{dayAdded, slotAdded, partAdded, finished, goesOn, reportOf, startsAsked, Starts, Within, Countable, Most, dayMost}
 use Rattle.report.specs.declared.window.Window.{Window}
 use Rattle.report.specs.declared.window.Peak.{Peak}
 use Rattle.report.specs.declared.window.Row.{Row}
@@ -253,6 +251,10 @@ module _ (b : ℕ) (R : List ℕ) (C : Countable b R) (p : ℕ) (h : p < pumps) 
 pub pump-small : (ss : List ℕ) → SheetSymbols ss → at ss pumpAt < pumps
 pump-small ss S = S .symbols pumpAt (omega arith)
 
+-- with the first k slots of a part of a card
+abbrev pub slotsAdded : Window → List ℕ → List ℕ → ℕ → List ℕ
+slotsAdded w R part k = overFirst erasureBytes (slotAdded w) R part k
+
 module _ (w : Window) (wh : isWindow w ≡ true) where
   one-countable : (b : ℕ) (R : List ℕ) → Countable b R → (i : ℕ) → Countable (b + dayMost) (oneMore i R)
   one-countable b R C i = record {
@@ -273,7 +275,7 @@ module _ (w : Window) (wh : isWindow w ≡ true) where
           sheet-countable b R C (at ss pumpAt) (pump-small ss S) w wh ss S
 
   pub slots-countable : (b : ℕ) (R : List ℕ) → Countable b R → (part : List ℕ) (k : ℕ) → Countable (b + k * dayMost) (slotsAdded w R part k)
-  unfolding slotsAdded
+  unfolding overFirst
   slots-countable b R C part zero = subst (λ (n : ℕ). Countable n R) (sym none) C
     where
       none : b + zero * dayMost ≡ b
@@ -296,36 +298,6 @@ module _ (w : Window) (R slot : List ℕ) (b : Bool) (e : b ≡ isBlank slot) wh
   pub slot-record : b ≡ false → (new : List ℕ) → new ≡ dayAdded w R (dayOf slot) → new ≡ slotAdded w R slot
   unfolding slotAdded
   slot-record t new f = f ∙ ap (λ (c : Bool). cond c (oneMore blankAt R) (dayAdded w R (dayOf slot))) (sym t ∙ e)
-
-module _ (w : Window) (R part : List ℕ) where
-  pub slots-start : R ≡ slotsAdded w R part 0
-  unfolding slotsAdded
-  slots-start = refl
-
-  pub slots-on : (i : ℕ) (now slot new : List ℕ) → now ≡ slotsAdded w R part i → slot ≡ recordAt part i → new ≡ slotAdded w now slot
-      → new ≡ slotsAdded w R part (i + 1)
-  unfolding slotsAdded
-  slots-on i now slot new en es e = rw (add-one i) (e ∙ ap₂ (slotAdded w) en es)
-
--- ---- two parts of a card, the first of j whole slots
-
-module _ (w : Window) (a b : List ℕ) where
-  slots-front : (R : List ℕ) (j : ℕ) → j * recordSize ≤ length a → slotsAdded w R (a ++ b) j ≡ slotsAdded w R a j
-  unfolding slotsAdded
-  slots-front R zero h = refl
-  slots-front R (suc j) h = ap₂ (slotAdded w) (slots-front R j (omega arith)) (record-front a b j (suc j) (omega arith) h)
-
-  slots-two : (j : ℕ) → length a ≡ j * recordSize → (R : List ℕ) (k : ℕ) → slotsAdded w R (a ++ b) (j + k) ≡ slotsAdded w (slotsAdded w R a j) b k
-  unfolding slotsAdded
-  slots-two j whole R zero = rw (add-zero j) (slots-front R j (omega arith))
-  slots-two j whole R (suc k) = rw (add-suc j k) (ap₂ (slotAdded w) (slots-two j whole R k) (record-behind a b k j whole))
-
-  -- the report of two parts is that of the second from where the first has come to
-  pub in-parts : (j : ℕ) → length a ≡ j * recordSize → (R : List ℕ) → partAdded w R (a ++ b) ≡ partAdded w (partAdded w R a) b
-  in-parts j whole R =
-      let first : recordCount (length a) ≡ j = omega arith in
-      let both : recordCount (length (a ++ b)) ≡ j + recordCount (length b) = simp length-append (omega arith) in
-      rw (both, first) (slots-two j whole R (recordCount (length b)))
 
 -- the numbers of the report of a card are small
 pub report-countable : (w : Window) → isWindow w ≡ true → (card : List ℕ) → Countable (2 ^ 63) (reportOf w card)

@@ -14,17 +14,19 @@ use lib.Seq.{take-all, getD-take, getD-drop, getD-set-same, getD-set-other, ext-
 use Rattle.field.specs.Question.{accepted, refused}
 use Rattle.code.specs.Word.{at}
 use Rattle.code.specs.Demands.{occurs}
-use Rattle.card.specs.Record.{recordSize}
-use Rattle.card.specs.Slots.{recordCount, recordAt, isBlank}
+use Rattle.card.specs.Record.{erasureBytes, recordSize}
+use Rattle.card.specs.Slots.{recordCount, recordAt, isBlank, overFirst}
 use Rattle.card.specs.Listing.{mostRecords, listedPart}
 use Rattle.card.proofs.Blank.{blank-refused}
+use Rattle.card.proofs.Folding.{over-same}
 use Rattle.card.proofs.Lines.{record-front}
 use Rattle.sheet.specs.Sheet.{pumpAt}
 use Rattle.report.specs.Day.{Day, sheet, noSheet, dayOf}
 use Rattle.report.specs.Window.{isWindow, countsIn, sumOf, fullCount, highestOf, countsOf, dateOf, below, earlier, leads, peakOf, rowWith}
 use Rattle.report.specs.Window.{pumps, rowSize, refusedAt, blankAt, moreAt, reportSize, rowFrom, rowOf, withRow, oneMore, noReport}
-use Rattle.report.specs.Window.{dayAdded, slotAdded, slotsAdded, partAdded, goesOn, reportOf, Countable}
-use Rattle.report.specs.Demands.{looked, sheetsBelow, overSlots, ofSheet, ofPump, Totals, oneBlank, oneUnread, oneRefused, noRow, CountAt, Highest}
+use Rattle.report.specs.Window.{dayAdded, slotAdded, partAdded, goesOn, reportOf, Countable}
+use Rattle.report.specs.Demands.{looked, sheetsBelow, summed, totalOver, ofSheet, ofPump, Totals, oneBlank, oneUnread, oneRefused, noRow, CountAt}
+use Rattle.report.specs.Demands.{Highest}
 use Rattle.report.specs.declared.window.Window.{Window}
 use Rattle.report.specs.declared.window.Date.{Date}
 use Rattle.report.specs.declared.window.Peak.{Peak}
@@ -32,7 +34,7 @@ use Rattle.report.specs.declared.window.Row.{Row}
 use Rattle.report.proofs.Days.{is-sheet}
 use Rattle.report.proofs.Order.{below-means, below-not, earlier-irreflexive, earlier-transitive}
 use Rattle.report.proofs.Counting.{window-first, counts-long, counts-at, highest-all, highest-some}
-use Rattle.report.proofs.Reports.{same-row, other-row, last-kept, row-kept, row-fits, zeros-countable, pump-small, slots-countable}
+use Rattle.report.proofs.Reports.{same-row, other-row, last-kept, row-kept, row-fits, zeros-countable, pump-small, slotsAdded, slots-countable}
 
 -- ---- the highest count and its date, with a further sheet
 
@@ -241,19 +243,16 @@ full-more w r ss = refl
 
 -- ---- slot by slot
 
+-- a number of each slot, added up over the first k slots of a part
+abbrev totalFirst : (List ℕ → ℕ) → List ℕ → ℕ → ℕ
+totalFirst f part k = overFirst erasureBytes (summed f) 0 part k
+
 -- a blank slot is no day sheet
 blank-no-sheet : (slot : List ℕ) (n : ℕ) (ss : List ℕ) → isBlank slot ≡ true → dayOf slot ≡ sheet n ss → ⊥
 blank-no-sheet slot n ss b e =
     let f : refused 1 ≡ accepted n = sym (blank-refused slot b .0) ∙ is-sheet slot n ss e .restored in
     let z : _≡_ {A = ℕ} 0 1 = cc in
     omega arith
-
-blank-nothing : (slot : List ℕ) → isBlank slot ≡ true → (p : ℕ) (f : List ℕ → ℕ) → ofPump p f slot ≡ 0
-blank-nothing slot b p f = go (dayOf slot) refl
-  where
-    go : (d : Day) → dayOf slot ≡ d → ofSheet p f d ≡ 0
-    go (sheet n ss) e = absurd (blank-no-sheet slot n ss b e)
-    go (noSheet n) e = refl
 
 module _ (w : Window) (wh : isWindow w ≡ true) (part : List ℕ) where
   -- the report behind the first k slots
@@ -271,7 +270,7 @@ module _ (w : Window) (wh : isWindow w ≡ true) (part : List ℕ) where
         → R (suc k) ≡ withRow (R k) (at ss pumpAt) (rowWith w (rowOf (R k) (at ss pumpAt)) ss) → Slot k
 
   slot : (k : ℕ) → Slot k
-  unfolding slotsAdded slotAdded
+  unfolding overFirst slotAdded
   slot k = go (isBlank (recordAt part k)) (dayOf (recordAt part k)) refl refl
     where
       added : (b : Bool) (d : Day) → isBlank (recordAt part k) ≡ b → dayOf (recordAt part k) ≡ d
@@ -283,121 +282,135 @@ module _ (w : Window) (wh : isWindow w ≡ true) (part : List ℕ) where
       go false (noSheet n) eb ed = none n eb ed (added false (noSheet n) eb ed)
       go false (sheet n ss) eb ed = some n ss eb ed (added false (sheet n ss) eb ed)
 
+  -- the pump of a sheet has a row
+  pump-row : (k n : ℕ) (ss : List ℕ) → dayOf (recordAt part k) ≡ sheet n ss → at ss pumpAt < pumps
+  pump-row k n ss d = pump-small ss (is-sheet (recordAt part k) n ss d .symbols)
+
+  pump-fits : (k n : ℕ) (ss : List ℕ) → dayOf (recordAt part k) ≡ sheet n ss → at ss pumpAt * rowSize + rowSize ≤ length (R k)
+  pump-fits k n ss d = row-fits _ (R k) (countable k) (at ss pumpAt) (pump-row k n ss d)
+
   -- the row of each pump
   module _ (p : ℕ) (h : p < pumps) where
-    seen : (k : ℕ) → Seen w part k p (rowOf (R k) p)
-    unfolding slotsAdded
-    seen zero = subst (Seen w part 0 p) (sym (zero-row reportSize p (omega arith))) (seen-none w part p)
-    seen (suc k) = go (slot k) (seen k)
-      where
-        go : Slot k → Seen w part k p (rowOf (R k) p) → Seen w part (suc k) p (rowOf (R (suc k)) p)
-        go (blank b e) Z =
-            subst (Seen w part (suc k) p) (sym (ap (λ (x : List ℕ). rowOf x p) e ∙ row-kept (R k) blankAt _ p h (omega arith)))
-            (seen-other w part k p (rowOf (R k) p) Z (λ n ss I. blank-no-sheet (recordAt part k) n ss b (I .day)))
-        go (none n b d e) Z =
-            subst (Seen w part (suc k) p) (sym (ap (λ (x : List ℕ). rowOf x p) e ∙ row-kept (R k) refusedAt _ p h (omega arith)))
-            (seen-other w part k p (rowOf (R k) p) Z
-            (λ m ss I. let f : noSheet n ≡ sheet m ss = sym d ∙ I .day in let z : _≡_ {A = ℕ} 0 1 = cc in omega arith))
-        go (some n ss b d e) Z = here (ℕ-discrete p (at ss pumpAt))
-          where
-            fits : at ss pumpAt * rowSize + rowSize ≤ length (R k)
-            fits = row-fits _ (R k) (countable k) (at ss pumpAt) (pump-small ss (is-sheet (recordAt part k) n ss d .symbols))
+    -- it is kept, where the slot is no day sheet of the pump, or has the further sheet
+    data Next (k : ℕ) : Type 0 where
+      kept : rowOf (R (suc k)) p ≡ rowOf (R k) p → ((n : ℕ) (ss : List ℕ) → IsOf part p k n ss → ⊥) → Next k
+      more : (n : ℕ) (ss : List ℕ) → IsOf part p k n ss → rowOf (R (suc k)) p ≡ rowWith w (rowOf (R k) p) ss → Next k
 
-            here : Dec (p ≡ at ss pumpAt) → Seen w part (suc k) p (rowOf (R (suc k)) p)
+    next : (k : ℕ) → Next k
+    next k = go (slot k)
+      where
+        go : Slot k → Next k
+        go (blank b e) =
+            kept (ap (λ (x : List ℕ). rowOf x p) e ∙ row-kept (R k) blankAt _ p h (omega arith))
+            (λ n ss I. blank-no-sheet (recordAt part k) n ss b (I .day))
+        go (none n b d e) =
+            kept (ap (λ (x : List ℕ). rowOf x p) e ∙ row-kept (R k) refusedAt _ p h (omega arith))
+            (λ m ss I. let f : noSheet n ≡ sheet m ss = sym d ∙ I .day in let z : _≡_ {A = ℕ} 0 1 = cc in omega arith)
+        go (some n ss b d e) = here (ℕ-discrete p (at ss pumpAt))
+          where
+            new : Row
+            new = rowWith w (rowOf (R k) (at ss pumpAt)) ss
+
+            here : Dec (p ≡ at ss pumpAt) → Next k
             here (yes f) =
-                let same : rowOf (R (suc k)) p ≡ rowWith w (rowOf (R k) p) ss
-                = ap (λ (y : List ℕ). rowOf y p) e
-                ∙ subst (λ (s : ℕ). rowOf (withRow (R k) (at ss pumpAt) (rowWith w (rowOf (R k) (at ss pumpAt)) ss)) s ≡ rowWith w (rowOf (R k) s) ss) (sym f)
-                (same-row (R k) (at ss pumpAt) (rowWith w (rowOf (R k) (at ss pumpAt)) ss) fits) in
-                subst (Seen w part (suc k) p) (sym same) (seen-sheet w part k p (rowOf (R k) p) Z n ss (record { day = d; pump = sym f }))
+                more n ss (record { day = d; pump = sym f })
+                (ap (λ (y : List ℕ). rowOf y p) e
+                ∙ subst (λ (s : ℕ). rowOf (withRow (R k) (at ss pumpAt) new) s ≡ rowWith w (rowOf (R k) s) ss) (sym f)
+                (same-row (R k) (at ss pumpAt) new (pump-fits k n ss d)))
             here (no f) =
-                subst (Seen w part (suc k) p)
-                (sym (ap (λ (y : List ℕ). rowOf y p) e ∙ other-row (R k) (at ss pumpAt) (rowWith w (rowOf (R k) (at ss pumpAt)) ss) fits p f))
-                (seen-other w part k p (rowOf (R k) p) Z
-                (λ m ts I. f (sym (I .pump) ∙ sym (ap (λ (us : List ℕ). at us pumpAt) (same-sheet (dayOf (recordAt part k)) n m ss ts d (I .day))))))
+                kept (ap (λ (y : List ℕ). rowOf y p) e ∙ other-row (R k) (at ss pumpAt) new (pump-fits k n ss d) p f)
+                (λ m ts I. f (sym (I .pump) ∙ sym (ap (λ (us : List ℕ). at us pumpAt) (same-sheet (dayOf (recordAt part k)) n m ss ts d (I .day)))))
+
+    seen : (k : ℕ) → Seen w part k p (rowOf (R k) p)
+    unfolding overFirst
+    seen zero = subst (Seen w part 0 p) (sym (zero-row reportSize p (omega arith))) (seen-none w part p)
+    seen (suc k) = go (next k) (seen k)
+      where
+        go : Next k → Seen w part k p (rowOf (R k) p) → Seen w part (suc k) p (rowOf (R (suc k)) p)
+        go (kept e never) Z = subst (Seen w part (suc k) p) (sym e) (seen-other w part k p (rowOf (R k) p) Z never)
+        go (more n ss I e) Z = subst (Seen w part (suc k) p) (sym e) (seen-sheet w part k p (rowOf (R k) p) Z n ss I)
 
     -- a number of the row to which each sheet adds f of its symbols
     module _ (g : Row → ℕ) (f : List ℕ → ℕ) (start : g noRow ≡ 0) (further : (r : Row) (ss : List ℕ) → g (rowWith w r ss) ≡ g r + f ss) where
-      total : (k : ℕ) → g (rowOf (R k) p) ≡ overSlots (ofPump p f) part k
-      unfolding slotsAdded overSlots
+      total : (k : ℕ) → g (rowOf (R k) p) ≡ totalFirst (ofPump p f) part k
+      unfolding overFirst
       total zero = ap g (zero-row reportSize p (omega arith)) ∙ start
-      total (suc k) = go (slot k) (total k)
+      total (suc k) = go (next k) (total k)
         where
-          kept : rowOf (R (suc k)) p ≡ rowOf (R k) p → ofPump p f (recordAt part k) ≡ 0 → g (rowOf (R k) p) ≡ overSlots (ofPump p f) part k
-              → g (rowOf (R (suc k)) p) ≡ overSlots (ofPump p f) part k + ofPump p f (recordAt part k)
-          kept e z c = ap g e ∙ omega (arith, c, z)
+          nothing : ((n : ℕ) (ss : List ℕ) → IsOf part p k n ss → ⊥) → (d : Day) → dayOf (recordAt part k) ≡ d → ofSheet p f d ≡ 0
+          nothing never (noSheet n) e = refl
+          nothing never (sheet n ss) e =
+              ap (λ (y : Bool). cond y (f ss) 0) (ne-eqb (at ss pumpAt) p (λ z. never n ss (record { day = e; pump = z })))
 
-          go : Slot k → g (rowOf (R k) p) ≡ overSlots (ofPump p f) part k
-              → g (rowOf (R (suc k)) p) ≡ overSlots (ofPump p f) part k + ofPump p f (recordAt part k)
-          go (blank b e) c =
-              kept (ap (λ (x : List ℕ). rowOf x p) e ∙ row-kept (R k) blankAt _ p h (omega arith)) (blank-nothing (recordAt part k) b p f) c
-          go (none n b d e) c = kept (ap (λ (x : List ℕ). rowOf x p) e ∙ row-kept (R k) refusedAt _ p h (omega arith)) (ap (ofSheet p f) d) c
-          go (some n ss b d e) c = here (ℕ-discrete p (at ss pumpAt))
-            where
-              fits : at ss pumpAt * rowSize + rowSize ≤ length (R k)
-              fits = row-fits _ (R k) (countable k) (at ss pumpAt) (pump-small ss (is-sheet (recordAt part k) n ss d .symbols))
+          go : Next k → g (rowOf (R k) p) ≡ totalFirst (ofPump p f) part k
+              → g (rowOf (R (suc k)) p) ≡ totalFirst (ofPump p f) part k + ofPump p f (recordAt part k)
+          go (kept e never) c = ap g e ∙ omega (arith, c, nothing never (dayOf (recordAt part k)) refl)
+          go (more n ss I e) c =
+              let mine : ofPump p f (recordAt part k) ≡ f ss =
+              ap (ofSheet p f) (I .day) ∙ ap (λ (y : Bool). cond y (f ss) 0) (eq-eqb (at ss pumpAt) p (I .pump)) in
+              ap g e ∙ further (rowOf (R k) p) ss ∙ omega (arith, c, mine)
 
-              here : Dec (p ≡ at ss pumpAt) → g (rowOf (R (suc k)) p) ≡ overSlots (ofPump p f) part k + ofPump p f (recordAt part k)
-              here (yes q) =
-                  let same : rowOf (R (suc k)) p ≡ rowWith w (rowOf (R k) p) ss
-                  = ap (λ (y : List ℕ). rowOf y p) e
-                  ∙ subst (λ (s : ℕ). rowOf (withRow (R k) (at ss pumpAt) (rowWith w (rowOf (R k) (at ss pumpAt)) ss)) s ≡ rowWith w (rowOf (R k) s) ss) (sym q)
-                  (same-row (R k) (at ss pumpAt) (rowWith w (rowOf (R k) (at ss pumpAt)) ss) fits) in
-                  let mine : ofPump p f (recordAt part k) ≡ f ss
-                  = ap (ofSheet p f) d ∙ ap (λ (y : Bool). cond y (f ss) 0) (eq-eqb (at ss pumpAt) p (sym q)) in
-                  ap g same ∙ further (rowOf (R k) p) ss ∙ omega (arith, c, mine)
-              here (no q) =
-                  kept (ap (λ (y : List ℕ). rowOf y p) e ∙ other-row (R k) (at ss pumpAt) (rowWith w (rowOf (R k) (at ss pumpAt)) ss) fits p q)
-                  (ap (ofSheet p f) d ∙ ap (λ (y : Bool). cond y (f ss) 0) (ne-eqb (at ss pumpAt) p (λ z. q (sym z)))) c
+  -- the refused records, the blank slots, and the sheets of all pumps, with the next slot
+  record Numbers (k : ℕ) : Type 0 where
+    refusals : at (R (suc k)) refusedAt ≡ at (R k) refusedAt + oneRefused (recordAt part k)
+    blanks : at (R (suc k)) blankAt ≡ at (R k) blankAt + oneBlank (recordAt part k)
+    sheets : sheetsBelow pumps (R (suc k)) + oneRefused (recordAt part k) + oneBlank (recordAt part k) ≡ sheetsBelow pumps (R k) + 1
 
-  -- the refused records and the blank slots
-  kinds : (k : ℕ) → (at (R k) refusedAt ≡ overSlots oneRefused part k) × (at (R k) blankAt ≡ overSlots oneBlank part k)
-  unfolding slotsAdded overSlots
-  kinds zero = (zero-at reportSize refusedAt (omega arith), zero-at reportSize blankAt (omega arith))
-  kinds (suc k) = go (slot k) (kinds k)
+  numbers : (k : ℕ) → Numbers k
+  numbers k = go (slot k)
     where
       long : length (R k) ≡ reportSize
       long = countable k .size
 
-      refusals : (b : Bool) (d : Day) → isBlank (recordAt part k) ≡ b → dayOf (recordAt part k) ≡ d → oneRefused (recordAt part k) ≡ cond b 0 (oneUnread d)
-      refusals b d eb ed = ap₂ (λ (x : Bool) (y : Day). cond x 0 (oneUnread y)) eb ed
+      refusal : (b : Bool) (d : Day) → isBlank (recordAt part k) ≡ b → dayOf (recordAt part k) ≡ d → oneRefused (recordAt part k) ≡ cond b 0 (oneUnread d)
+      refusal b d eb ed = ap₂ (λ (x : Bool) (y : Day). cond x 0 (oneUnread y)) eb ed
 
-      blanks : (b : Bool) → isBlank (recordAt part k) ≡ b → oneBlank (recordAt part k) ≡ cond b 1 0
-      blanks b eb = ap (λ (x : Bool). cond x 1 0) eb
+      one : (b : Bool) → isBlank (recordAt part k) ≡ b → oneBlank (recordAt part k) ≡ cond b 1 0
+      one b eb = ap (λ (x : Bool). cond x 1 0) eb
 
-      go : Slot k → (at (R k) refusedAt ≡ overSlots oneRefused part k) × (at (R k) blankAt ≡ overSlots oneBlank part k)
-          → (at (R (suc k)) refusedAt ≡ overSlots oneRefused part k + oneRefused (recordAt part k))
-          × (at (R (suc k)) blankAt ≡ overSlots oneBlank part k + oneBlank (recordAt part k))
-      go (blank b e) c = (
-        ap (λ (X : List ℕ). at X refusedAt) e
-            ∙ getD-set-other (R k) blankAt refusedAt (at (R k) blankAt + 1) 0 (λ z. omega arith)
-            ∙ omega (arith, c .0, refusals true _ b refl),
-        ap (λ (X : List ℕ). at X blankAt) e
-            ∙ getD-set-same (R k) blankAt (at (R k) blankAt + 1) 0 (omega (arith, long))
-            ∙ omega (arith, c .1, blanks true b),
-      )
-      go (none n b d e) c = (
-        ap (λ (X : List ℕ). at X refusedAt) e
-            ∙ getD-set-same (R k) refusedAt (at (R k) refusedAt + 1) 0 (omega (arith, long))
-            ∙ omega (arith, c .0, refusals false (noSheet n) b d),
-        ap (λ (X : List ℕ). at X blankAt) e
-            ∙ getD-set-other (R k) refusedAt blankAt (at (R k) refusedAt + 1) 0 (λ z. omega arith)
-            ∙ omega (arith, c .1, blanks false b),
-      )
-      go (some n ss b d e) c =
+      go : Slot k → Numbers k
+      go (blank b e) =
+          let r = refusal true _ b refl in
+          let o = one true b in
+          let v = at (R k) blankAt + 1 in
+          record {
+            refusals = ap (λ (X : List ℕ). at X refusedAt) e ∙ omega (arith, r, getD-set-other (R k) blankAt refusedAt v 0 (λ z. omega arith));
+            blanks = ap (λ (X : List ℕ). at X blankAt) e ∙ omega (arith, o, getD-set-same (R k) blankAt v 0 (omega (arith, long)));
+            sheets = omega (arith, r, o, ap (sheetsBelow pumps) e ∙ sheets-kept (R k) blankAt v pumps (omega arith) (omega arith));
+          }
+      go (none n b d e) =
+          let r = refusal false (noSheet n) b d in
+          let o = one false b in
+          let v = at (R k) refusedAt + 1 in
+          record {
+            refusals = ap (λ (X : List ℕ). at X refusedAt) e ∙ omega (arith, r, getD-set-same (R k) refusedAt v 0 (omega (arith, long)));
+            blanks = ap (λ (X : List ℕ). at X blankAt) e ∙ omega (arith, o, getD-set-other (R k) refusedAt blankAt v 0 (λ z. omega arith));
+            sheets = omega (arith, r, o, ap (sheetsBelow pumps) e ∙ sheets-kept (R k) refusedAt v pumps (omega arith) (omega arith));
+          }
+      go (some n ss b d e) =
+          let r = refusal false (sheet n ss) b d in
+          let o = one false b in
           let q = at ss pumpAt in
           let x = rowWith w (rowOf (R k) (at ss pumpAt)) ss in
-          let small : at ss pumpAt < pumps = pump-small ss (is-sheet (recordAt part k) n ss d .symbols) in
-          let fits = row-fits _ (R k) (countable k) (at ss pumpAt) small in (
-            ap (λ (X : List ℕ). at X refusedAt) e
-                ∙ last-kept (R k) q x fits refusedAt (omega arith)
-                ∙ omega (arith, c .0, refusals false (sheet n ss) b d),
-            ap (λ (X : List ℕ). at X blankAt) e ∙ last-kept (R k) q x fits blankAt (omega arith) ∙ omega (arith, c .1, blanks false b),
-          )
+          let small = pump-row k n ss d in
+          let fits = pump-fits k n ss d in
+          record {
+            refusals = ap (λ (X : List ℕ). at X refusedAt) e ∙ omega (arith, r, last-kept (R k) q x fits refusedAt (omega (arith, small)));
+            blanks = ap (λ (X : List ℕ). at X blankAt) e ∙ omega (arith, o, last-kept (R k) q x fits blankAt (omega (arith, small)));
+            sheets = omega (arith, r, o, ap (sheetsBelow pumps) e, sheets-behind (R k) q x fits pumps small, one-sheet w (rowOf (R k) q) ss);
+          }
+
+  kinds : (k : ℕ) → (at (R k) refusedAt ≡ totalFirst oneRefused part k) × (at (R k) blankAt ≡ totalFirst oneBlank part k)
+  unfolding overFirst
+  kinds zero = (zero-at reportSize refusedAt (omega arith), zero-at reportSize blankAt (omega arith))
+  kinds (suc k) =
+      let N = numbers k in
+      let c = kinds k in
+      (N .refusals ∙ omega (arith, c .0), N .blanks ∙ omega (arith, c .1))
 
   -- every slot is counted once
   counted : (k : ℕ) → sheetsBelow pumps (R k) + at (R k) refusedAt + at (R k) blankAt ≡ k
-  unfolding slotsAdded
+  unfolding overFirst
   counted zero =
       omega (
         arith,
@@ -405,47 +418,7 @@ module _ (w : Window) (wh : isWindow w ≡ true) (part : List ℕ) where
         zero-at reportSize refusedAt (omega arith),
         zero-at reportSize blankAt (omega arith),
       )
-  counted (suc k) = go (slot k) (counted k)
-    where
-      total : List ℕ → ℕ
-      total = λ X. sheetsBelow pumps X + at X refusedAt + at X blankAt
-
-      long : length (R k) ≡ reportSize
-      long = countable k .size
-
-      go : Slot k → total (R k) ≡ k → total (R (suc k)) ≡ suc k
-      go (blank b e) c =
-          ap total e
-          ∙ omega (
-            arith,
-            c,
-            sheets-kept (R k) blankAt (at (R k) blankAt + 1) pumps (omega arith) (omega arith),
-            getD-set-other (R k) blankAt refusedAt (at (R k) blankAt + 1) 0 (λ z. omega arith),
-            getD-set-same (R k) blankAt (at (R k) blankAt + 1) 0 (omega (arith, long)),
-          )
-      go (none n b d e) c =
-          ap total e
-          ∙ omega (
-            arith,
-            c,
-            sheets-kept (R k) refusedAt (at (R k) refusedAt + 1) pumps (omega arith) (omega arith),
-            getD-set-other (R k) refusedAt blankAt (at (R k) refusedAt + 1) 0 (λ z. omega arith),
-            getD-set-same (R k) refusedAt (at (R k) refusedAt + 1) 0 (omega (arith, long)),
-          )
-      go (some n ss b d e) c =
-          let q = at ss pumpAt in
-          let x = rowWith w (rowOf (R k) (at ss pumpAt)) ss in
-          let small : at ss pumpAt < pumps = pump-small ss (is-sheet (recordAt part k) n ss d .symbols) in
-          let fits = row-fits _ (R k) (countable k) (at ss pumpAt) small in
-          ap total e
-          ∙ omega (
-            arith,
-            c,
-            sheets-behind (R k) q x fits pumps small,
-            one-sheet w (rowOf (R k) q) ss,
-            last-kept (R k) q x fits refusedAt (omega arith),
-            last-kept (R k) q x fits blankAt (omega arith),
-          )
+  counted (suc k) = let N = numbers k in omega (arith, counted k, N .refusals, N .blanks, N .sheets)
 
 -- ---- the slots that are looked at
 
@@ -467,13 +440,10 @@ module _ (card : List ℕ) where
   looked-count = simp length-take (omega arith)
 
   -- a total over them is one over the slots of the card
-  looked-total : (f : List ℕ → ℕ) (k : ℕ) → k ≤ looked card → overSlots f (listedPart card) k ≡ overSlots f card k
-  unfolding overSlots
-  looked-total f zero h = refl
-  looked-total f (suc k) h = ap₂ _+_ (looked-total f k (omega arith)) (ap f (looked-slot k (omega arith)))
-
-  looked-over : (f : List ℕ → ℕ) → overSlots f (listedPart card) (recordCount (length (listedPart card))) ≡ overSlots f card (looked card)
-  looked-over f = ap (overSlots f (listedPart card)) looked-count ∙ looked-total f (looked card) (omega arith)
+  looked-over : (f : List ℕ → ℕ) → totalFirst f (listedPart card) (recordCount (length (listedPart card))) ≡ totalOver f card
+  looked-over f =
+      ap (totalFirst f (listedPart card)) looked-count
+      ∙ over-same erasureBytes (summed f) 0 (listedPart card) card (looked card) (λ i h u. ap (summed f u) (looked-slot i h))
 
 -- ---- the report of a card
 
@@ -499,14 +469,14 @@ module _ (w : Window) (wh : isWindow w ≡ true) (card : List ℕ) where
         getD-set-other X moreAt blankAt v 0 (λ z. omega arith),
       )
 
-  pub refused-total : at (reportOf w card) refusedAt ≡ overSlots oneRefused card (looked card)
+  pub refused-total : at (reportOf w card) refusedAt ≡ totalOver oneRefused card
   unfolding reportOf
   refused-total =
       getD-set-other (partAdded w noReport (listedPart card)) moreAt refusedAt (cond (goesOn card) 1 0) 0 (λ z. omega arith)
       ∙ kinds w wh (listedPart card) (recordCount (length (listedPart card))) .0
       ∙ looked-over card oneRefused
 
-  pub blank-total : at (reportOf w card) blankAt ≡ overSlots oneBlank card (looked card)
+  pub blank-total : at (reportOf w card) blankAt ≡ totalOver oneBlank card
   unfolding reportOf
   blank-total =
       getD-set-other (partAdded w noReport (listedPart card)) moreAt blankAt (cond (goesOn card) 1 0) 0 (λ z. omega arith)
@@ -528,7 +498,7 @@ module _ (w : Window) (wh : isWindow w ≡ true) (card : List ℕ) where
 
   module _ (p : ℕ) (h : p < pumps) where
     row-total : (g : Row → ℕ) (f : List ℕ → ℕ) → g noRow ≡ 0 → ((r : Row) (ss : List ℕ) → g (rowWith w r ss) ≡ g r + f ss)
-        → g (rowOf (reportOf w card) p) ≡ overSlots (ofPump p f) card (looked card)
+        → g (rowOf (reportOf w card) p) ≡ totalOver (ofPump p f) card
     row-total g f start further =
         ap g (report-row p h)
         ∙ total w wh (listedPart card) p h g f start further (recordCount (length (listedPart card)))

@@ -11,8 +11,8 @@ use denote.Ref.{RefT, now}
 use Rattle.field.specs.Question.{accepted, refused}
 use Rattle.code.specs.Word.{at}
 use Rattle.code.specs.Demands.{occurs}
-use Rattle.card.specs.Record.{recordSize}
-use Rattle.card.specs.Slots.{recordCount, recordAt, isBlank}
+use Rattle.card.specs.Record.{erasureBytes, recordSize}
+use Rattle.card.specs.Slots.{recordCount, recordAt, isBlank, overFirst}
 use Rattle.card.specs.Card.{LiesAt}
 use Rattle.card.specs.Listing.{decimal, mostRecords}
 use Rattle.sheet.specs.Sheet.{quarters, pumpAt}
@@ -101,10 +101,13 @@ AllCounted =
     (w : Window) (card : List ℕ) → isWindow w ≡ true
     → (sheetsBelow pumps (reportOf w card) + at (reportOf w card) refusedAt + at (reportOf w card) blankAt ≡ looked card) × (looked card ≤ mostRecords)
 
--- a number of each slot, added up over the first k slots of the card
-unfoldable pub overSlots : (List ℕ → ℕ) → List ℕ → ℕ → ℕ
-overSlots f card zero = 0
-overSlots f card (suc k) = overSlots f card k + f (recordAt card k)
+-- a step: a number of the slot is added
+abbrev pub summed : (List ℕ → ℕ) → ℕ → List ℕ → ℕ
+summed f n slot = n + f slot
+
+-- a number of each slot, added up over the slots that are looked at
+abbrev pub totalOver : (List ℕ → ℕ) → List ℕ → ℕ
+totalOver f card = overFirst erasureBytes (summed f) 0 card (looked card)
 
 -- a number of the symbols of a day sheet of pump p, and 0 of every other slot
 abbrev pub ofSheet : ℕ → (List ℕ → ℕ) → Day → ℕ
@@ -116,9 +119,9 @@ ofPump p f slot = ofSheet p f (dayOf slot)
 
 -- the report's numbers of a pump are totals over its sheets: their number, the sum of their counts in the window, and how many of these are 127
 pub record Totals (w : Window) (card : List ℕ) (p : ℕ) (r : Row) : Type 0 where
-  pub sheets : r .sheets ≡ overSlots (ofPump p (λ ss. 1)) card (looked card)
-  pub sum : r .sum ≡ overSlots (ofPump p (λ ss. sumOf (countsIn w ss))) card (looked card)
-  pub full : r .full ≡ overSlots (ofPump p (λ ss. occurs fullCount (countsIn w ss))) card (looked card)
+  pub sheets : r .sheets ≡ totalOver (ofPump p (λ ss. 1)) card
+  pub sum : r .sum ≡ totalOver (ofPump p (λ ss. sumOf (countsIn w ss))) card
+  pub full : r .full ≡ totalOver (ofPump p (λ ss. occurs fullCount (countsIn w ss))) card
 
 abbrev pub TotalsStand : Type 0
 TotalsStand = (w : Window) (card : List ℕ) (p : ℕ) → isWindow w ≡ true → p < pumps → Totals w card p (rowOf (reportOf w card) p)
@@ -139,8 +142,8 @@ oneRefused slot = cond (isBlank slot) 0 (oneUnread (dayOf slot))
 abbrev pub KindsCounted : Type 0
 KindsCounted =
     (w : Window) (card : List ℕ) → isWindow w ≡ true
-    → (at (reportOf w card) refusedAt ≡ overSlots oneRefused card (looked card))
-    × (at (reportOf w card) blankAt ≡ overSlots oneBlank card (looked card))
+    → (at (reportOf w card) refusedAt ≡ totalOver oneRefused card)
+    × (at (reportOf w card) blankAt ≡ totalOver oneBlank card)
 
 -- the last number is 1 where the card has more than 1,000,000 records, else 0
 abbrev pub MoreSaid : Type 0

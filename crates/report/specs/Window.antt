@@ -2,7 +2,7 @@
 use mathlib.Core.Path.{_≡_}
 use mathlib.Core.Bool.{Bool, cond, _&&_, _||_}
 use mathlib.Core.List.{List, [], _∷_, _++_}
-use Prim.Native.Nat.{ℕ, zero, suc, _+_, _-_, _*_, _/_, _%_, _≤_, max}
+use Prim.Native.Nat.{ℕ, _+_, _-_, _*_, _/_, _%_, _≤_, max}
 use lib.Dec.{eqb, leb, ltb}
 use lib.ListN.{length, set, take, drop, replicate}
 use Rattle.field.specs.Question.{Outcome, ask}
@@ -13,7 +13,7 @@ use Rattle.code.specs.Word.{at}
 use Rattle.code.specs.Call.{written, done}
 use Rattle.code.specs.Demands.{occurs}
 use Rattle.card.specs.Record.{recordSize}
-use Rattle.card.specs.Slots.{recordCount, recordAt, isBlank}
+use Rattle.card.specs.Slots.{isBlank, overSlots}
 use Rattle.card.specs.Listing.{mostRecords, listedPart}
 use Rattle.sheet.specs.Sheet.{quarters, yearAt, monthAt, dayAt, pumpAt}
 use Rattle.report.specs.Day.{Day, sheet, noSheet, dayOf}
@@ -150,14 +150,9 @@ dayAdded w report (noSheet n) = oneMore refusedAt report
 unfoldable pub slotAdded : Window → List ℕ → List ℕ → List ℕ
 slotAdded w report slot = cond (isBlank slot) (oneMore blankAt report) (dayAdded w report (dayOf slot))
 
--- with the first k slots of a part of a card
-unfoldable pub slotsAdded : Window → List ℕ → List ℕ → ℕ → List ℕ
-slotsAdded w report part zero = report
-slotsAdded w report part (suc k) = slotAdded w (slotsAdded w report part k) (recordAt part k)
-
--- with all its slots
+-- with all slots of a part of a card
 abbrev pub partAdded : Window → List ℕ → List ℕ → List ℕ
-partAdded w report part = slotsAdded w report part (recordCount (length part))
+partAdded w report part = overSlots (slotAdded w) report part
 
 -- before the first slot: every number is 0
 abbrev pub noReport : List ℕ

@@ -16,6 +16,7 @@ ghost use Rattle.report.specs.Window.{rowSize, withRow, rowOf, oneMore, 
 ghost use Rattle.report.specs.Window.{startsAsked, Starts, Countable, countsWith, Most};
 use crate::day::read_day;
 use card::cards::is_blank;
+use card::cards::record_count;
 use card::cards::record_from;
 use card::records::RECORD;
 use code::Repair;
@@ -302,7 +303,7 @@ pub fn add_part(part: &[u8], w: Window, report: &mut [u64])
     requires { ⌜ (isWindow w ≡ true) × (length (now part) ≤ mostRecords * recordSize) × Countable (2 ^ 62) (now report) ⌝ }
     ensures { λ u. ⌜ now (report .exit) ≡ partAdded w (now (report .entry)) (now (part .entry)) ⌝ }
 {
-    let n = (part.len() + (RECORD - 1)) / RECORD;
+    let n = record_count(part.len());
     let mut i = 0;
     while i < n {
         add_slot(record_from(part, i * RECORD), w, report);

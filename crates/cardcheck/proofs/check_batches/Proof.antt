@@ -35,7 +35,7 @@ returns c =
     let turn = c .before .before .before .before .before .before .before .loop in
     let called = c .before .before .before .before .check-next in
     subst (λ (l : List ℕ). FindsSome l (called .result .found) (called .last .1 .0)) (turn .inv .2)
-    (some-found (turn .inv .3) (called .ensures))
+    (some-found (turn .i) (turn .inv .3) (called .ensures))
 
 add-i : tie.Need-add-i Inv-loop μ-loop
 add-i c = search needs
@@ -47,7 +47,7 @@ loop-again : tie.Need-loop-again Inv-loop μ-loop
 loop-again c =
     let turn = c .before .before .before .before .before .before .before .before .loop in
     let found = c .before .before .before .before .before .check-next .ensures in
-    (omega arith, search needs, same-out (turn .inv .3) found (search needs) ∙ turn .inv .2, fine-more (turn .inv .3) found (search needs) (search needs))
+    (omega arith, search needs, same-out (turn .i) (turn .inv .3) found (search needs) ∙ turn .inv .2, fine-more (turn .i) (turn .inv .3) found (search needs) (search needs))
 
 same-length-2 : tie.Need-same-length-2 Inv-loop μ-loop
 same-length-2 c = search needs
@@ -55,7 +55,7 @@ same-length-2 c = search needs
 returns-2 : tie.Need-returns-2 Inv-loop μ-loop
 returns-2 c =
     let turn = c .before .loop in
-    subst (λ (l : List ℕ). FindsSome l _ (turn .out)) (turn .inv .2) (some-none (turn .inv .3) (turn .out))
+    subst (λ (l : List ℕ). FindsSome l _ (turn .out)) (turn .inv .2) (some-none (turn .i) (turn .inv .3) (turn .out))
 
 pub check-batches-spec : {M : Type 1} → statement M
 check-batches-spec =

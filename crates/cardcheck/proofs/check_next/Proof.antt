@@ -1,11 +1,13 @@
 -- `cardcheck::check_next` meets its contract. Assumes nothing.
 use borrow.Author.Needs.{needs}
-use borrow.Author.Tests.{eqb-true}
-use mathlib.Core.Path.{sym, _∙_}
+use mathlib.Core.Path.{refl, sym}
 use native.Mathlib.Omega.{arith}
 use lib.ListN.{take}
 use lib.Seq.{length-take-le}
+use Rattle.card.specs.Slots.{overSlots}
+use Rattle.card.specs.Card.{passed, sought, searched}
 use Rattle.card.specs.Batch.{batchSize}
+use Rattle.card.proofs.Coming.{came-batch}
 use Rattle.cardcheck.proofs.check_next.Statement.{statement}
 use Rattle.cardcheck.proofs.check_next.Tie as tie
 
@@ -41,12 +43,13 @@ same-length c = search needs
 returns : tie.Need-returns
 returns c =
     let x = c .before .before .before .before .before .before .before .read-batch in
+    let s = c .before .before .before .before .before .before .before .before .before .before in
     let l = length-take-le (x .result .count) (x .last .1 .0) (x .ensures .0) in
+    let part = take (x .result .count) (x .last .1 .0) in
     record {
-      bytes = take (x .result .count) (x .last .1 .0);
+      end = searched (s .args .slots) part;
+      came = came-batch (overSlots sought) (passed (s .args .slots)) _ part (x .result .count) batchSize refl l (omega (arith, x .ensures .0, x .ensures .1));
       found = c .before .before .check-batch .ensures;
-      most = omega (arith, l, x .ensures .0, x .ensures .1);
-      full = λ t. l ∙ eqb-true (x .result .count) batchSize t;
     }
 
 pub check-next-spec : {M : Type 1} → statement M

@@ -5,7 +5,9 @@ use native.Mathlib.Omega.{arith}
 use lib.ListN.{take}
 use lib.Seq.{length-take-le}
 use Rattle.card.proofs.Writing.{writes-fits}
-use Rattle.card.proofs.Continuing.{continues-batch}
+use Rattle.card.specs.Listing.{partProgress}
+use Rattle.card.specs.Batch.{batchSize}
+use Rattle.card.proofs.Coming.{came-batch}
 use Rattle.cardlist.proofs.list_batch.Statement.{statement}
 use Rattle.cardlist.proofs.list_batch.Tie as tie
 
@@ -53,7 +55,7 @@ returns c =
     let x = c .before .before .before .before .before .before .before .before .before .read-batch in
     let s = c .before .before .before .before .before .before .before .before .before .before .before in
     let l = length-take-le (x .result .count) (x .last .1 .0) (x .ensures .0) in
-    continues-batch (s .args .s) (y .result .progress) (take (x .result .count) (x .last .1 .0)) (x .result .count) (y .ensures .progress) l
+    came-batch partProgress (s .args .s) (y .result .progress) (take (x .result .count) (x .last .1 .0)) (x .result .count) batchSize (y .ensures .progress) l
     (omega (arith, x .ensures .0, x .ensures .1))
 
 pub list-batch-spec : {M : Type 1} → statement M

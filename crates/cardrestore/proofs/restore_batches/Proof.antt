@@ -4,9 +4,9 @@ use mathlib.Core.Path.{_≡_, subst}
 use mathlib.Core.Bool.{true}
 use Prim.Native.Nat.{ℕ, _-_, _*_, _≤_}
 use native.Mathlib.Omega.{arith}
-use Rattle.card.specs.Listing.{start}
+use Rattle.card.specs.Listing.{slotFurther, start}
 use Rattle.card.specs.Batch.{batchSize, mostBatches, Continues}
-use Rattle.card.proofs.Continuing.{continues-start, continues-within, continues-on, continues-end}
+use Rattle.card.proofs.Coming.{slots-start, slots-on, slots-end, continues-within}
 use Rattle.cardrestore.proofs.restore_batches.Statement.{statement}
 use Rattle.cardrestore.proofs.restore_batches.Tie as tie
 
@@ -17,7 +17,7 @@ abbrev μ-loop : tie.MeasureT-loop
 μ-loop s₀ i₀ s i = mostBatches - i
 
 loop-holds : tie.Need-loop-holds Inv-loop μ-loop
-loop-holds c = (search needs, continues-start)
+loop-holds c = (search needs, slots-start slotFurther start)
 
 restore-batch-requires : tie.Need-restore-batch-requires Inv-loop μ-loop
 restore-batch-requires c κs =
@@ -28,7 +28,7 @@ returns : tie.Need-returns Inv-loop μ-loop
 returns c =
     let called = c .before .before in
     let turn = called .before .before .loop in
-    continues-end (turn .i) (turn .s) (turn .inv .1) _ _ (called .restore-batch .ensures) mostBatches (called .before .loop-test .taken)
+    slots-end slotFurther start (turn .i) (turn .s) (turn .inv .1) _ _ (called .restore-batch .ensures) mostBatches (called .before .loop-test .taken)
 
 add-i : tie.Need-add-i Inv-loop μ-loop
 add-i c = search needs
@@ -40,7 +40,7 @@ loop-again : tie.Need-loop-again Inv-loop μ-loop
 loop-again c =
     let called = c .before .before .before in
     let turn = called .before .before .loop in
-    (omega arith, continues-on (turn .i) (turn .s) (turn .inv .1) _ _ (called .restore-batch .ensures) (c .before .if1 .left))
+    (omega arith, slots-on slotFurther start (turn .i) (turn .s) (turn .inv .1) _ _ (called .restore-batch .ensures) (c .before .if1 .left))
 
 returns-2 : tie.Need-returns-2 Inv-loop μ-loop
 returns-2 c =

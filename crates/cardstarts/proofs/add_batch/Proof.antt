@@ -3,7 +3,9 @@ use borrow.Author.Needs.{needs}
 use mathlib.Core.Path.{sym}
 use lib.ListN.{take}
 use lib.Seq.{length-take-le}
-use Rattle.cardstarts.proofs.Batches.{adds-batch}
+use Rattle.card.specs.Batch.{batchSize}
+use Rattle.card.proofs.Coming.{came-batch}
+use Rattle.report.specs.Window.{partAdded}
 use native.Mathlib.Omega.{arith}
 use Rattle.cardstarts.proofs.add_batch.Statement.{statement}
 use Rattle.cardstarts.proofs.add_batch.Tie as tie
@@ -40,7 +42,7 @@ returns c =
     let x = c .before .before .before .before .before .before .before .read-batch in
     let s = c .before .before .before .before .before .before .before .before .before .before in
     let l = length-take-le (x .result .count) (x .last .1 .0) (x .ensures .0) in
-    adds-batch (s .args .w) (s .args .report .now) _ (take (x .result .count) (x .last .1 .0)) (x .result .count)
+    came-batch (partAdded (s .args .w)) (s .args .report .now) _ (take (x .result .count) (x .last .1 .0)) (x .result .count) batchSize
     (c .before .before .add-part .ensures) l (omega (arith, x .ensures .0, x .ensures .1))
 
 pub add-batch-spec : {M : Type 1} → statement M

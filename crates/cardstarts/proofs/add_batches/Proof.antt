@@ -6,9 +6,10 @@ use mathlib.Core.List.{List}
 use Prim.Native.Nat.{ℕ, _-_, _*_, _≤_}
 use lib.ListN.{length}
 use Rattle.card.specs.Batch.{batchSize}
-use Rattle.report.specs.Window.{noReport}
+use Rattle.card.proofs.Coming.{slots-start, slots-on, slots-end}
+use Rattle.report.specs.Window.{slotAdded, noReport}
 use Rattle.cardstarts.specs.Batches.{Adds}
-use Rattle.cardstarts.proofs.Batches.{adds-start, adds-countable, adds-on, adds-end}
+use Rattle.cardstarts.proofs.Batches.{adds-countable}
 use native.Mathlib.Omega.{arith}
 use Rattle.cardstarts.proofs.add_batches.Statement.{statement}
 use Rattle.cardstarts.proofs.add_batches.Tie as tie
@@ -22,7 +23,7 @@ abbrev μ-loop : tie.MeasureT-loop
 loop-holds : tie.Need-loop-holds Inv-loop μ-loop
 loop-holds c =
     let s = c .before in
-    let start = subst (λ (x : List ℕ). Adds 0 (s .args .w) noReport x true) (sym (s .pre .1)) (adds-start (s .args .w)) in
+    let start = subst (λ (x : List ℕ). Adds 0 (s .args .w) noReport x true) (sym (s .pre .1)) (slots-start (slotAdded (s .args .w)) noReport) in
     (omega arith, refl, start)
 
 add-batch-requires : tie.Need-add-batch-requires Inv-loop μ-loop
@@ -39,7 +40,8 @@ returns c =
     let test = c .before .before .before .before .before in
     let turn = test .before .loop in
     let w = test .before .before .before .args .w in
-    adds-end w (turn .i) (turn .report) (turn .inv .2) _ _ (c .before .before .before .add-batch .ensures) (test .loop-test .taken)
+    slots-end (slotAdded w) noReport (turn .i) (turn .report) (turn .inv .2) _ _ (c .before .before .before .add-batch .ensures) 2500
+    (test .loop-test .taken)
 
 add-i : tie.Need-add-i Inv-loop μ-loop
 add-i c = search needs
@@ -51,7 +53,7 @@ loop-again : tie.Need-loop-again Inv-loop μ-loop
 loop-again c =
     let turn = c .before .before .before .before .before .before .loop in
     let w = c .before .before .before .before .before .before .before .before .args .w in
-    let on = adds-on w (turn .i) (turn .report) (turn .inv .2) _ _ (c .before .before .before .add-batch .ensures) (c .if1 .left) in
+    let on = slots-on (slotAdded w) noReport (turn .i) (turn .report) (turn .inv .2) _ _ (c .before .before .before .add-batch .ensures) (c .if1 .left) in
     (omega arith, omega arith, on)
 
 same-length-2 : tie.Need-same-length-2 Inv-loop μ-loop

@@ -4,9 +4,11 @@ use mathlib.Core.Path.{_≡_, refl, ap, _∙_, sym, subst}
 use native.Mathlib.Omega.{arith}
 use Prim.Native.Nat.{_+_, _-_, _*_, _^_, _≤_}
 use lib.ListN.{length}
+use Rattle.card.specs.Record.{erasureBytes}
 use Rattle.card.specs.Slots.{recordCount}
-use Rattle.report.specs.Window.{slotsAdded, Countable, dayMost}
-use Rattle.report.proofs.Reports.{slots-start, slots-on, slots-countable, countable-more}
+use Rattle.card.proofs.Folding.{over-none, over-on}
+use Rattle.report.specs.Window.{slotAdded, Countable, dayMost}
+use Rattle.report.proofs.Reports.{slotsAdded, slots-countable, countable-more}
 use Rattle.report.proofs.window.add_part.Statement.{statement}
 use Rattle.report.proofs.window.add_part.Tie as tie
 
@@ -16,14 +18,11 @@ Inv-loop part w report₀ n i₀ report i = (i ≤ n) × (length report ≡ leng
 abbrev μ-loop : tie.MeasureT-loop
 μ-loop part w report₀ n i₀ report i = n - i
 
-sub-n : tie.Need-sub-n Inv-loop μ-loop
-sub-n c = search needs
-
-add-n : tie.Need-add-n Inv-loop μ-loop
-add-n c = search needs
+record-count-requires : tie.Need-record-count-requires Inv-loop μ-loop
+record-count-requires c κs = search needs
 
 loop-holds : tie.Need-loop-holds Inv-loop μ-loop
-loop-holds c = let a = c .before .before .args in (omega arith, refl, slots-start (a .w) (a .report .now) (a .part .now))
+loop-holds c = let a = c .before .before .before .args in (omega arith, refl, over-none erasureBytes (slotAdded (a .w)) (a .report .now) (a .part .now))
 
 mul-record-from : tie.Need-mul-record-from Inv-loop μ-loop
 mul-record-from c = search needs
@@ -34,7 +33,7 @@ record-from-requires c κs = search needs
 add-slot-requires : tie.Need-add-slot-requires Inv-loop μ-loop
 add-slot-requires c κs =
     let l = c .before .before .before in
-    let s = l .before .before .before in
+    let s = l .before .before .before .before in
     let a = s .args in
     let i = l .loop .i in (
       s .pre .0,
@@ -54,10 +53,11 @@ loop-again c =
     let added = c .before .before in
     let found = added .before .before in
     let l = found .before .before in
-    let a = l .before .before .before .args in (
+    let a = l .before .before .before .before .args in (
       omega arith,
       omega arith,
-      slots-on (a .w) (a .report .now) (a .part .now) (l .loop .i) _ _ _ (l .loop .inv .2) (found .record-from .ensures .bytes) (added .add-slot .ensures),
+      over-on erasureBytes (slotAdded (a .w)) (a .report .now) (a .part .now) (l .loop .i) _ _ _ (l .loop .inv .2) (added .add-slot .ensures)
+          (found .record-from .ensures .bytes),
     )
 
 same-length : tie.Need-same-length Inv-loop μ-loop
@@ -66,7 +66,7 @@ same-length c = search needs
 returns : tie.Need-returns Inv-loop μ-loop
 returns c =
     let l = c .before in
-    let s = l .before .before .before in
+    let s = l .before .before .before .before in
     let a = s .args in
     let all : l .loop .i ≡ recordCount (length (a .part .now)) = omega arith in
     l .loop .inv .2 ∙ ap (slotsAdded (a .w) (a .report .now) (a .part .now)) all
@@ -77,8 +77,7 @@ add-part-spec =
     (tie.spec
     Inv-loop
     μ-loop
-    sub-n
-    add-n
+    record-count-requires
     loop-holds
     mul-record-from
     record-from-requires
