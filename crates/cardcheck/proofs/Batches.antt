@@ -28,7 +28,7 @@ pub some-none : (i : ℕ) → Fine i → (out : List ℕ) → FindsSome out (rec
 some-none i F out =
     let N : Finds (passed (i * batchRecords)) out (record { any = false; used = 0 }) out =
     record { any = refl; text = writes-none out 0 (omega arith) } in
-    record { bytes = F .bytes; found = subst (λ (u : Search). Finds u out _ out) (F .content) N }
+    record { bytes = F .bytes; found = subst (λ (u : Search). Finds u out (record { any = false; used = 0 }) out) (F .content) N }
 
 -- and one more batch
 module _ (i : ℕ) (F : Fine i) {old new : List ℕ} {r : Found} {going : Bool} (G : FindsBatch (i * batchRecords) old r going new) where
