@@ -7,24 +7,6 @@ use Rattle.exports.proofs.Packing.{value-packed, refusal-packed}
 use Rattle.exports.proofs.pack.Statement.{statement}
 use Rattle.exports.proofs.pack.Tie as tie
 
-enum-known-a : tie.Need-enum-known-a
-enum-known-a c = search needs
-
-wide-requires : tie.Need-wide-requires
-wide-requires c κs = search needs
-
-mul-result : tie.Need-mul-result
-mul-result c = search needs
-
-enum-known-a-2 : tie.Need-enum-known-a-2
-enum-known-a-2 c = search needs
-
-refusal-number-requires : tie.Need-refusal-number-requires
-refusal-number-requires c κs = search needs
-
-wide-requires-2 : tie.Need-wide-requires-2
-wide-requires-2 c κs = search needs
-
 returns : tie.Need-returns
 returns c = value-packed outcome Value (c .before .before .before .before .args .a) _ _ (c .wide .ensures) refl (search needs)
 
@@ -36,11 +18,11 @@ pub pack-spec : {M : Type 1} → statement M
 pack-spec =
     tie.close
     (tie.spec
-    enum-known-a
-    wide-requires
-    mul-result
-    enum-known-a-2
-    refusal-number-requires
-    wide-requires-2
+    (λ c. search needs)
+    (λ c κs. search needs)
+    (λ c. search needs)
+    (λ c. search needs)
+    (λ c κs. search needs)
+    (λ c κs. search needs)
     returns
     returns-2)

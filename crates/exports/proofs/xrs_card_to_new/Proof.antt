@@ -5,17 +5,8 @@ use Rattle.exports.specs.Packed.{packed}
 use Rattle.exports.proofs.xrs_card_to_new.Statement.{statement}
 use Rattle.exports.proofs.xrs_card_to_new.Tie as tie
 
-card-to-new-requires : tie.Need-card-to-new-requires
-card-to-new-requires c κs = search needs
-
-pack-verdict-requires : tie.Need-pack-verdict-requires
-pack-verdict-requires c κs = search needs
-
-same-length : tie.Need-same-length
-same-length c = search needs
-
 returns : tie.Need-returns
 returns c = (c .pack-verdict .ensures ∙ ap packed (c .before .before .before .card-to-new .ensures .answer), c .before .before .before .card-to-new .ensures .output)
 
 pub xrs-card-to-new-spec : {M : Type 1} → statement M
-xrs-card-to-new-spec = tie.close (tie.spec card-to-new-requires pack-verdict-requires same-length returns)
+xrs-card-to-new-spec = tie.close (tie.spec (λ c κs. search needs) (λ c κs. search needs) (λ c. search needs) returns)

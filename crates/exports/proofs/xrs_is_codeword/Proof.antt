@@ -5,14 +5,8 @@ use Rattle.exports.specs.Packed.{packed}
 use Rattle.exports.proofs.xrs_is_codeword.Statement.{statement}
 use Rattle.exports.proofs.xrs_is_codeword.Tie as tie
 
-test-requires : tie.Need-test-requires
-test-requires c κs = search needs
-
-pack-membership-requires : tie.Need-pack-membership-requires
-pack-membership-requires c κs = search needs
-
 returns : tie.Need-returns
 returns c = c .pack-membership .ensures ∙ ap packed (c .before .test .ensures)
 
 pub xrs-is-codeword-spec : {M : Type 1} → statement M
-xrs-is-codeword-spec = tie.close (tie.spec test-requires pack-membership-requires returns)
+xrs-is-codeword-spec = tie.close (tie.spec (λ c κs. search needs) (λ c κs. search needs) returns)

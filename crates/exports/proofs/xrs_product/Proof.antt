@@ -5,14 +5,8 @@ use Rattle.exports.specs.Packed.{packed}
 use Rattle.exports.proofs.xrs_product.Statement.{statement}
 use Rattle.exports.proofs.xrs_product.Tie as tie
 
-product-requires : tie.Need-product-requires
-product-requires c κs = search needs
-
-pack-requires : tie.Need-pack-requires
-pack-requires c κs = search needs
-
 returns : tie.Need-returns
 returns c = c .pack .ensures ∙ ap packed (c .before .product .ensures)
 
 pub xrs-product-spec : {M : Type 1} → statement M
-xrs-product-spec = tie.close (tie.spec product-requires pack-requires returns)
+xrs-product-spec = tie.close (tie.spec (λ c κs. search needs) (λ c κs. search needs) returns)

@@ -5,17 +5,8 @@ use Rattle.exports.specs.Packed.{packed}
 use Rattle.exports.proofs.xrs_restore_record.Statement.{statement}
 use Rattle.exports.proofs.xrs_restore_record.Tie as tie
 
-restore-record-requires : tie.Need-restore-record-requires
-restore-record-requires c κs = search needs
-
-pack-repair-requires : tie.Need-pack-repair-requires
-pack-repair-requires c κs = search needs
-
-same-length : tie.Need-same-length
-same-length c = search needs
-
 returns : tie.Need-returns
 returns c = (c .pack-repair .ensures ∙ ap packed (c .before .before .before .restore-record .ensures .answer), c .before .before .before .restore-record .ensures .content)
 
 pub xrs-restore-record-spec : {M : Type 1} → statement M
-xrs-restore-record-spec = tie.close (tie.spec restore-record-requires pack-repair-requires same-length returns)
+xrs-restore-record-spec = tie.close (tie.spec (λ c κs. search needs) (λ c κs. search needs) (λ c. search needs) returns)

@@ -5,17 +5,8 @@ use Rattle.exports.specs.Packed.{packed}
 use Rattle.exports.proofs.xrs_restore_word_by_trials_within.Statement.{statement}
 use Rattle.exports.proofs.xrs_restore_word_by_trials_within.Tie as tie
 
-restore-by-trials-within-requires : tie.Need-restore-by-trials-within-requires
-restore-by-trials-within-requires c κs = search needs
-
-pack-repair-requires : tie.Need-pack-repair-requires
-pack-repair-requires c κs = search needs
-
-same-length : tie.Need-same-length
-same-length c = search needs
-
 returns : tie.Need-returns
 returns c = (c .pack-repair .ensures ∙ ap packed (c .before .before .before .restore-by-trials-within .ensures .answer), c .before .before .before .restore-by-trials-within .ensures .word)
 
 pub xrs-restore-word-by-trials-within-spec : {M : Type 1} → statement M
-xrs-restore-word-by-trials-within-spec = tie.close (tie.spec restore-by-trials-within-requires pack-repair-requires same-length returns)
+xrs-restore-word-by-trials-within-spec = tie.close (tie.spec (λ c κs. search needs) (λ c κs. search needs) (λ c. search needs) returns)

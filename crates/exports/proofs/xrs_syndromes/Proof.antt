@@ -5,15 +5,6 @@ use Rattle.exports.specs.Packed.{packed, packedBytes}
 use Rattle.exports.proofs.xrs_syndromes.Statement.{statement}
 use Rattle.exports.proofs.xrs_syndromes.Tie as tie
 
-masked-syndromes-requires : tie.Need-masked-syndromes-requires
-masked-syndromes-requires c κs = search needs
-
-pack-verdict-requires : tie.Need-pack-verdict-requires
-pack-verdict-requires c κs = search needs
-
-pack-bytes-requires : tie.Need-pack-bytes-requires
-pack-bytes-requires c κs = search needs
-
 returns : tie.Need-returns
 returns c =
     let v = c .before .pack-verdict in
@@ -21,4 +12,4 @@ returns c =
     c .pack-bytes .ensures ∙ ap₂ packedBytes (v .ensures ∙ ap packed (d .answer)) (d .sums)
 
 pub xrs-syndromes-spec : {M : Type 1} → statement M
-xrs-syndromes-spec = tie.close (tie.spec masked-syndromes-requires pack-verdict-requires pack-bytes-requires returns)
+xrs-syndromes-spec = tie.close (tie.spec (λ c κs. search needs) (λ c κs. search needs) (λ c κs. search needs) returns)

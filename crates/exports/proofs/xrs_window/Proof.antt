@@ -5,19 +5,10 @@ use Rattle.exports.specs.Packed.{packed}
 use Rattle.exports.proofs.xrs_window.Statement.{statement}
 use Rattle.exports.proofs.xrs_window.Tie as tie
 
-starts-requires : tie.Need-starts-requires
-starts-requires c κs = search needs
-
-pack-verdict-requires : tie.Need-pack-verdict-requires
-pack-verdict-requires c κs = search needs
-
-same-length : tie.Need-same-length
-same-length c = search needs
-
 returns : tie.Need-returns
 returns c =
     let l = c .before .before .before .starts .ensures in
     (c .pack-verdict .ensures ∙ ap packed (l .answer), l .content)
 
 pub xrs-window-spec : {M : Type 1} → statement M
-xrs-window-spec = tie.close (tie.spec starts-requires pack-verdict-requires same-length returns)
+xrs-window-spec = tie.close (tie.spec (λ c κs. search needs) (λ c κs. search needs) (λ c. search needs) returns)

@@ -16,17 +16,8 @@ returns c = search (needs, content-no-width)
 long : (s : tie.Else1) → length (s .before .before .args .word .now) ≡ places sheetWidth
 long s = s .before .before .pre ∙ ap places (s .if1 .left)
 
-sub-is-dated : tie.Need-sub-is-dated
-sub-is-dated c = search needs
-
-part-is-dated-start : tie.Need-part-is-dated-start
-part-is-dated-start c = search needs
-
 part-is-dated-end : tie.Need-part-is-dated-end
 part-is-dated-end c = omega (arith, long c)
-
-is-dated-requires : tie.Need-is-dated-requires
-is-dated-requires c κs = search needs
 
 returns-2 : tie.Need-returns-2
 returns-2 c = search (needs, content-no-date)
@@ -36,12 +27,6 @@ sub-all-zero c = omega (arith, long (c .before .before .before))
 
 part-all-zero-start : tie.Need-part-all-zero-start
 part-all-zero-start c = omega (arith, long (c .before .before .before))
-
-part-all-zero-end : tie.Need-part-all-zero-end
-part-all-zero-end c = search needs
-
-all-zero-requires : tie.Need-all-zero-requires
-all-zero-requires c κs = search needs
 
 returns-3 : tie.Need-returns-3
 returns-3 c = search (needs, content-pass)
@@ -54,14 +39,14 @@ ask-content-spec =
     tie.close
     (tie.spec
     returns
-    sub-is-dated
-    part-is-dated-start
+    (λ c. search needs)
+    (λ c. search needs)
     part-is-dated-end
-    is-dated-requires
+    (λ c κs. search needs)
     returns-2
     sub-all-zero
     part-all-zero-start
-    part-all-zero-end
-    all-zero-requires
+    (λ c. search needs)
+    (λ c κs. search needs)
     returns-3
     returns-4)

@@ -7,31 +7,16 @@ use Rattle.sheet.proofs.Asking.{tested-long, read-no-width, read-no-len
 use Rattle.sheet.proofs.ask_read.Statement.{statement}
 use Rattle.sheet.proofs.ask_read.Tie as tie
 
-order-of-requires : tie.Need-order-of-requires
-order-of-requires c κs = search needs
-
 returns : tie.Need-returns
 returns c = search (needs, read-no-width)
 
 returns-2 : tie.Need-returns-2
 returns-2 c = search (needs, read-no-length)
 
-test-requires : tie.Need-test-requires
-test-requires c κs = search needs
-
-enum-told : tie.Need-enum-told
-enum-told c = search needs
-
 ask-content-requires : tie.Need-ask-content-requires
 ask-content-requires c κs =
     let e : c .before .before .test .result ≡ Codeword = search needs in
     tested-long _ _ 1 (ap membership (sym e) ∙ c .before .before .test .ensures)
-
-enum-told-2 : tie.Need-enum-told-2
-enum-told-2 c = search needs
-
-enum-known-q : tie.Need-enum-known-q
-enum-known-q c = search needs
 
 returns-3 : tie.Need-returns-3
 returns-3 c =
@@ -55,14 +40,14 @@ pub ask-read-spec : {M : Type 1} → statement M
 ask-read-spec =
     tie.close
     (tie.spec
-    order-of-requires
+    (λ c κs. search needs)
     returns
     returns-2
-    test-requires
-    enum-told
+    (λ c κs. search needs)
+    (λ c. search needs)
     ask-content-requires
-    enum-told-2
-    enum-known-q
+    (λ c. search needs)
+    (λ c. search needs)
     returns-3
     returns-4
     returns-5)

@@ -8,17 +8,8 @@ use Rattle.sheet.specs.Sheet.{unusedSize}
 use Rattle.sheet.proofs.padded.Statement.{statement}
 use Rattle.sheet.proofs.padded.Tie as tie
 
-array-borrow-prefix-message : tie.Need-array-borrow-prefix-message
-array-borrow-prefix-message c = search needs
-
-slice-aggregate-copy : tie.Need-slice-aggregate-copy
-slice-aggregate-copy c = search needs
-
-copy-requires : tie.Need-copy-requires
-copy-requires c κs = search needs
-
 returns : tie.Need-returns
 returns c = ap (λ (ss : List ℕ). ss ++ replicate unusedSize 0) (c .before .copy .ensures)
 
 pub padded-spec : {M : Type 1} → statement M
-padded-spec = tie.close (tie.spec array-borrow-prefix-message slice-aggregate-copy copy-requires returns)
+padded-spec = tie.close (tie.spec (λ c. search needs) (λ c. search needs) (λ c κs. search needs) returns)

@@ -4,29 +4,11 @@ use Rattle.sheet.proofs.Calls.{writes, writes-size, writes-refused}
 use Rattle.sheet.proofs.write_sheet.Statement.{statement}
 use Rattle.sheet.proofs.write_sheet.Tie as tie
 
-ask-write-requires : tie.Need-ask-write-requires
-ask-write-requires c κs = search needs
-
-enum-told : tie.Need-enum-told
-enum-told c = search needs
-
 padded-requires : tie.Need-padded-requires
 padded-requires c κs =
     let v = c .before .before .ask-write in
     let a = c .before .before .before .before .before .args in
     writes-size (a .width) (a .symbols .now) (a .word .now) (v .result) (v .ensures) (search needs)
-
-slice-aggregate-encode : tie.Need-slice-aggregate-encode
-slice-aggregate-encode c = search needs
-
-encode-requires : tie.Need-encode-requires
-encode-requires c κs = search needs
-
-enum-known-q : tie.Need-enum-known-q
-enum-known-q c = search needs
-
-same-length : tie.Need-same-length
-same-length c = search needs
 
 returns : tie.Need-returns
 returns c =
@@ -45,12 +27,12 @@ pub write-sheet-spec : {M : Type 1} → statement M
 write-sheet-spec =
     tie.close
     (tie.spec
-    ask-write-requires
-    enum-told
+    (λ c κs. search needs)
+    (λ c. search needs)
     padded-requires
-    slice-aggregate-encode
-    encode-requires
-    enum-known-q
-    same-length
+    (λ c. search needs)
+    (λ c κs. search needs)
+    (λ c. search needs)
+    (λ c. search needs)
     returns
     returns-2)

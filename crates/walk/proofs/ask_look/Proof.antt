@@ -4,12 +4,6 @@ use Rattle.walk.proofs.Looking.{asked-number, asked-row, asked-passed}
 use Rattle.walk.proofs.ask_look.Statement.{statement}
 use Rattle.walk.proofs.ask_look.Tie as tie
 
-record-count-requires : tie.Need-record-count-requires
-record-count-requires c κs = search needs
-
-is-number-requires : tie.Need-is-number-requires
-is-number-requires c κs = search needs
-
 returns : tie.Need-returns
 returns c = search (needs, asked-passed)
 
@@ -21,4 +15,4 @@ returns-3 c = search (needs, asked-number)
 
 pub ask-look-spec : {M : Type 1} → statement M
 ask-look-spec =
-    tie.close (tie.spec record-count-requires is-number-requires returns returns-2 returns-3)
+    tie.close (tie.spec (λ c κs. search needs) (λ c κs. search needs) returns returns-2 returns-3)

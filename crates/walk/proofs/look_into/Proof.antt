@@ -8,12 +8,6 @@ use Rattle.walk.proofs.Looking.{looked-low, looked-at, looked-row, look
 use Rattle.walk.proofs.look_into.Statement.{statement}
 use Rattle.walk.proofs.look_into.Tie as tie
 
-ask-look-requires : tie.Need-ask-look-requires
-ask-look-requires c κs = search needs
-
-enum-told : tie.Need-enum-told
-enum-told c = search needs
-
 sub-record-from : tie.Need-sub-record-from
 sub-record-from c = search (needs, looked-low)
 
@@ -32,12 +26,6 @@ record-from-requires c κs =
 show-requires : tie.Need-show-requires
 show-requires c κs = search (needs, looked-row)
 
-enum-known-q : tie.Need-enum-known-q
-enum-known-q c = search needs
-
-same-length : tie.Need-same-length
-same-length c = search needs
-
 returns : tie.Need-returns
 returns c = search (needs, looks-shown)
 
@@ -48,13 +36,13 @@ pub look-into-spec : {M : Type 1} → statement M
 look-into-spec =
     tie.close
     (tie.spec
-    ask-look-requires
-    enum-told
+    (λ c κs. search needs)
+    (λ c. search needs)
     sub-record-from
     mul-record-from
     record-from-requires
     show-requires
-    enum-known-q
-    same-length
+    (λ c. search needs)
+    (λ c. search needs)
     returns
     returns-2)

@@ -5,16 +5,10 @@ use Rattle.card.proofs.Blank.{blank-no, blank-whole}
 use Rattle.card.proofs.cards.blank_in.Statement.{statement}
 use Rattle.card.proofs.cards.blank_in.Tie as tie
 
-size-of-requires : tie.Need-size-of-requires
-size-of-requires c κs = search needs
-
 returns : tie.Need-returns
 returns c =
     let a = c .before .before .before .args in
     blank-no (a .k) (a .slot .now) (λ e. c .if1 .taken (e ∙ sym (c .before .size-of .ensures)))
-
-all-are-requires : tie.Need-all-are-requires
-all-are-requires c κs = search needs
 
 returns-2 : tie.Need-returns-2
 returns-2 c =
@@ -23,4 +17,4 @@ returns-2 c =
     blank-whole (a .k) (a .slot .now) (c .all-are .result) (sized .if1 .left ∙ sized .before .size-of .ensures) (c .all-are .ensures)
 
 pub blank-in-spec : {M : Type 1} → statement M
-blank-in-spec = tie.close (tie.spec size-of-requires returns all-are-requires returns-2)
+blank-in-spec = tie.close (tie.spec (λ c κs. search needs) returns (λ c κs. search needs) returns-2)

@@ -15,24 +15,12 @@ abbrev μ-loop : tie.MeasureT-loop
 loop-holds : tie.Need-loop-holds Inv-loop μ-loop
 loop-holds c = walked-start (c .before .args .card .now)
 
-record-from-requires : tie.Need-record-from-requires Inv-loop μ-loop
-record-from-requires c κs = search needs
-
-is-fine-requires : tie.Need-is-fine-requires Inv-loop μ-loop
-is-fine-requires c κs = search needs
-
-add-t8 : tie.Need-add-t8 Inv-loop μ-loop
-add-t8 c = search needs
-
 returns : tie.Need-returns Inv-loop μ-loop
 returns c =
     let turn = c .before .before .before .before in
     let called = c .before .is-fine in
     checks-refused (turn .before .before .args .card .now) (turn .loop .at) (turn .loop .i) (turn .loop .inv) (called .result) _
     (called .ensures) (c .before .before .record-from .ensures .bytes) (c .before .before .before .loop-test .taken) (c .if1 .taken)
-
-sub-if2 : tie.Need-sub-if2 Inv-loop μ-loop
-sub-if2 c = search needs
 
 returns-2 : tie.Need-returns-2 Inv-loop μ-loop
 returns-2 c =
@@ -41,15 +29,6 @@ returns-2 c =
     checks-last (turn .before .before .args .card .now) (turn .loop .at) (turn .loop .i) (turn .loop .inv) (called .result) _
     (called .ensures) (c .before .before .before .record-from .ensures .bytes) (c .before .before .before .before .loop-test .taken)
     (c .if2 .taken) (c .before .if1 .left)
-
-add-at : tie.Need-add-at Inv-loop μ-loop
-add-at c = search needs
-
-add-i : tie.Need-add-i Inv-loop μ-loop
-add-i c = search needs
-
-loop-less : tie.Need-loop-less Inv-loop μ-loop
-loop-less c = search needs
 
 loop-again : tie.Need-loop-again Inv-loop μ-loop
 loop-again c =
@@ -70,14 +49,14 @@ check-spec =
     Inv-loop
     μ-loop
     loop-holds
-    record-from-requires
-    is-fine-requires
-    add-t8
+    (λ c κs. search needs)
+    (λ c κs. search needs)
+    (λ c. search needs)
     returns
-    sub-if2
+    (λ c. search needs)
     returns-2
-    add-at
-    add-i
-    loop-less
+    (λ c. search needs)
+    (λ c. search needs)
+    (λ c. search needs)
     loop-again
     returns-3)

@@ -4,17 +4,11 @@ use Rattle.card.proofs.Blank.{fine-blank, fine-record}
 use Rattle.card.proofs.cards.is_fine.Statement.{statement}
 use Rattle.card.proofs.cards.is_fine.Tie as tie
 
-is-blank-requires : tie.Need-is-blank-requires
-is-blank-requires c κs = search needs
-
 returns : tie.Need-returns
 returns c = search (needs, fine-blank)
-
-would-pass-requires : tie.Need-would-pass-requires
-would-pass-requires c κs = search needs
 
 returns-2 : tie.Need-returns-2
 returns-2 c = search (needs, fine-record)
 
 pub is-fine-spec : {M : Type 1} → statement M
-is-fine-spec = tie.close (tie.spec is-blank-requires returns would-pass-requires returns-2)
+is-fine-spec = tie.close (tie.spec (λ c κs. search needs) returns (λ c κs. search needs) returns-2)

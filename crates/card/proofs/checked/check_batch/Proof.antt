@@ -8,15 +8,6 @@ use Rattle.card.proofs.Finding.{named-low, named-high, finds-none, find
 use Rattle.card.proofs.checked.check_batch.Statement.{statement}
 use Rattle.card.proofs.checked.check_batch.Tie as tie
 
-check-requires : tie.Need-check-requires
-check-requires c κs = search needs
-
-enum-told : tie.Need-enum-told
-enum-told c = search needs
-
-enum-known-k : tie.Need-enum-known-k
-enum-known-k c = search needs
-
 sub-record-from : tie.Need-sub-record-from
 sub-record-from c = search (needs, named-low)
 
@@ -35,14 +26,8 @@ add-put-outcome c =
     let high : c .before .before .k .given .0 .0 ≤ recordCount (length (c .before .before .before .before .before .before .before .args .batch .now)) = search (needs, named-high) in
     omega arith
 
-put-outcome-requires : tie.Need-put-outcome-requires
-put-outcome-requires c κs = search needs
-
 returns : tie.Need-returns
 returns c = search (needs, finds-none)
-
-same-length : tie.Need-same-length
-same-length c = search needs
 
 returns-2 : tie.Need-returns-2
 returns-2 c = search (needs, finds-some)
@@ -51,14 +36,14 @@ pub check-batch-spec : {M : Type 1} → statement M
 check-batch-spec =
     tie.close
     (tie.spec
-    check-requires
-    enum-told
-    enum-known-k
+    (λ c κs. search needs)
+    (λ c. search needs)
+    (λ c. search needs)
     sub-record-from
     mul-record-from
     record-from-requires
     add-put-outcome
-    put-outcome-requires
+    (λ c κs. search needs)
     returns
-    same-length
+    (λ c. search needs)
     returns-2)

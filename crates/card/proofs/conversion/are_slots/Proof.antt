@@ -8,15 +8,6 @@ use Rattle.card.proofs.Slots.{slots-left, slots-other}
 use Rattle.card.proofs.conversion.are_slots.Statement.{statement}
 use Rattle.card.proofs.conversion.are_slots.Tie as tie
 
-size-of-requires : tie.Need-size-of-requires
-size-of-requires c κs = search needs
-
-div-if1 : tie.Need-div-if1
-div-if1 c = search needs
-
-rem-result : tie.Need-rem-result
-rem-result c = search needs
-
 returns : tie.Need-returns
 returns c =
     let x = c .before .size-of in
@@ -31,4 +22,4 @@ returns-2 c =
     ∙ ap (λ (s : ℕ). eqb (a .m) (a .n * s)) (x .ensures)
 
 pub are-slots-spec : {M : Type 1} → statement M
-are-slots-spec = tie.close (tie.spec size-of-requires div-if1 rem-result returns returns-2)
+are-slots-spec = tie.close (tie.spec (λ c κs. search needs) (λ c. search needs) (λ c. search needs) returns returns-2)

@@ -10,12 +10,6 @@ use Rattle.card.proofs.Converting.{lengths-whole, lengths-are, asked-re
 use Rattle.card.proofs.conversion.ask_card.Statement.{statement}
 use Rattle.card.proofs.conversion.ask_card.Tie as tie
 
-size-of-requires : tie.Need-size-of-requires
-size-of-requires c κs = search needs
-
-rem-if1 : tie.Need-rem-if1
-rem-if1 c = search needs
-
 returns : tie.Need-returns
 returns c =
     let x = c .before .size-of in
@@ -23,22 +17,10 @@ returns c =
     asked-refused (a .k) (a .j) (a .card .now) (a .m)
     (lengths-whole (a .k) (length (a .card .now)) (x .result) (x .ensures) (a .j) (a .m) (c .if1 .taken))
 
-div-n : tie.Need-div-n
-div-n c = search needs
-
-are-slots-requires : tie.Need-are-slots-requires
-are-slots-requires c κs = search needs
-
-nothing-found-requires : tie.Need-nothing-found-requires
-nothing-found-requires c κs = search needs
-
 see-part-requires : tie.Need-see-part-requires
 see-part-requires c κs =
     let none = ap (λ (u : Findings). u .slots) (c .nothing-found .ensures) in
     (c .before .before .before .before .before .before .pre .0, omega (arith, none))
-
-verdict-of-requires : tie.Need-verdict-of-requires
-verdict-of-requires c κs = search needs
 
 returns-2 : tie.Need-returns-2
 returns-2 c =
@@ -72,13 +54,13 @@ pub ask-card-spec : {M : Type 1} → statement M
 ask-card-spec =
     tie.close
     (tie.spec
-    size-of-requires
-    rem-if1
+    (λ c κs. search needs)
+    (λ c. search needs)
     returns
-    div-n
-    are-slots-requires
-    nothing-found-requires
+    (λ c. search needs)
+    (λ c κs. search needs)
+    (λ c κs. search needs)
     see-part-requires
-    verdict-of-requires
+    (λ c κs. search needs)
     returns-2
     returns-3)

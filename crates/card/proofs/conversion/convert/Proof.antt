@@ -4,18 +4,6 @@ use Rattle.card.proofs.Converting.{converts-slots, converts, converts-r
 use Rattle.card.proofs.conversion.convert.Statement.{statement}
 use Rattle.card.proofs.conversion.convert.Tie as tie
 
-ask-card-requires : tie.Need-ask-card-requires
-ask-card-requires c κs = search needs
-
-enum-told : tie.Need-enum-told
-enum-told c = search needs
-
-size-of-requires : tie.Need-size-of-requires
-size-of-requires c κs = search needs
-
-div-n : tie.Need-div-n
-div-n c = search needs
-
 convert-slots-requires : tie.Need-convert-slots-requires
 convert-slots-requires c κs =
     let x = c .before .size-of in
@@ -26,12 +14,6 @@ convert-slots-requires c κs =
       converts-slots (a .k) (a .j) (a .card .now) (a .out .now) (v .ask-card .result) (v .ask-card .ensures) (search needs) (x .result)
           (x .ensures),
     )
-
-enum-known-q : tie.Need-enum-known-q
-enum-known-q c = search needs
-
-same-length : tie.Need-same-length
-same-length c = search needs
 
 returns : tie.Need-returns
 returns c =
@@ -51,12 +33,12 @@ pub convert-spec : {M : Type 1} → statement M
 convert-spec =
     tie.close
     (tie.spec
-    ask-card-requires
-    enum-told
-    size-of-requires
-    div-n
+    (λ c κs. search needs)
+    (λ c. search needs)
+    (λ c κs. search needs)
+    (λ c. search needs)
     convert-slots-requires
-    enum-known-q
-    same-length
+    (λ c. search needs)
+    (λ c. search needs)
     returns
     returns-2)

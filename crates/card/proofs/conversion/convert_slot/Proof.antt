@@ -10,25 +10,10 @@ use Rattle.card.proofs.Converted.{header-part}
 use Rattle.card.proofs.conversion.convert_slot.Statement.{statement}
 use Rattle.card.proofs.conversion.convert_slot.Tie as tie
 
-new-header-requires : tie.Need-new-header-requires
-new-header-requires c κs = search needs
-
-add-a : tie.Need-add-a
-add-a c = search needs
-
-add-b : tie.Need-add-b
-add-b c = search needs
-
-slice-relend-prefix-copy : tie.Need-slice-relend-prefix-copy
-slice-relend-prefix-copy c = search needs
-
 slice-aggregate-copy : tie.Need-slice-aggregate-copy
 slice-aggregate-copy c =
     let s = c .before .before .before .before in
     sym (length-take-le (2 + s .args .j) (s .args .to .now) (omega arith))
-
-array-share-prefix-header : tie.Need-array-share-prefix-header
-array-share-prefix-header c = search needs
 
 slice-aggregate-copy-2 : tie.Need-slice-aggregate-copy-2
 slice-aggregate-copy-2 c =
@@ -43,30 +28,6 @@ copy-requires c κs =
     let s = c .before .before .before .before .before in
     let l : 7 ≡ length header = search needs in
     length-take-le (2 + s .args .j) (s .args .to .now) (omega arith) ∙ sym (length-take-le (2 + s .args .j) header (omega arith))
-
-sub-copy : tie.Need-sub-copy
-sub-copy c = search needs
-
-part-copy-start : tie.Need-part-copy-start
-part-copy-start c = search needs
-
-part-copy-end : tie.Need-part-copy-end
-part-copy-end c = search needs
-
-sub-copy-2 : tie.Need-sub-copy-2
-sub-copy-2 c = search needs
-
-part-copy-start-2 : tie.Need-part-copy-start-2
-part-copy-start-2 c = search needs
-
-part-copy-end-2 : tie.Need-part-copy-end-2
-part-copy-end-2 c = search needs
-
-copy-requires-2 : tie.Need-copy-requires-2
-copy-requires-2 c κs = search needs
-
-same-length : tie.Need-same-length
-same-length c = search needs
 
 returns : tie.Need-returns
 returns c =
@@ -83,20 +44,20 @@ pub convert-slot-spec : {M : Type 1} → statement M
 convert-slot-spec =
     tie.close
     (tie.spec
-    new-header-requires
-    add-a
-    add-b
-    slice-relend-prefix-copy
+    (λ c κs. search needs)
+    (λ c. search needs)
+    (λ c. search needs)
+    (λ c. search needs)
     slice-aggregate-copy
-    array-share-prefix-header
+    (λ c. search needs)
     slice-aggregate-copy-2
     copy-requires
-    sub-copy
-    part-copy-start
-    part-copy-end
-    sub-copy-2
-    part-copy-start-2
-    part-copy-end-2
-    copy-requires-2
-    same-length
+    (λ c. search needs)
+    (λ c. search needs)
+    (λ c. search needs)
+    (λ c. search needs)
+    (λ c. search needs)
+    (λ c. search needs)
+    (λ c κs. search needs)
+    (λ c. search needs)
     returns)

@@ -38,12 +38,6 @@ room-out c =
     slot-room (s .args .j) (c .before .loop .out) (s .args .n) (c .before .loop .inv .1 ∙ s .pre .1 .1) (c .before .loop .i)
     (c .loop-test .taken) (x .result) (x .ensures)
 
-size-of-requires : tie.Need-size-of-requires Inv-loop μ-loop
-size-of-requires c κs = search needs
-
-size-of-requires-2 : tie.Need-size-of-requires-2 Inv-loop μ-loop
-size-of-requires-2 c κs = search needs
-
 loop-holds : tie.Need-loop-holds Inv-loop μ-loop
 loop-holds c =
     let a = c .before .before .before .before .args in
@@ -61,20 +55,8 @@ mul-to c = omega (arith, room-out c)
 add-stop : tie.Need-add-stop Inv-loop μ-loop
 add-stop c = omega (arith, room-out c)
 
-sub-convert-slot : tie.Need-sub-convert-slot Inv-loop μ-loop
-sub-convert-slot c = search needs
-
-part-convert-slot-start : tie.Need-part-convert-slot-start Inv-loop μ-loop
-part-convert-slot-start c = search needs
-
 part-convert-slot-end : tie.Need-part-convert-slot-end Inv-loop μ-loop
 part-convert-slot-end c = omega (arith, room c)
-
-sub-convert-slot-2 : tie.Need-sub-convert-slot-2 Inv-loop μ-loop
-sub-convert-slot-2 c = search needs
-
-part-convert-slot-start-2 : tie.Need-part-convert-slot-start-2 Inv-loop μ-loop
-part-convert-slot-start-2 c = search needs
 
 part-convert-slot-end-2 : tie.Need-part-convert-slot-end-2 Inv-loop μ-loop
 part-convert-slot-end-2 c = omega (arith, room-out (c .before))
@@ -97,12 +79,6 @@ convert-slot-requires c κs =
       ),
     )
 
-add-i : tie.Need-add-i Inv-loop μ-loop
-add-i c = search needs
-
-loop-less : tie.Need-loop-less Inv-loop μ-loop
-loop-less c = search needs
-
 loop-again : tie.Need-loop-again Inv-loop μ-loop
 loop-again c =
     let t = c .before .before .before .before .before .before in
@@ -120,9 +96,6 @@ loop-again c =
           (c .before .before .convert-slot .ensures ∙ ap (converted (a .k) (a .j)) part),
     )
 
-same-length : tie.Need-same-length Inv-loop μ-loop
-same-length c = search needs
-
 returns : tie.Need-returns Inv-loop μ-loop
 returns c =
     let s = c .before .before .before .before .before .before in
@@ -137,22 +110,22 @@ convert-slots-spec =
     (tie.spec
     Inv-loop
     μ-loop
-    size-of-requires
-    size-of-requires-2
+    (λ c κs. search needs)
+    (λ c κs. search needs)
     loop-holds
     mul-at
     add-end
     mul-to
     add-stop
-    sub-convert-slot
-    part-convert-slot-start
+    (λ c. search needs)
+    (λ c. search needs)
     part-convert-slot-end
-    sub-convert-slot-2
-    part-convert-slot-start-2
+    (λ c. search needs)
+    (λ c. search needs)
     part-convert-slot-end-2
     convert-slot-requires
-    add-i
-    loop-less
+    (λ c. search needs)
+    (λ c. search needs)
     loop-again
-    same-length
+    (λ c. search needs)
     returns)

@@ -7,12 +7,6 @@ use lib.Seq.{length-take-le}
 use Rattle.card.proofs.conversion.new_header.Statement.{statement}
 use Rattle.card.proofs.conversion.new_header.Tie as tie
 
-array-borrow-prefix-header : tie.Need-array-borrow-prefix-header
-array-borrow-prefix-header c = search needs
-
-slice-aggregate-copy : tie.Need-slice-aggregate-copy
-slice-aggregate-copy c = search needs
-
 slice-aggregate-copy-2 : tie.Need-slice-aggregate-copy-2
 slice-aggregate-copy-2 c = sym (length-take-le 6 (c .before .before .before .args .from .now) (c .before .before .before .pre))
 
@@ -23,4 +17,4 @@ returns : tie.Need-returns
 returns c = ap (λ (xs : List ℕ). xs ++ 255 ∷ []) (c .before .copy .ensures)
 
 pub new-header-spec : {M : Type 1} → statement M
-new-header-spec = tie.close (tie.spec array-borrow-prefix-header slice-aggregate-copy slice-aggregate-copy-2 copy-requires returns)
+new-header-spec = tie.close (tie.spec (λ c. search needs) (λ c. search needs) slice-aggregate-copy-2 copy-requires returns)

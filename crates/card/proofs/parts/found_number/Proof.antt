@@ -4,9 +4,6 @@ use Rattle.card.proofs.Found.{number-rest, number-none}
 use Rattle.card.proofs.parts.found_number.Statement.{statement}
 use Rattle.card.proofs.parts.found_number.Tie as tie
 
-add-result : tie.Need-add-result
-add-result c = search needs
-
 returns : tie.Need-returns
 returns c = let s = c .before .before in number-rest (s .args .s) (s .args .rest) (c .before .if1 .taken)
 
@@ -14,4 +11,4 @@ returns-2 : tie.Need-returns-2
 returns-2 c = let s = c .before in number-none (s .args .s) (s .args .rest) (c .if1 .left)
 
 pub found-number-spec : {M : Type 1} → statement M
-found-number-spec = tie.close (tie.spec add-result returns returns-2)
+found-number-spec = tie.close (tie.spec (λ c. search needs) returns returns-2)

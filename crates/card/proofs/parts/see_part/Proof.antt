@@ -19,12 +19,6 @@ Inv-loop part k size n found₀ i₀ found i = (i ≤ n) × (found ≡ slotsFoun
 abbrev μ-loop : tie.MeasureT-loop
 μ-loop part k size n found₀ i₀ found i = n - i
 
-size-of-requires : tie.Need-size-of-requires Inv-loop μ-loop
-size-of-requires c κs = search needs
-
-div-n : tie.Need-div-n Inv-loop μ-loop
-div-n c = search needs
-
 loop-holds : tie.Need-loop-holds Inv-loop μ-loop
 loop-holds c = let a = c .before .before .args in (omega arith, over-none (a .k) (slotFound (a .k)) (a .s) (a .part .now))
 
@@ -43,12 +37,6 @@ mul-at c = omega (arith, room c)
 
 add-end : tie.Need-add-end Inv-loop μ-loop
 add-end c = omega (arith, room c)
-
-sub-see-slot : tie.Need-sub-see-slot Inv-loop μ-loop
-sub-see-slot c = search needs
-
-part-see-slot-start : tie.Need-part-see-slot-start Inv-loop μ-loop
-part-see-slot-start c = search needs
 
 part-see-slot-end : tie.Need-part-see-slot-end Inv-loop μ-loop
 part-see-slot-end c = omega (arith, room c)
@@ -74,9 +62,6 @@ add-i c =
     let t = c .before .before .before in
     omega (arith, div-le-self (length (t .before .before .before .args .part .now)) (t .before .size-of .result))
 
-loop-less : tie.Need-loop-less Inv-loop μ-loop
-loop-less c = search needs
-
 loop-again : tie.Need-loop-again Inv-loop μ-loop
 loop-again c =
     let t = c .before .before .before in
@@ -101,16 +86,16 @@ see-part-spec =
     (tie.spec
     Inv-loop
     μ-loop
-    size-of-requires
-    div-n
+    (λ c κs. search needs)
+    (λ c. search needs)
     loop-holds
     mul-at
     add-end
-    sub-see-slot
-    part-see-slot-start
+    (λ c. search needs)
+    (λ c. search needs)
     part-see-slot-end
     see-slot-requires
     add-i
-    loop-less
+    (λ c. search needs)
     loop-again
     returns)

@@ -4,12 +4,6 @@ use Rattle.card.proofs.Found.{found-fewer, found-kept}
 use Rattle.card.proofs.parts.see_slot.Statement.{statement}
 use Rattle.card.proofs.parts.see_slot.Tie as tie
 
-add-slots : tie.Need-add-slots
-add-slots c = search needs
-
-slot-passed-requires : tie.Need-slot-passed-requires
-slot-passed-requires c κs = search needs
-
 returns : tie.Need-returns
 returns c =
     let p = c .before .before .slot-passed in
@@ -23,4 +17,4 @@ returns-2 c =
     found-kept (a .k) (a .s) (a .slot .now) (p .result) (p .ensures) (c .if1 .left)
 
 pub see-slot-spec : {M : Type 1} → statement M
-see-slot-spec = tie.close (tie.spec add-slots slot-passed-requires returns returns-2)
+see-slot-spec = tie.close (tie.spec (λ c. search needs) (λ c κs. search needs) returns returns-2)

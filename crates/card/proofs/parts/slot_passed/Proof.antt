@@ -4,17 +4,11 @@ use Rattle.card.proofs.Leading.{slot-blank, slot-record}
 use Rattle.card.proofs.parts.slot_passed.Statement.{statement}
 use Rattle.card.proofs.parts.slot_passed.Tie as tie
 
-blank-in-requires : tie.Need-blank-in-requires
-blank-in-requires c κs = search needs
-
 returns : tie.Need-returns
 returns c =
     let b = c .before .blank-in in
     let a = c .before .before .before .args in
     slot-blank (a .k) (a .slot .now) (b .result) (b .ensures) (c .if1 .taken)
-
-passed-requires : tie.Need-passed-requires
-passed-requires c κs = search needs
 
 returns-2 : tie.Need-returns-2
 returns-2 c =
@@ -23,4 +17,4 @@ returns-2 c =
     slot-record (a .k) (a .slot .now) (b .result) (b .ensures) (c .before .if1 .left) (c .passed .result) (c .passed .ensures)
 
 pub slot-passed-spec : {M : Type 1} → statement M
-slot-passed-spec = tie.close (tie.spec blank-in-requires returns passed-requires returns-2)
+slot-passed-spec = tie.close (tie.spec (λ c κs. search needs) returns (λ c κs. search needs) returns-2)

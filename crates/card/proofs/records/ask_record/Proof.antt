@@ -9,12 +9,6 @@ use Rattle.card.proofs.records.ask_record.Tie as tie
 returns : tie.Need-returns
 returns c = length-no erasureBytes (c .before .before .args .bytes .now) (c .if1 .taken)
 
-passed-requires : tie.Need-passed-requires
-passed-requires c κs = search needs
-
-verdict-of-requires : tie.Need-verdict-of-requires
-verdict-of-requires c κs = search needs
-
 returns-2 : tie.Need-returns-2
 returns-2 c =
     let p = c .before .passed in
@@ -22,4 +16,4 @@ returns-2 c =
     c .verdict-of .ensures ∙ record-asked erasureBytes (sized .before .before .args .bytes .now) (sized .if1 .left) (p .result) (p .ensures)
 
 pub ask-record-spec : {M : Type 1} → statement M
-ask-record-spec = tie.close (tie.spec returns passed-requires verdict-of-requires returns-2)
+ask-record-spec = tie.close (tie.spec returns (λ c κs. search needs) (λ c κs. search needs) returns-2)

@@ -8,20 +8,11 @@ use lib.Seq.{length-take-le}
 use Rattle.card.proofs.records.clear_header.Statement.{statement}
 use Rattle.card.proofs.records.clear_header.Tie as tie
 
-slice-relend-prefix-copy : tie.Need-slice-relend-prefix-copy
-slice-relend-prefix-copy c = search needs
-
 slice-aggregate-copy : tie.Need-slice-aggregate-copy
 slice-aggregate-copy c = sym (length-take-le 7 (c .before .before .args .bytes .now) (c .before .before .pre))
 
-slice-aggregate-copy-2 : tie.Need-slice-aggregate-copy-2
-slice-aggregate-copy-2 c = search needs
-
 copy-requires : tie.Need-copy-requires
 copy-requires c κs = length-take-le 7 (c .before .before .before .args .bytes .now) (c .before .before .before .pre)
-
-same-length : tie.Need-same-length
-same-length c = search needs
 
 returns : tie.Need-returns
 returns c =
@@ -32,9 +23,9 @@ pub clear-header-spec : {M : Type 1} → statement M
 clear-header-spec =
     tie.close
     (tie.spec
-    slice-relend-prefix-copy
+    (λ c. search needs)
     slice-aggregate-copy
-    slice-aggregate-copy-2
+    (λ c. search needs)
     copy-requires
-    same-length
+    (λ c. search needs)
     returns)

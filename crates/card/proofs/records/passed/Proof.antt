@@ -7,26 +7,14 @@ use Rattle.card.proofs.Layouts.{record-fits, count-fits, passes-none, p
 use Rattle.card.proofs.records.passed.Statement.{statement}
 use Rattle.card.proofs.records.passed.Tie as tie
 
-shared-slice-read-width : tie.Need-shared-slice-read-width
-shared-slice-read-width c = search needs
-
-word-length-requires : tie.Need-word-length-requires
-word-length-requires c κs = search needs
-
 returns : tie.Need-returns
 returns c =
     let m = c .before .word-length in
     let a = c .before .before .before .before .args in
     passes-none (a .k) (a .most) (a .bytes .now) (m .result) (m .ensures) (c .if1 .taken)
 
-shared-slice-read-count : tie.Need-shared-slice-read-count
-shared-slice-read-count c = search needs
-
 cast-count : tie.Need-cast-count
 cast-count c = omega (arith, c .shared-slice-known3 .given 1)
-
-allowed-requires : tie.Need-allowed-requires
-allowed-requires c κs = search needs
 
 returns-2 : tie.Need-returns-2
 returns-2 c =
@@ -35,9 +23,6 @@ returns-2 c =
     let a = w .before .before .before .before .args in
     let q = c .before .allowed in
     passes-one (a .k) (a .most) (a .bytes .now) (m .result) (m .ensures) (w .if1 .left) (q .result) (q .ensures) (c .if2 .taken)
-
-add-padded : tie.Need-add-padded
-add-padded c = search needs
 
 add-padded-2 : tie.Need-add-padded-2
 add-padded-2 c =
@@ -95,14 +80,14 @@ pub passed-spec : {M : Type 1} → statement M
 passed-spec =
     tie.close
     (tie.spec
-    shared-slice-read-width
-    word-length-requires
+    (λ c. search needs)
+    (λ c κs. search needs)
     returns
-    shared-slice-read-count
+    (λ c. search needs)
     cast-count
-    allowed-requires
+    (λ c κs. search needs)
     returns-2
-    add-padded
+    (λ c. search needs)
     add-padded-2
     padded-requires
     returns-3

@@ -25,19 +25,10 @@ erasure-row-requires c κs =
     let s = c .before .before .before .before in
     omega (arith, asked (s .args .bytes .now) (s .pre) .size)
 
-word-length-requires : tie.Need-word-length-requires
-word-length-requires c κs = search needs
-
 add-end : tie.Need-add-end
 add-end c =
     let s = c .before .before .before .before .before .before in
     omega (arith, length-most (widthOf (s .args .bytes .now)) (c .word-length .result) (c .word-length .ensures))
-
-sub-restore-within : tie.Need-sub-restore-within
-sub-restore-within c = search needs
-
-part-restore-within-start : tie.Need-part-restore-within-start
-part-restore-within-start c = search needs
 
 part-restore-within-end : tie.Need-part-restore-within-end
 part-restore-within-end c =
@@ -58,22 +49,10 @@ slice-aggregate-restore-within c =
     let l : erasureBytes ≡ length e = search needs in
     sym (length-take-le (countOf (s .args .bytes .now)) e (omega (arith, asked (s .args .bytes .now) (s .pre) .few)))
 
-restore-within-requires : tie.Need-restore-within-requires
-restore-within-requires c κs = search needs
-
-enum-known-k : tie.Need-enum-known-k
-enum-known-k c = search needs
-
 clear-header-requires : tie.Need-clear-header-requires
 clear-header-requires c κs =
     let s = c .before .before .before .before .before .before .before .before .before .before .before .before .before .before .before in
     omega (arith, asked (s .args .bytes .now) (s .pre) .size)
-
-enum-known-q : tie.Need-enum-known-q
-enum-known-q c = search needs
-
-same-length : tie.Need-same-length
-same-length c = search needs
 
 returns : tie.Need-returns
 returns c =
@@ -89,9 +68,6 @@ returns c =
     let R = restores-parts r a (n .result) (n .ensures) (e .result) (e .ensures) reach (x .result) _ (x .ensures) in
     word-restored r (s .pre) reach (x .result) _ R _ (word-long r a (n .result) (n .ensures)) _ (search needs) _
     (c .before .before .clear-header .ensures)
-
-same-length-2 : tie.Need-same-length-2
-same-length-2 c = search needs
 
 returns-2 : tie.Need-returns-2
 returns-2 c =
@@ -115,18 +91,18 @@ restore-asked-spec =
     slice-read-count
     cast-count
     erasure-row-requires
-    word-length-requires
+    (λ c κs. search needs)
     add-end
-    sub-restore-within
-    part-restore-within-start
+    (λ c. search needs)
+    (λ c. search needs)
     part-restore-within-end
     array-share-prefix-erasures
     slice-aggregate-restore-within
-    restore-within-requires
-    enum-known-k
+    (λ c κs. search needs)
+    (λ c. search needs)
     clear-header-requires
-    enum-known-q
-    same-length
+    (λ c. search needs)
+    (λ c. search needs)
     returns
-    same-length-2
+    (λ c. search needs)
     returns-2)

@@ -9,12 +9,6 @@ use Rattle.card.proofs.Recording.{restores-refused, longest-reach, reac
 use Rattle.card.proofs.records.restore_record.Statement.{statement}
 use Rattle.card.proofs.records.restore_record.Tie as tie
 
-ask-record-requires : tie.Need-ask-record-requires
-ask-record-requires c κs = search needs
-
-enum-told : tie.Need-enum-told
-enum-told c = search needs
-
 slice-read-radius-of : tie.Need-slice-read-radius-of
 slice-read-radius-of c =
     let v = c .before .before .before .ask-record in
@@ -30,20 +24,11 @@ slice-read-radius-of-2 c =
 cast-radius-of : tie.Need-cast-radius-of
 cast-radius-of c = omega (arith, c .slice-known3 .given 1)
 
-radius-of-requires : tie.Need-radius-of-requires
-radius-of-requires c κs = search needs
-
 restore-asked-requires : tie.Need-restore-asked-requires
 restore-asked-requires c κs =
     let v = c .before .before .before .before .before .before .ask-record in
     let p : v .result ≡ Passed = search needs in
     sym (v .ensures) ∙ p
-
-enum-known-q : tie.Need-enum-known-q
-enum-known-q c = search needs
-
-same-length : tie.Need-same-length
-same-length c = search needs
 
 returns : tie.Need-returns
 returns c =
@@ -55,9 +40,6 @@ returns c =
     let r = put .before .before .before .args .bytes .now in
     longest-reach r _ (reach-counted r (asked r (sym (v .ensures) ∙ p)) _ (found .radius-of .ensures)) _ _ (done .restore-asked .ensures)
 
-same-length-2 : tie.Need-same-length-2
-same-length-2 c = search needs
-
 returns-2 : tie.Need-returns-2
 returns-2 c =
     let v = c .before .before .before .ask-record in
@@ -68,15 +50,15 @@ pub restore-record-spec : {M : Type 1} → statement M
 restore-record-spec =
     tie.close
     (tie.spec
-    ask-record-requires
-    enum-told
+    (λ c κs. search needs)
+    (λ c. search needs)
     slice-read-radius-of
     slice-read-radius-of-2
     cast-radius-of
-    radius-of-requires
+    (λ c κs. search needs)
     restore-asked-requires
-    enum-known-q
-    same-length
+    (λ c. search needs)
+    (λ c. search needs)
     returns
-    same-length-2
+    (λ c. search needs)
     returns-2)

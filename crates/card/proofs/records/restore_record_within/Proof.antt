@@ -6,29 +6,11 @@ use Rattle.card.proofs.Recording.{restores-refused}
 use Rattle.card.proofs.records.restore_record_within.Statement.{statement}
 use Rattle.card.proofs.records.restore_record_within.Tie as tie
 
-ask-record-requires : tie.Need-ask-record-requires
-ask-record-requires c κs = search needs
-
-enum-told : tie.Need-enum-told
-enum-told c = search needs
-
 restore-asked-requires : tie.Need-restore-asked-requires
 restore-asked-requires c κs =
     let v = c .before .before .before .ask-record in
     let p : v .result ≡ Passed = search needs in
     sym (v .ensures) ∙ p
-
-enum-known-q : tie.Need-enum-known-q
-enum-known-q c = search needs
-
-same-length : tie.Need-same-length
-same-length c = search needs
-
-returns : tie.Need-returns
-returns c = search needs
-
-same-length-2 : tie.Need-same-length-2
-same-length-2 c = search needs
 
 returns-2 : tie.Need-returns-2
 returns-2 c =
@@ -39,11 +21,11 @@ pub restore-record-within-spec : {M : Type 1} → statement M
 restore-record-within-spec =
     tie.close
     (tie.spec
-    ask-record-requires
-    enum-told
+    (λ c κs. search needs)
+    (λ c. search needs)
     restore-asked-requires
-    enum-known-q
-    same-length
-    returns
-    same-length-2
+    (λ c. search needs)
+    (λ c. search needs)
+    (λ c. search needs)
+    (λ c. search needs)
     returns-2)

@@ -5,32 +5,11 @@ use Rattle.card.proofs.Recording.{short-refused, row-refused, copied-ye
 use Rattle.card.proofs.records.restored_copy.Statement.{statement}
 use Rattle.card.proofs.records.restored_copy.Tie as tie
 
-refused-copy-requires : tie.Need-refused-copy-requires
-refused-copy-requires c κs = search needs
-
 returns : tie.Need-returns
 returns c =
     let test = c .before in
     let r = test .before .before .args .bytes .now in
     copied-no r Length (short-refused r (test .if1 .taken)) _ (c .refused-copy .ensures)
-
-copied-requires : tie.Need-copied-requires
-copied-requires c κs = search needs
-
-slice-aggregate-restore-record : tie.Need-slice-aggregate-restore-record
-slice-aggregate-restore-record c = search needs
-
-restore-record-requires : tie.Need-restore-record-requires
-restore-record-requires c κs = search needs
-
-enum-known-k : tie.Need-enum-known-k
-enum-known-k c = search needs
-
-enum-known-q : tie.Need-enum-known-q
-enum-known-q c = search needs
-
-refused-copy-requires-2 : tie.Need-refused-copy-requires-2
-refused-copy-requires-2 c κs = search needs
 
 returns-2 : tie.Need-returns-2
 returns-2 c =
@@ -50,13 +29,13 @@ pub restored-copy-spec : {M : Type 1} → statement M
 restored-copy-spec =
     tie.close
     (tie.spec
-    refused-copy-requires
+    (λ c κs. search needs)
     returns
-    copied-requires
-    slice-aggregate-restore-record
-    restore-record-requires
-    enum-known-k
-    enum-known-q
-    refused-copy-requires-2
+    (λ c κs. search needs)
+    (λ c. search needs)
+    (λ c κs. search needs)
+    (λ c. search needs)
+    (λ c. search needs)
+    (λ c κs. search needs)
     returns-2
     returns-3)

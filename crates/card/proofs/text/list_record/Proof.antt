@@ -8,27 +8,6 @@ use Rattle.card.proofs.Lines.{line-answered}
 use Rattle.card.proofs.text.list_record.Statement.{statement}
 use Rattle.card.proofs.text.list_record.Tie as tie
 
-probe-requires : tie.Need-probe-requires
-probe-requires c κs = search needs
-
-shared-slice-read-put-line : tie.Need-shared-slice-read-put-line
-shared-slice-read-put-line c = search needs
-
-refusal-of-requires : tie.Need-refusal-of-requires
-refusal-of-requires c κs = search needs
-
-changes-of-requires : tie.Need-changes-of-requires
-changes-of-requires c κs = search needs
-
-put-line-requires : tie.Need-put-line-requires
-put-line-requires c κs = search needs
-
-advance-requires : tie.Need-advance-requires
-advance-requires c κs = search needs
-
-same-length : tie.Need-same-length
-same-length c = search needs
-
 returns : tie.Need-returns
 returns c =
     let written = c .before .before .before in
@@ -47,11 +26,11 @@ pub list-record-spec : {M : Type 1} → statement M
 list-record-spec =
     tie.close
     (tie.spec
-    probe-requires
-    shared-slice-read-put-line
-    refusal-of-requires
-    changes-of-requires
-    put-line-requires
-    advance-requires
-    same-length
+    (λ c κs. search needs)
+    (λ c. search needs)
+    (λ c κs. search needs)
+    (λ c κs. search needs)
+    (λ c κs. search needs)
+    (λ c κs. search needs)
+    (λ c. search needs)
     returns)

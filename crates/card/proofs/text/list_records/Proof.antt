@@ -21,17 +21,8 @@ Inv-loop batch out₀ n done₀ i₀ out done i =
 abbrev μ-loop : tie.MeasureT-loop
 μ-loop batch out₀ n done₀ i₀ out done i = n - i
 
-record-count-requires : tie.Need-record-count-requires Inv-loop μ-loop
-record-count-requires c κs = search needs
-
 loop-holds : tie.Need-loop-holds Inv-loop μ-loop
 loop-holds c = (omega arith, search needs, lists-none _ _ _)
-
-mul-record-from : tie.Need-mul-record-from Inv-loop μ-loop
-mul-record-from c = search needs
-
-record-from-requires : tie.Need-record-from-requires Inv-loop μ-loop
-record-from-requires c κs = search needs
 
 list-slot-requires : tie.Need-list-slot-requires Inv-loop μ-loop
 list-slot-requires c κs =
@@ -45,12 +36,6 @@ list-slot-requires c κs =
       progress-within (2 ^ 62) (2 ^ 63) (s .args .s) _ batch i (done .progress ∙ told-progress (s .args .s) batch i) (s .pre .2) (omega arith),
     )
 
-add-i : tie.Need-add-i Inv-loop μ-loop
-add-i c = search needs
-
-loop-less : tie.Need-loop-less Inv-loop μ-loop
-loop-less c = search needs
-
 loop-again : tie.Need-loop-again Inv-loop μ-loop
 loop-again c =
     let turn = c .before .before .before .before .before .before in
@@ -60,9 +45,6 @@ loop-again c =
       lists-more (s .args .s) (s .args .batch .now) (turn .loop .i) _ (c .before .before .before .before .record-from .ensures .bytes)
           (turn .loop .inv .2) (c .before .before .list-slot .ensures),
     )
-
-same-length : tie.Need-same-length Inv-loop μ-loop
-same-length c = search needs
 
 returns : tie.Need-returns Inv-loop μ-loop
 returns c =
@@ -76,13 +58,13 @@ list-records-spec =
     (tie.spec
     Inv-loop
     μ-loop
-    record-count-requires
+    (λ c κs. search needs)
     loop-holds
-    mul-record-from
-    record-from-requires
+    (λ c. search needs)
+    (λ c κs. search needs)
     list-slot-requires
-    add-i
-    loop-less
+    (λ c. search needs)
+    (λ c. search needs)
     loop-again
-    same-length
+    (λ c. search needs)
     returns)

@@ -4,18 +4,6 @@ use Rattle.card.proofs.Lines.{lists-blank, lists-record}
 use Rattle.card.proofs.text.list_slot.Statement.{statement}
 use Rattle.card.proofs.text.list_slot.Tie as tie
 
-is-blank-requires : tie.Need-is-blank-requires
-is-blank-requires c κs = search needs
-
-list-blank-requires : tie.Need-list-blank-requires
-list-blank-requires c κs = search needs
-
-list-record-requires : tie.Need-list-record-requires
-list-record-requires c κs = search needs
-
-same-length : tie.Need-same-length
-same-length c = search needs
-
 returns : tie.Need-returns
 returns c =
     let told = c .before .before .before .before in
@@ -23,9 +11,6 @@ returns c =
     let s = asked .before .before .before in
     lists-blank (s .args .slot .now) (asked .is-blank .result) (asked .is-blank .ensures) (s .args .done) (told .if1 .taken)
     (c .before .before .list-blank .ensures)
-
-same-length-2 : tie.Need-same-length-2
-same-length-2 c = search needs
 
 returns-2 : tie.Need-returns-2
 returns-2 c =
@@ -39,10 +24,10 @@ pub list-slot-spec : {M : Type 1} → statement M
 list-slot-spec =
     tie.close
     (tie.spec
-    is-blank-requires
-    list-blank-requires
-    list-record-requires
-    same-length
+    (λ c κs. search needs)
+    (λ c κs. search needs)
+    (λ c κs. search needs)
+    (λ c. search needs)
     returns
-    same-length-2
+    (λ c. search needs)
     returns-2)

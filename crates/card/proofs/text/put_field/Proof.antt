@@ -11,9 +11,6 @@ put-decimal-requires c κs = omega (arith, length-decimal (c .before .before .ar
 put-byte-requires : tie.Need-put-byte-requires
 put-byte-requires c κs = omega (arith, length-decimal (c .before .before .before .before .before .before .args .n))
 
-same-length : tie.Need-same-length
-same-length c = search needs
-
 returns : tie.Need-returns
 returns c =
     let called = c .before .before .before .before .before .before in
@@ -21,4 +18,4 @@ returns c =
     (writes-on (called .put-decimal .ensures) (c .before .before .put-byte .ensures), omega (arith, few))
 
 pub put-field-spec : {M : Type 1} → statement M
-put-field-spec = tie.close (tie.spec put-decimal-requires put-byte-requires same-length returns)
+put-field-spec = tie.close (tie.spec put-decimal-requires put-byte-requires (λ c. search needs) returns)

@@ -4,15 +4,6 @@ use Rattle.report.proofs.Comparing.{into-yes, into-length, into-no}
 use Rattle.report.proofs.compare.ask_into.Statement.{statement}
 use Rattle.report.proofs.compare.ask_into.Tie as tie
 
-ask-numbers-requires : tie.Need-ask-numbers-requires
-ask-numbers-requires c κs = search needs
-
-enum-told : tie.Need-enum-told
-enum-told c = search needs
-
-enum-known-q : tie.Need-enum-known-q
-enum-known-q c = search needs
-
 returns : tie.Need-returns
 returns c =
     let told = c .before in
@@ -36,4 +27,4 @@ returns-3 c =
 
 pub ask-into-spec : {M : Type 1} → statement M
 ask-into-spec =
-    tie.close (tie.spec ask-numbers-requires enum-told enum-known-q returns returns-2 returns-3)
+    tie.close (tie.spec (λ c κs. search needs) (λ c. search needs) (λ c. search needs) returns returns-2 returns-3)

@@ -4,14 +4,8 @@ use Rattle.report.proofs.Comparing.{numbers-first, numbers-pass, number
 use Rattle.report.proofs.compare.ask_numbers.Statement.{statement}
 use Rattle.report.proofs.compare.ask_numbers.Tie as tie
 
-has-record-requires : tie.Need-has-record-requires
-has-record-requires c κs = search needs
-
 returns : tie.Need-returns
 returns c = search (needs, numbers-first)
-
-has-record-requires-2 : tie.Need-has-record-requires-2
-has-record-requires-2 c κs = search needs
 
 returns-2 : tie.Need-returns-2
 returns-2 c = search (needs, numbers-pass)
@@ -21,4 +15,4 @@ returns-3 c = search (needs, numbers-second)
 
 pub ask-numbers-spec : {M : Type 1} → statement M
 ask-numbers-spec =
-    tie.close (tie.spec has-record-requires returns has-record-requires-2 returns-2 returns-3)
+    tie.close (tie.spec (λ c κs. search needs) returns (λ c κs. search needs) returns-2 returns-3)

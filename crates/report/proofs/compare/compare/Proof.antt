@@ -4,33 +4,6 @@ use Rattle.report.proofs.Comparing.{compares, compares-refused}
 use Rattle.report.proofs.compare.compare.Statement.{statement}
 use Rattle.report.proofs.compare.compare.Tie as tie
 
-ask-numbers-requires : tie.Need-ask-numbers-requires
-ask-numbers-requires c κs = search needs
-
-enum-told : tie.Need-enum-told
-enum-told c = search needs
-
-slot-requires : tie.Need-slot-requires
-slot-requires c κs = search needs
-
-read-day-requires : tie.Need-read-day-requires
-read-day-requires c κs = search needs
-
-slot-requires-2 : tie.Need-slot-requires-2
-slot-requires-2 c κs = search needs
-
-read-day-requires-2 : tie.Need-read-day-requires-2
-read-day-requires-2 c κs = search needs
-
-compare-readings-requires : tie.Need-compare-readings-requires
-compare-readings-requires c κs = search needs
-
-enum-known-q : tie.Need-enum-known-q
-enum-known-q c = search needs
-
-refused-requires : tie.Need-refused-requires
-refused-requires c κs = search needs
-
 returns : tie.Need-returns
 returns c =
     let y = c .before in
@@ -53,14 +26,14 @@ pub compare-spec : {M : Type 1} → statement M
 compare-spec =
     tie.close
     (tie.spec
-    ask-numbers-requires
-    enum-told
-    slot-requires
-    read-day-requires
-    slot-requires-2
-    read-day-requires-2
-    compare-readings-requires
-    enum-known-q
-    refused-requires
+    (λ c κs. search needs)
+    (λ c. search needs)
+    (λ c κs. search needs)
+    (λ c κs. search needs)
+    (λ c κs. search needs)
+    (λ c κs. search needs)
+    (λ c κs. search needs)
+    (λ c. search needs)
+    (λ c κs. search needs)
     returns
     returns-2)

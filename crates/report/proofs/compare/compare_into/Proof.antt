@@ -4,30 +4,12 @@ use Rattle.report.proofs.Comparing.{into-size, into-compared, into-refu
 use Rattle.report.proofs.compare.compare_into.Statement.{statement}
 use Rattle.report.proofs.compare.compare_into.Tie as tie
 
-ask-into-requires : tie.Need-ask-into-requires
-ask-into-requires c κs = search needs
-
-enum-told : tie.Need-enum-told
-enum-told c = search needs
-
-compare-requires : tie.Need-compare-requires
-compare-requires c κs = search needs
-
 put-signs-requires : tie.Need-put-signs-requires
 put-signs-requires c κs =
     let told = c .before .before in
     let v = told .before .before in
     let a = v .before .before .before .before .args in
     into-size (a .controller .now) (a .i) (a .cupboard .now) (a .j) (a .signs .now) _ (v .ask-into .ensures) (told .enum-told .given .1)
-
-enum-known-q : tie.Need-enum-known-q
-enum-known-q c = search needs
-
-refused-requires : tie.Need-refused-requires
-refused-requires c κs = search needs
-
-same-length : tie.Need-same-length
-same-length c = search needs
 
 returns : tie.Need-returns
 returns c =
@@ -51,12 +33,12 @@ pub compare-into-spec : {M : Type 1} → statement M
 compare-into-spec =
     tie.close
     (tie.spec
-    ask-into-requires
-    enum-told
-    compare-requires
+    (λ c κs. search needs)
+    (λ c. search needs)
+    (λ c κs. search needs)
     put-signs-requires
-    enum-known-q
-    refused-requires
-    same-length
+    (λ c. search needs)
+    (λ c κs. search needs)
+    (λ c. search needs)
     returns
     returns-2)

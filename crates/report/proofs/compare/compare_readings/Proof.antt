@@ -4,27 +4,6 @@ use Rattle.report.proofs.Comparing.{shows-first, shows-second, shows-bo
 use Rattle.report.proofs.compare.compare_readings.Statement.{statement}
 use Rattle.report.proofs.compare.compare_readings.Tie as tie
 
-enum-known-a : tie.Need-enum-known-a
-enum-known-a c = search needs
-
-enum-known-b : tie.Need-enum-known-b
-enum-known-b c = search needs
-
-side-by-side-requires : tie.Need-side-by-side-requires
-side-by-side-requires c κs = search needs
-
-enum-known-b-2 : tie.Need-enum-known-b-2
-enum-known-b-2 c = search needs
-
-refused-requires : tie.Need-refused-requires
-refused-requires c κs = search needs
-
-enum-known-a-2 : tie.Need-enum-known-a-2
-enum-known-a-2 c = search needs
-
-refused-requires-2 : tie.Need-refused-requires-2
-refused-requires-2 c κs = search needs
-
 returns : tie.Need-returns
 returns c =
     let l = c .before .before .before .before .before .before .before .before in
@@ -49,13 +28,13 @@ pub compare-readings-spec : {M : Type 1} → statement M
 compare-readings-spec =
     tie.close
     (tie.spec
-    enum-known-a
-    enum-known-b
-    side-by-side-requires
-    enum-known-b-2
-    refused-requires
-    enum-known-a-2
-    refused-requires-2
+    (λ c. search needs)
+    (λ c. search needs)
+    (λ c κs. search needs)
+    (λ c. search needs)
+    (λ c κs. search needs)
+    (λ c. search needs)
+    (λ c κs. search needs)
     returns
     returns-2
     returns-3)

@@ -5,40 +5,16 @@ use Rattle.report.proofs.Comparing.{same-pump}
 use Rattle.report.proofs.compare.same_day.Statement.{statement}
 use Rattle.report.proofs.compare.same_day.Tie as tie
 
-shared-slice-read-if1 : tie.Need-shared-slice-read-if1
-shared-slice-read-if1 c = search needs
-
-shared-slice-read-if1-2 : tie.Need-shared-slice-read-if1-2
-shared-slice-read-if1-2 c = search needs
-
 returns : tie.Need-returns
 returns c = simp (ne-eqb _ _ (c .if1 .taken))
 
-shared-slice-read-if2 : tie.Need-shared-slice-read-if2
-shared-slice-read-if2 c = search needs
-
-shared-slice-read-if2-2 : tie.Need-shared-slice-read-if2-2
-shared-slice-read-if2-2 c = search needs
-
 returns-2 : tie.Need-returns-2
 returns-2 c = simp (eq-eqb _ _ (c .before .before .before .if1 .left), ne-eqb _ _ (c .if2 .taken))
-
-shared-slice-read-if3 : tie.Need-shared-slice-read-if3
-shared-slice-read-if3 c = search needs
-
-shared-slice-read-if3-2 : tie.Need-shared-slice-read-if3-2
-shared-slice-read-if3-2 c = search needs
 
 returns-3 : tie.Need-returns-3
 returns-3 c =
     let s = c .before .before .before in
     simp (eq-eqb _ _ (s .before .before .before .if1 .left), eq-eqb _ _ (s .if2 .left), ne-eqb _ _ (c .if3 .taken))
-
-shared-slice-read-result : tie.Need-shared-slice-read-result
-shared-slice-read-result c = search needs
-
-shared-slice-read-result-2 : tie.Need-shared-slice-read-result-2
-shared-slice-read-result-2 c = search needs
 
 returns-4 : tie.Need-returns-4
 returns-4 c =
@@ -52,15 +28,15 @@ pub same-day-spec : {M : Type 1} → statement M
 same-day-spec =
     tie.close
     (tie.spec
-    shared-slice-read-if1
-    shared-slice-read-if1-2
+    (λ c. search needs)
+    (λ c. search needs)
     returns
-    shared-slice-read-if2
-    shared-slice-read-if2-2
+    (λ c. search needs)
+    (λ c. search needs)
     returns-2
-    shared-slice-read-if3
-    shared-slice-read-if3-2
+    (λ c. search needs)
+    (λ c. search needs)
     returns-3
-    shared-slice-read-result
-    shared-slice-read-result-2
+    (λ c. search needs)
+    (λ c. search needs)
     returns-4)

@@ -18,24 +18,6 @@ abbrev μ-loop : tie.MeasureT-loop
 loop-holds : tie.Need-loop-holds Inv-loop μ-loop
 loop-holds c = filled-start (search needs)
 
-shared-slice-read-sign : tie.Need-shared-slice-read-sign Inv-loop μ-loop
-shared-slice-read-sign c = search needs
-
-shared-slice-read-sign-2 : tie.Need-shared-slice-read-sign-2 Inv-loop μ-loop
-shared-slice-read-sign-2 c = search needs
-
-sign-requires : tie.Need-sign-requires Inv-loop μ-loop
-sign-requires c κs = search needs
-
-array-write-signs : tie.Need-array-write-signs Inv-loop μ-loop
-array-write-signs c = search needs
-
-add-i : tie.Need-add-i Inv-loop μ-loop
-add-i c = search needs
-
-loop-less : tie.Need-loop-less Inv-loop μ-loop
-loop-less c = search needs
-
 loop-again : tie.Need-loop-again Inv-loop μ-loop
 loop-again c = filled-on (c .before .before .before .before .loop .inv) (c .before .before .before .loop-test .taken) (λ u. c .sign .ensures)
 
@@ -54,11 +36,11 @@ sign-row-spec =
     Inv-loop
     μ-loop
     loop-holds
-    shared-slice-read-sign
-    shared-slice-read-sign-2
-    sign-requires
-    array-write-signs
-    add-i
-    loop-less
+    (λ c. search needs)
+    (λ c. search needs)
+    (λ c κs. search needs)
+    (λ c. search needs)
+    (λ c. search needs)
+    (λ c. search needs)
     loop-again
     returns)

@@ -4,12 +4,6 @@ use Rattle.report.proofs.Days.{copied-whole, day-restored, day-refused}
 use Rattle.report.proofs.day.read_day.Statement.{statement}
 use Rattle.report.proofs.day.read_day.Tie as tie
 
-restored-copy-requires : tie.Need-restored-copy-requires
-restored-copy-requires c κs = search needs
-
-enum-known-answer : tie.Need-enum-known-answer
-enum-known-answer c = search needs
-
 read-restored-requires : tie.Need-read-restored-requires
 read-restored-requires c κs =
     let told = c .before .before .before .before in
@@ -17,9 +11,6 @@ read-restored-requires c κs =
     let v = s .restored-copy in
     copied-whole (s .before .before .args .bytes .now) (v .result .answer) (v .result .bytes) (v .ensures .answer) (v .ensures .content) _
     (told .answer .given .1)
-
-enum-known-answer-2 : tie.Need-enum-known-answer-2
-enum-known-answer-2 c = search needs
 
 returns : tie.Need-returns
 returns c =
@@ -41,9 +32,9 @@ pub read-day-spec : {M : Type 1} → statement M
 read-day-spec =
     tie.close
     (tie.spec
-    restored-copy-requires
-    enum-known-answer
+    (λ c κs. search needs)
+    (λ c. search needs)
     read-restored-requires
-    enum-known-answer-2
+    (λ c. search needs)
     returns
     returns-2)

@@ -11,9 +11,6 @@ use Rattle.report.proofs.Days.{slot-some, slot-none}
 use Rattle.report.proofs.day.slot.Statement.{statement}
 use Rattle.report.proofs.day.slot.Tie as tie
 
-has-record-requires : tie.Need-has-record-requires
-has-record-requires c κs = search needs
-
 -- the card has a record of this number
 first : (s : tie.Then1) → 1 ≤ s .before .before .before .args .number
 first s =
@@ -33,15 +30,6 @@ mul-record-from c = omega (arith, first c, most c)
 
 record-from-requires : tie.Need-record-from-requires
 record-from-requires c κs = omega (arith, first c, most c)
-
-sub-result : tie.Need-sub-result
-sub-result c = search needs
-
-part-result-start : tie.Need-part-result-start
-part-result-start c = search needs
-
-part-result-end : tie.Need-part-result-end
-part-result-end c = search needs
 
 returns : tie.Need-returns
 returns c =
@@ -67,12 +55,12 @@ pub slot-spec : {M : Type 1} → statement M
 slot-spec =
     tie.close
     (tie.spec
-    has-record-requires
+    (λ c κs. search needs)
     sub-record-from
     mul-record-from
     record-from-requires
-    sub-result
-    part-result-start
-    part-result-end
+    (λ c. search needs)
+    (λ c. search needs)
+    (λ c. search needs)
     returns
     returns-2)

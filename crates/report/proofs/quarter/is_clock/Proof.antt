@@ -7,22 +7,10 @@ use Rattle.report.proofs.Quarters.{text-taken, compared}
 use Rattle.report.proofs.quarter.is_clock.Statement.{statement}
 use Rattle.report.proofs.quarter.is_clock.Tie as tie
 
-slice-aggregate-put-clock : tie.Need-slice-aggregate-put-clock
-slice-aggregate-put-clock c = search needs
-
-put-clock-requires : tie.Need-put-clock-requires
-put-clock-requires c κs = search needs
-
-array-share-prefix-out : tie.Need-array-share-prefix-out
-array-share-prefix-out c = search needs
-
 slice-aggregate-same : tie.Need-slice-aggregate-same
 slice-aggregate-same c =
     let x = c .before .before .put-clock in
     sym (length-take-le (x .result) _ (writes-fits (x .ensures)))
-
-same-requires : tie.Need-same-requires
-same-requires c κs = search needs
 
 returns : tie.Need-returns
 returns c =
@@ -33,9 +21,9 @@ pub is-clock-spec : {M : Type 1} → statement M
 is-clock-spec =
     tie.close
     (tie.spec
-    slice-aggregate-put-clock
-    put-clock-requires
-    array-share-prefix-out
+    (λ c. search needs)
+    (λ c κs. search needs)
+    (λ c. search needs)
     slice-aggregate-same
-    same-requires
+    (λ c κs. search needs)
     returns)

@@ -8,22 +8,13 @@ use native.Mathlib.Omega.{arith}
 use Rattle.report.proofs.quarter.is_number.Statement.{statement}
 use Rattle.report.proofs.quarter.is_number.Tie as tie
 
-slice-aggregate-put-decimal : tie.Need-slice-aggregate-put-decimal
-slice-aggregate-put-decimal c = search needs
-
 put-decimal-requires : tie.Need-put-decimal-requires
 put-decimal-requires c κs = omega (arith, length-decimal (c .before .before .args .n))
-
-array-share-prefix-out : tie.Need-array-share-prefix-out
-array-share-prefix-out c = search needs
 
 slice-aggregate-same : tie.Need-slice-aggregate-same
 slice-aggregate-same c =
     let x = c .before .before .put-decimal in
     sym (length-take-le (x .result) _ (writes-fits (x .ensures)))
-
-same-requires : tie.Need-same-requires
-same-requires c κs = search needs
 
 returns : tie.Need-returns
 returns c =
@@ -34,9 +25,9 @@ pub is-number-spec : {M : Type 1} → statement M
 is-number-spec =
     tie.close
     (tie.spec
-    slice-aggregate-put-decimal
+    (λ c. search needs)
     put-decimal-requires
-    array-share-prefix-out
+    (λ c. search needs)
     slice-aggregate-same
-    same-requires
+    (λ c κs. search needs)
     returns)

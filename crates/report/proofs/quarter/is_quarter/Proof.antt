@@ -4,17 +4,11 @@ use Rattle.report.proofs.Quarters.{by-number, by-clock}
 use Rattle.report.proofs.quarter.is_quarter.Statement.{statement}
 use Rattle.report.proofs.quarter.is_quarter.Tie as tie
 
-is-number-requires : tie.Need-is-number-requires
-is-number-requires c κs = search needs
-
 returns : tie.Need-returns
 returns c =
     let x = c .before .is-number in
     let s = c .before .before .before in
     by-number (s .args .text .now) (s .args .n) (x .result) (x .ensures) (c .if1 .taken)
-
-is-clock-requires : tie.Need-is-clock-requires
-is-clock-requires c κs = search needs
 
 returns-2 : tie.Need-returns-2
 returns-2 c =
@@ -25,4 +19,4 @@ returns-2 c =
     by-clock (s .args .text .now) (s .args .n) (x .result) (y .result) (x .ensures) (told .if1 .left) (y .ensures)
 
 pub is-quarter-spec : {M : Type 1} → statement M
-is-quarter-spec = tie.close (tie.spec is-number-requires returns is-clock-requires returns-2)
+is-quarter-spec = tie.close (tie.spec (λ c κs. search needs) returns (λ c κs. search needs) returns-2)

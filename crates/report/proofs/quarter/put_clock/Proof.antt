@@ -6,24 +6,6 @@ use Rattle.report.specs.Quarter.{clockText}
 use Rattle.report.proofs.quarter.put_clock.Statement.{statement}
 use Rattle.report.proofs.quarter.put_clock.Tie as tie
 
-put-two-requires : tie.Need-put-two-requires
-put-two-requires c κs = search needs
-
-slice-aggregate-put-bytes : tie.Need-slice-aggregate-put-bytes
-slice-aggregate-put-bytes c = search needs
-
-put-bytes-requires : tie.Need-put-bytes-requires
-put-bytes-requires c κs = search needs
-
-mul-put-two : tie.Need-mul-put-two
-mul-put-two c = search needs
-
-put-two-requires-2 : tie.Need-put-two-requires-2
-put-two-requires-2 c κs = search needs
-
-same-length : tie.Need-same-length
-same-length c = search needs
-
 returns : tie.Need-returns
 unfolding clockText
 returns c =
@@ -36,10 +18,10 @@ pub put-clock-spec : {M : Type 1} → statement M
 put-clock-spec =
     tie.close
     (tie.spec
-    put-two-requires
-    slice-aggregate-put-bytes
-    put-bytes-requires
-    mul-put-two
-    put-two-requires-2
-    same-length
+    (λ c κs. search needs)
+    (λ c. search needs)
+    (λ c κs. search needs)
+    (λ c. search needs)
+    (λ c κs. search needs)
+    (λ c. search needs)
     returns)

@@ -18,21 +18,12 @@ abbrev μ-loop : tie.MeasureT-loop
 loop-holds : tie.Need-loop-holds Inv-loop μ-loop
 loop-holds c = (omega arith, refl)
 
-sub-n : tie.Need-sub-n Inv-loop μ-loop
-sub-n c = search needs
-
-is-quarter-requires : tie.Need-is-quarter-requires Inv-loop μ-loop
-is-quarter-requires c κs = search needs
-
 returns : tie.Need-returns Inv-loop μ-loop
 returns c =
     let x = c .before .is-quarter in
     let turn = c .before .before .before in
     let text = turn .before .before .args .text .now in
     sym (turn .loop .inv .1 ∙ found text (turn .loop .n) (omega arith) (x .result) (x .ensures) (c .if1 .taken))
-
-loop-less : tie.Need-loop-less Inv-loop μ-loop
-loop-less c = search needs
 
 loop-again : tie.Need-loop-again Inv-loop μ-loop
 loop-again c =
@@ -54,9 +45,9 @@ quarter-spec =
     Inv-loop
     μ-loop
     loop-holds
-    sub-n
-    is-quarter-requires
+    (λ c. search needs)
+    (λ c κs. search needs)
     returns
-    loop-less
+    (λ c. search needs)
     loop-again
     returns-2)

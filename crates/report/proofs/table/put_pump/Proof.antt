@@ -9,27 +9,6 @@ use native.Mathlib.Omega.{arith}
 use Rattle.report.proofs.table.put_pump.Statement.{statement}
 use Rattle.report.proofs.table.put_pump.Tie as tie
 
-mul-from : tie.Need-mul-from
-mul-from c = search needs
-
-add-to : tie.Need-add-to
-add-to c = search needs
-
-mul-row-of : tie.Need-mul-row-of
-mul-row-of c = search needs
-
-sub-row-of : tie.Need-sub-row-of
-sub-row-of c = search needs
-
-part-row-of-start : tie.Need-part-row-of-start
-part-row-of-start c = search needs
-
-part-row-of-end : tie.Need-part-row-of-end
-part-row-of-end c = search needs
-
-row-of-requires : tie.Need-row-of-requires
-row-of-requires c κs = search needs
-
 returns : tie.Need-returns
 returns c =
     let x = c .before .before .row-of in
@@ -46,9 +25,6 @@ put-line-requires c κs =
     let row = row-read report (s .args .p) (x .result) (x .ensures) in
     (omega arith, rw row (year-most (2 ^ 63) report (s .pre .2) (s .args .p) (s .pre .1)))
 
-same-length : tie.Need-same-length
-same-length c = search needs
-
 returns-2 : tie.Need-returns-2
 returns-2 c =
     let told = c .before .before .before .before in
@@ -62,14 +38,14 @@ pub put-pump-spec : {M : Type 1} → statement M
 put-pump-spec =
     tie.close
     (tie.spec
-    mul-from
-    add-to
-    mul-row-of
-    sub-row-of
-    part-row-of-start
-    part-row-of-end
-    row-of-requires
+    (λ c. search needs)
+    (λ c. search needs)
+    (λ c. search needs)
+    (λ c. search needs)
+    (λ c. search needs)
+    (λ c. search needs)
+    (λ c κs. search needs)
     returns
     put-line-requires
-    same-length
+    (λ c. search needs)
     returns-2)

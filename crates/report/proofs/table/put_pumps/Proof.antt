@@ -26,20 +26,11 @@ put-pump-requires c κs =
     let s = c .before .before .before .before .before in
     (omega (arith, turn .loop .inv .2 .behind, lines-short (s .args .report .now) (turn .loop .p)), omega arith, s .pre .1)
 
-add-p : tie.Need-add-p Inv-loop μ-loop
-add-p c = search needs
-
-loop-less : tie.Need-loop-less Inv-loop μ-loop
-loop-less c = search needs
-
 loop-again : tie.Need-loop-again Inv-loop μ-loop
 loop-again c =
     let turn = c .before .before .before .before .before in
     let report = turn .before .before .before .args .report .now in
     (omega arith, omega arith, lines-more report (turn .loop .p) (turn .loop .inv .2) (c .before .before .put-pump .ensures))
-
-same-length : tie.Need-same-length Inv-loop μ-loop
-same-length c = search needs
 
 returns : tie.Need-returns Inv-loop μ-loop
 returns c =
@@ -54,8 +45,8 @@ put-pumps-spec =
     μ-loop
     loop-holds
     put-pump-requires
-    add-p
-    loop-less
+    (λ c. search needs)
+    (λ c. search needs)
     loop-again
-    same-length
+    (λ c. search needs)
     returns)

@@ -9,15 +9,6 @@ use native.Mathlib.Omega.{arith}
 use Rattle.report.proofs.table.put_table.Statement.{statement}
 use Rattle.report.proofs.table.put_table.Tie as tie
 
-slice-aggregate-put-bytes : tie.Need-slice-aggregate-put-bytes
-slice-aggregate-put-bytes c = search needs
-
-put-bytes-requires : tie.Need-put-bytes-requires
-put-bytes-requires c κs = search needs
-
-put-pumps-requires : tie.Need-put-pumps-requires
-put-pumps-requires c κs = search needs
-
 put-last-requires : tie.Need-put-last-requires
 put-last-requires c κs =
     let second = c .before .before .before in
@@ -25,9 +16,6 @@ put-last-requires c κs =
     let s = first .before .before .before .before .before in
     let short = lines-short (s .args .report .now) pumps in
     (omega (arith, second .put-pumps .ensures .behind, first .put-bytes .ensures .behind, short), s .pre .1)
-
-same-length : tie.Need-same-length
-same-length c = search needs
 
 returns : tie.Need-returns
 unfolding tableText
@@ -41,9 +29,9 @@ pub put-table-spec : {M : Type 1} → statement M
 put-table-spec =
     tie.close
     (tie.spec
-    slice-aggregate-put-bytes
-    put-bytes-requires
-    put-pumps-requires
+    (λ c. search needs)
+    (λ c κs. search needs)
+    (λ c κs. search needs)
     put-last-requires
-    same-length
+    (λ c. search needs)
     returns)

@@ -18,17 +18,8 @@ Inv-loop part w report₀ n i₀ report i = (i ≤ n) × (length report ≡ leng
 abbrev μ-loop : tie.MeasureT-loop
 μ-loop part w report₀ n i₀ report i = n - i
 
-record-count-requires : tie.Need-record-count-requires Inv-loop μ-loop
-record-count-requires c κs = search needs
-
 loop-holds : tie.Need-loop-holds Inv-loop μ-loop
 loop-holds c = let a = c .before .before .before .args in (omega arith, refl, over-none erasureBytes (slotAdded (a .w)) (a .report .now) (a .part .now))
-
-mul-record-from : tie.Need-mul-record-from Inv-loop μ-loop
-mul-record-from c = search needs
-
-record-from-requires : tie.Need-record-from-requires Inv-loop μ-loop
-record-from-requires c κs = search needs
 
 add-slot-requires : tie.Need-add-slot-requires Inv-loop μ-loop
 add-slot-requires c κs =
@@ -42,12 +33,6 @@ add-slot-requires c κs =
           (slots-countable (a .w) (s .pre .0) (2 ^ 62) (a .report .now) (s .pre .2) (a .part .now) i)),
     )
 
-add-i : tie.Need-add-i Inv-loop μ-loop
-add-i c = search needs
-
-loop-less : tie.Need-loop-less Inv-loop μ-loop
-loop-less c = search needs
-
 loop-again : tie.Need-loop-again Inv-loop μ-loop
 loop-again c =
     let added = c .before .before in
@@ -59,9 +44,6 @@ loop-again c =
       over-on erasureBytes (slotAdded (a .w)) (a .report .now) (a .part .now) (l .loop .i) _ _ _ (l .loop .inv .2) (added .add-slot .ensures)
           (found .record-from .ensures .bytes),
     )
-
-same-length : tie.Need-same-length Inv-loop μ-loop
-same-length c = search needs
 
 returns : tie.Need-returns Inv-loop μ-loop
 returns c =
@@ -77,13 +59,13 @@ add-part-spec =
     (tie.spec
     Inv-loop
     μ-loop
-    record-count-requires
+    (λ c κs. search needs)
     loop-holds
-    mul-record-from
-    record-from-requires
+    (λ c. search needs)
+    (λ c κs. search needs)
     add-slot-requires
-    add-i
-    loop-less
+    (λ c. search needs)
+    (λ c. search needs)
     loop-again
-    same-length
+    (λ c. search needs)
     returns)

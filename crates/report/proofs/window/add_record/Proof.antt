@@ -10,12 +10,6 @@ use Rattle.report.proofs.Reports.{within-at}
 use Rattle.report.proofs.window.add_record.Statement.{statement}
 use Rattle.report.proofs.window.add_record.Tie as tie
 
-read-day-requires : tie.Need-read-day-requires
-read-day-requires c κs = search needs
-
-enum-told : tie.Need-enum-told
-enum-told c = search needs
-
 add-sheet-requires : tie.Need-add-sheet-requires
 add-sheet-requires c κs =
     let told = c .before .before .before .before in
@@ -27,16 +21,10 @@ add-sheet-requires c κs =
       s .pre .1,
     )
 
-enum-told-2 : tie.Need-enum-told-2
-enum-told-2 c = search needs
-
 add-one-requires : tie.Need-add-one-requires
 add-one-requires c κs =
     let s = c .before .before .before .before .before .before in
     (omega (arith, s .pre .1 .size), omega (arith, within-at (2 ^ 63) (s .args .report .now) 1152 (s .pre .1 .within)))
-
-same-length : tie.Need-same-length
-same-length c = search needs
 
 returns : tie.Need-returns
 returns c =
@@ -47,9 +35,6 @@ returns c =
     done .add-sheet .ensures
     ∙ ap (dayAdded (a .w) (a .report .now))
     (sym (told-sheet (dayOf (a .slot .now)) (x .read-day .result) (x .read-day .ensures) _ (told .enum-told .given .1)))
-
-same-length-2 : tie.Need-same-length-2
-same-length-2 c = search needs
 
 returns-2 : tie.Need-returns-2
 returns-2 c =
@@ -65,12 +50,12 @@ pub add-record-spec : {M : Type 1} → statement M
 add-record-spec =
     tie.close
     (tie.spec
-    read-day-requires
-    enum-told
+    (λ c κs. search needs)
+    (λ c. search needs)
     add-sheet-requires
-    enum-told-2
+    (λ c. search needs)
     add-one-requires
-    same-length
+    (λ c. search needs)
     returns
-    same-length-2
+    (λ c. search needs)
     returns-2)

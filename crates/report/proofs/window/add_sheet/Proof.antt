@@ -32,12 +32,6 @@ mul-row-of c =
     let s = c .before .before .before in
     omega (arith, pump-small (s .args .symbols .now) (s .pre .1))
 
-sub-row-of : tie.Need-sub-row-of
-sub-row-of c = search needs
-
-part-row-of-start : tie.Need-part-row-of-start
-part-row-of-start c = search needs
-
 part-row-of-end : tie.Need-part-row-of-end
 part-row-of-end c =
     let s = c .before .before .before .before in
@@ -64,12 +58,6 @@ mul-put-row c =
     let s = c .before .before .before .before .before .before .before in
     omega (arith, pump-small (s .args .symbols .now) (s .pre .1))
 
-sub-put-row : tie.Need-sub-put-row
-sub-put-row c = search needs
-
-part-put-row-start : tie.Need-part-put-row-start
-part-put-row-start c = search needs
-
 part-put-row-end : tie.Need-part-put-row-end
 part-put-row-end c =
     let s = c .before .before .before .before .before .before .before in
@@ -80,9 +68,6 @@ put-row-requires c κs =
     let s = c .before .before .before .before .before .before .before .before in
     let p = at (s .args .symbols .now) pumpAt in
     part-long (s .args .report .now) p (row-fits (2 ^ 63) (s .args .report .now) (s .pre .2) p (pump-small (s .args .symbols .now) (s .pre .1)))
-
-same-length : tie.Need-same-length
-same-length c = search needs
 
 returns : tie.Need-returns
 returns c =
@@ -105,15 +90,15 @@ add-sheet-spec =
     mul-from
     add-to
     mul-row-of
-    sub-row-of
-    part-row-of-start
+    (λ c. search needs)
+    (λ c. search needs)
     part-row-of-end
     row-of-requires
     with-sheet-requires
     mul-put-row
-    sub-put-row
-    part-put-row-start
+    (λ c. search needs)
+    (λ c. search needs)
     part-put-row-end
     put-row-requires
-    same-length
+    (λ c. search needs)
     returns)

@@ -6,9 +6,6 @@ use Rattle.report.proofs.Reports.{within-at, slot-blank, slot-record}
 use Rattle.report.proofs.window.add_slot.Statement.{statement}
 use Rattle.report.proofs.window.add_slot.Tie as tie
 
-is-blank-requires : tie.Need-is-blank-requires
-is-blank-requires c κs = search needs
-
 add-one-requires : tie.Need-add-one-requires
 add-one-requires c κs =
     let s = c .before .before .before .before .before in
@@ -17,9 +14,6 @@ add-one-requires c κs =
 add-record-requires : tie.Need-add-record-requires
 add-record-requires c κs = let s = c .before .before .before .before .before in (s .pre .0, s .pre .1)
 
-same-length : tie.Need-same-length
-same-length c = search needs
-
 returns : tie.Need-returns
 returns c =
     let done = c .before .before in
@@ -27,9 +21,6 @@ returns c =
     let x = t .before .is-blank in
     let a = t .before .before .before .before .args in
     slot-blank (a .w) (a .report .now) (a .slot .now) (x .result) (x .ensures) (t .if1 .taken) _ (done .add-one .ensures)
-
-same-length-2 : tie.Need-same-length-2
-same-length-2 c = search needs
 
 returns-2 : tie.Need-returns-2
 returns-2 c =
@@ -43,10 +34,10 @@ pub add-slot-spec : {M : Type 1} → statement M
 add-slot-spec =
     tie.close
     (tie.spec
-    is-blank-requires
+    (λ c κs. search needs)
     add-one-requires
     add-record-requires
-    same-length
+    (λ c. search needs)
     returns
-    same-length-2
+    (λ c. search needs)
     returns-2)

@@ -4,9 +4,6 @@ use Rattle.report.proofs.Counting.{starts-no-window, starts-no-length, 
 use Rattle.report.proofs.window.ask_starts.Statement.{statement}
 use Rattle.report.proofs.window.ask_starts.Tie as tie
 
-is-window-requires : tie.Need-is-window-requires
-is-window-requires c κs = search needs
-
 returns : tie.Need-returns
 returns c = search (needs, starts-no-window)
 
@@ -17,4 +14,4 @@ returns-3 : tie.Need-returns-3
 returns-3 c = search (needs, starts-no-length)
 
 pub ask-starts-spec : {M : Type 1} → statement M
-ask-starts-spec = tie.close (tie.spec is-window-requires returns returns-2 returns-3)
+ask-starts-spec = tie.close (tie.spec (λ c κs. search needs) returns returns-2 returns-3)

@@ -17,23 +17,8 @@ abbrev μ-loop : tie.MeasureT-loop
 loop-holds : tie.Need-loop-holds Inv-loop μ-loop
 loop-holds c = filled-start refl
 
-mul-report : tie.Need-mul-report Inv-loop μ-loop
-mul-report c = search needs
-
-slice-write-report : tie.Need-slice-write-report Inv-loop μ-loop
-slice-write-report c = search needs
-
-add-i : tie.Need-add-i Inv-loop μ-loop
-add-i c = search needs
-
-loop-less : tie.Need-loop-less Inv-loop μ-loop
-loop-less c = search needs
-
 loop-again : tie.Need-loop-again Inv-loop μ-loop
 loop-again c = filled-on (c .before .loop .inv) (omega (arith, c .before .loop .inv .long, c .loop-test .taken)) (λ u. refl)
-
-same-length : tie.Need-same-length Inv-loop μ-loop
-same-length c = search needs
 
 returns : tie.Need-returns Inv-loop μ-loop
 returns c =
@@ -48,10 +33,10 @@ begin-spec =
     Inv-loop
     μ-loop
     loop-holds
-    mul-report
-    slice-write-report
-    add-i
-    loop-less
+    (λ c. search needs)
+    (λ c. search needs)
+    (λ c. search needs)
+    (λ c. search needs)
     loop-again
-    same-length
+    (λ c. search needs)
     returns)

@@ -16,19 +16,10 @@ abbrev μ-loop : tie.MeasureT-loop
 loop-holds : tie.Need-loop-holds Inv-loop μ-loop
 loop-holds c = counted-start (c .before .args .xs .now)
 
-shared-slice-read-with-count : tie.Need-shared-slice-read-with-count Inv-loop μ-loop
-shared-slice-read-with-count c = search needs
-
 with-count-requires : tie.Need-with-count-requires Inv-loop μ-loop
 with-count-requires c κs =
     let K = c .before .before .loop .inv in
     (omega (arith, K .small, K .place, c .before .before .before .before .pre), omega (arith, K .few, K .place, c .before .before .before .before .pre))
-
-add-i : tie.Need-add-i Inv-loop μ-loop
-add-i c = search needs
-
-loop-less : tie.Need-loop-less Inv-loop μ-loop
-loop-less c = search needs
 
 loop-again : tie.Need-loop-again Inv-loop μ-loop
 loop-again c =
@@ -49,9 +40,9 @@ counts-of-spec =
     Inv-loop
     μ-loop
     loop-holds
-    shared-slice-read-with-count
+    (λ c. search needs)
     with-count-requires
-    add-i
-    loop-less
+    (λ c. search needs)
+    (λ c. search needs)
     loop-again
     returns)

@@ -8,8 +8,5 @@ use Rattle.report.proofs.window.front.Tie as tie
 slice-aggregate-result : tie.Need-slice-aggregate-result
 slice-aggregate-result c = let s = c .before in sym (length-take-le (s .args .n) (s .args .card .now) (s .pre))
 
-returns : tie.Need-returns
-returns c = search needs
-
 pub front-spec : {M : Type 1} → statement M
-front-spec = tie.close (tie.spec slice-aggregate-result returns)
+front-spec = tie.close (tie.spec slice-aggregate-result (λ c. search needs))

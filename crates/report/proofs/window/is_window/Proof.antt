@@ -4,9 +4,6 @@ use borrow.Author.Tests.{lt-ltb, le-ltb}
 use Rattle.report.proofs.window.is_window.Statement.{statement}
 use Rattle.report.proofs.window.is_window.Tie as tie
 
-cast-result : tie.Need-cast-result
-cast-result c = search needs
-
 returns : tie.Need-returns
 returns c = simp (lt-ltb _ _ (c .before .if1 .taken))
 
@@ -14,4 +11,4 @@ returns-2 : tie.Need-returns-2
 returns-2 c = simp (le-ltb _ _ (c .if1 .left))
 
 pub is-window-spec : {M : Type 1} → statement M
-is-window-spec = tie.close (tie.spec cast-result returns returns-2)
+is-window-spec = tie.close (tie.spec (λ c. search needs) returns returns-2)

@@ -20,9 +20,6 @@ returns-3 c =
     let a = s .before .args in
     peak-lower (a .sheets) (a .old) (a .new) (s .if1 .left) (c .if3 .taken)
 
-is-earlier-requires : tie.Need-is-earlier-requires
-is-earlier-requires c κs = search needs
-
 returns-4 : tie.Need-returns-4
 returns-4 c =
     let f = c .before in
@@ -45,4 +42,4 @@ returns-5 c =
 
 pub peak-of-spec : {M : Type 1} → statement M
 peak-of-spec =
-    tie.close (tie.spec returns returns-2 returns-3 is-earlier-requires returns-4 returns-5)
+    tie.close (tie.spec returns returns-2 returns-3 (λ c κs. search needs) returns-4 returns-5)

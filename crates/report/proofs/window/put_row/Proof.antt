@@ -33,9 +33,6 @@ slice-write-xs-8 c = simp length-set (omega (arith, c .pre))
 slice-write-xs-9 : tie.Need-slice-write-xs-9
 slice-write-xs-9 c = simp length-set (omega (arith, c .pre))
 
-same-length : tie.Need-same-length
-same-length c = search needs
-
 returns : tie.Need-returns
 returns c = row-stored (c .args .xs .now) (c .args .r) (c .pre)
 
@@ -52,5 +49,5 @@ put-row-spec =
     slice-write-xs-7
     slice-write-xs-8
     slice-write-xs-9
-    same-length
+    (λ c. search needs)
     returns)

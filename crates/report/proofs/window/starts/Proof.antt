@@ -4,12 +4,6 @@ use Rattle.report.proofs.Reports.{starts-window, starts-size, starts-re
 use Rattle.report.proofs.window.starts.Statement.{statement}
 use Rattle.report.proofs.window.starts.Tie as tie
 
-ask-starts-requires : tie.Need-ask-starts-requires
-ask-starts-requires c κs = search needs
-
-enum-told : tie.Need-enum-told
-enum-told c = search needs
-
 write-report-requires : tie.Need-write-report-requires
 write-report-requires c κs =
     let told = c .before in
@@ -19,12 +13,6 @@ write-report-requires c κs =
       starts-window (a .w) (a .report .now) (x .result) (x .ensures) (told .enum-told .given .1),
       starts-size (a .w) (a .report .now) (x .result) (x .ensures) (told .enum-told .given .1),
     )
-
-enum-known-q : tie.Need-enum-known-q
-enum-known-q c = search needs
-
-same-length : tie.Need-same-length
-same-length c = search needs
 
 returns : tie.Need-returns
 returns c =
@@ -47,10 +35,10 @@ pub starts-spec : {M : Type 1} → statement M
 starts-spec =
     tie.close
     (tie.spec
-    ask-starts-requires
-    enum-told
+    (λ c κs. search needs)
+    (λ c. search needs)
     write-report-requires
-    enum-known-q
-    same-length
+    (λ c. search needs)
+    (λ c. search needs)
     returns
     returns-2)

@@ -7,23 +7,14 @@ use Rattle.report.proofs.Counting.{one-most, counts-made}
 use Rattle.report.proofs.window.with_count.Statement.{statement}
 use Rattle.report.proofs.window.with_count.Tie as tie
 
-wide-requires : tie.Need-wide-requires
-wide-requires c κs = search needs
-
 add-t4 : tie.Need-add-t4
 add-t4 c = omega (arith, c .before .before .pre .0, c .before .wide .ensures, c .before .before .fits .x)
-
-full-of-requires : tie.Need-full-of-requires
-full-of-requires c κs = search needs
 
 add-t6 : tie.Need-add-t6
 add-t6 c =
     let f = c .before in
     let s = f .before .before .before in
     omega (arith, s .pre .1, f .full-of .ensures, one-most (eqb fullCount (s .args .x)))
-
-higher-requires : tie.Need-higher-requires
-higher-requires c κs = search needs
 
 returns : tie.Need-returns
 returns c =
@@ -34,4 +25,4 @@ returns c =
 
 pub with-count-spec : {M : Type 1} → statement M
 with-count-spec =
-    tie.close (tie.spec wide-requires add-t4 full-of-requires add-t6 higher-requires returns)
+    tie.close (tie.spec (λ c κs. search needs) add-t4 (λ c κs. search needs) add-t6 (λ c κs. search needs) returns)

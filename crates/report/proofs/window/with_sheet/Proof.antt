@@ -5,12 +5,6 @@ use Rattle.report.proofs.Counting.{window-first, window-end, counts-lon
 use Rattle.report.proofs.window.with_sheet.Statement.{statement}
 use Rattle.report.proofs.window.with_sheet.Tie as tie
 
-cast-first : tie.Need-cast-first
-cast-first c = search needs
-
-cast-end : tie.Need-cast-end
-cast-end c = search needs
-
 sub-counts-of : tie.Need-sub-counts-of
 sub-counts-of c =
     let s = c .before .before .before in
@@ -58,8 +52,8 @@ pub with-sheet-spec : {M : Type 1} → statement M
 with-sheet-spec =
     tie.close
     (tie.spec
-    cast-first
-    cast-end
+    (λ c. search needs)
+    (λ c. search needs)
     sub-counts-of
     part-counts-of-start
     part-counts-of-end

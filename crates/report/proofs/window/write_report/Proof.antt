@@ -8,12 +8,6 @@ use Rattle.report.proofs.Reports.{zeros-ready, report-short, front-most
 use Rattle.report.proofs.window.write_report.Statement.{statement}
 use Rattle.report.proofs.window.write_report.Tie as tie
 
-begin-requires : tie.Need-begin-requires
-begin-requires c κs = search needs
-
-mul-most : tie.Need-mul-most
-mul-most c = search needs
-
 add-part-requires : tie.Need-add-part-requires
 add-part-requires c κs =
     let t = c .before in
@@ -21,9 +15,6 @@ add-part-requires c κs =
     let s = z .before .before .before .before in
     let a = s .args in
     (s .pre .0, omega (arith, t .if1 .taken), zeros-ready (a .w) (a .card .now) (length (a .report .now)) (s .pre .1) _ (z .begin .ensures) (2 ^ 62))
-
-finish-requires : tie.Need-finish-requires
-finish-requires c κs = search needs
 
 front-requires : tie.Need-front-requires
 front-requires c κs = omega (arith, c .if1 .left)
@@ -40,12 +31,6 @@ add-part-requires-2 c κs =
       zeros-ready (a .w) (a .card .now) n (s .pre .1) _ (z .begin .ensures) (2 ^ 62),
     )
 
-finish-requires-2 : tie.Need-finish-requires-2
-finish-requires-2 c κs = search needs
-
-same-length : tie.Need-same-length
-same-length c = search needs
-
 returns : tie.Need-returns
 returns c =
     let done = c .before .before in
@@ -56,9 +41,6 @@ returns c =
     let a = s .args in
     report-short (a .w) (a .card .now) (length (a .report .now)) (s .pre .1) _ (z .begin .ensures) (t .if1 .taken) _ _ (added .add-part .ensures)
     (done .finish .ensures)
-
-same-length-2 : tie.Need-same-length-2
-same-length-2 c = search needs
 
 returns-2 : tie.Need-returns-2
 returns-2 c =
@@ -76,14 +58,14 @@ pub write-report-spec : {M : Type 1} → statement M
 write-report-spec =
     tie.close
     (tie.spec
-    begin-requires
-    mul-most
+    (λ c κs. search needs)
+    (λ c. search needs)
     add-part-requires
-    finish-requires
+    (λ c κs. search needs)
     front-requires
     add-part-requires-2
-    finish-requires-2
-    same-length
+    (λ c κs. search needs)
+    (λ c. search needs)
     returns
-    same-length-2
+    (λ c. search needs)
     returns-2)

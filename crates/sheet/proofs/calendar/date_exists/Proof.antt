@@ -7,14 +7,8 @@ use Rattle.sheet.proofs.calendar.date_exists.Tie as tie
 returns : tie.Need-returns
 returns c = search (needs, date-zero)
 
-add-days-in : tie.Need-add-days-in
-add-days-in c = search needs
-
-days-in-requires : tie.Need-days-in-requires
-days-in-requires c κs = search needs
-
 returns-2 : tie.Need-returns-2
 returns-2 c = search (needs, date-some)
 
 pub date-exists-spec : {M : Type 1} → statement M
-date-exists-spec = tie.close (tie.spec returns add-days-in days-in-requires returns-2)
+date-exists-spec = tie.close (tie.spec returns (λ c. search needs) (λ c κs. search needs) returns-2)

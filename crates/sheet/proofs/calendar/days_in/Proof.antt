@@ -5,9 +5,6 @@ use Rattle.sheet.proofs.Dates.{days-thirty, days-february, days-to-july
 use Rattle.sheet.proofs.calendar.days_in.Statement.{statement}
 use Rattle.sheet.proofs.calendar.days_in.Tie as tie
 
-is-leap-requires : tie.Need-is-leap-requires
-is-leap-requires c κs = search needs
-
 returns : tie.Need-returns
 returns c = days-thirty _ _ (c .match .keys1)
 
@@ -27,4 +24,4 @@ returns-6 : tie.Need-returns-6
 returns-6 c = days-none _ _ (c .match .rest .0 .0 .0 .1) (c .match .rest .0 .0 .1) (c .match .rest .0 .1) (c .match .rest .1)
 
 pub days-in-spec : {M : Type 1} → statement M
-days-in-spec = tie.close (tie.spec is-leap-requires returns returns-2 returns-3 returns-4 returns-5 returns-6)
+days-in-spec = tie.close (tie.spec (λ c κs. search needs) returns returns-2 returns-3 returns-4 returns-5 returns-6)

@@ -19,9 +19,6 @@ abbrev μ-loop : tie.MeasureT-loop
 loop-holds : tie.Need-loop-holds Inv-loop μ-loop
 loop-holds c = (omega arith, refl, counts-none _ _ _)
 
-add-count-at : tie.Need-add-count-at Inv-loop μ-loop
-add-count-at c = search needs
-
 count-at-requires : tie.Need-count-at-requires Inv-loop μ-loop
 count-at-requires c κs =
     let turn = c .before .before .loop in
@@ -31,17 +28,11 @@ count-at-requires c κs =
           (omega arith),
     )
 
-add-i : tie.Need-add-i Inv-loop μ-loop
-add-i c = search needs
-
 loop-less : tie.Need-loop-less Inv-loop μ-loop
 loop-less c = omega arith
 
 loop-again : tie.Need-loop-again Inv-loop μ-loop
 loop-again c = (omega arith, search needs, search (needs, counts-on))
-
-same-length : tie.Need-same-length Inv-loop μ-loop
-same-length c = search needs
 
 returns : tie.Need-returns Inv-loop μ-loop
 returns c = search (needs, counts-end)
@@ -53,10 +44,10 @@ count-from-spec =
     Inv-loop
     μ-loop
     loop-holds
-    add-count-at
+    (λ c. search needs)
     count-at-requires
-    add-i
+    (λ c. search needs)
     loop-less
     loop-again
-    same-length
+    (λ c. search needs)
     returns)

@@ -14,12 +14,6 @@ Inv-loop card₀ n walk₀ progress₀ card walk progress = Walked progress₀ c
 abbrev μ-loop : tie.MeasureT-loop
 μ-loop card₀ n walk₀ progress₀ card walk progress = recordCount (length card₀) + 1 - walk .next
 
-record-count-requires : tie.Need-record-count-requires Inv-loop μ-loop
-record-count-requires c κs = search needs
-
-begin-requires : tie.Need-begin-requires Inv-loop μ-loop
-begin-requires c κs = search needs
-
 loop-holds : tie.Need-loop-holds Inv-loop μ-loop
 loop-holds c = rw (c .begin .ensures) (walked-start _ _)
 
@@ -49,8 +43,8 @@ restore-counting-spec =
     (tie.spec
     Inv-loop
     μ-loop
-    record-count-requires
-    begin-requires
+    (λ c κs. search needs)
+    (λ c κs. search needs)
     loop-holds
     step-counting-requires
     loop-less
