@@ -21,7 +21,7 @@ use Rattle.card.specs.Record.{sizeOf, erasureBytes}
 use Rattle.card.specs.Slots.{slotIn, slotCount, overFirst, appended}
 use Rattle.card.specs.Conversion.{oldErasureBytes, converted, convertedCard, blankOr, atMostFour, cardAsked, fourAsked}
 use Rattle.card.specs.Leading.{convertedSlots, every, leading, answers, slotPasses, cardPasses, verdictAt}
-use Rattle.card.specs.Found.{nothingFound, slotFound, partFound, foundVerdict, foundNumber, answerAt}
+use Rattle.card.specs.Found.{nothingFound, slotFound, partFound, foundVerdict, foundNumber, slotAnswer}
 use Rattle.card.specs.Found.{FoundInParts, NumberIs, ToNewInParts, ToOldInParts}
 use Rattle.card.proofs.Folding.{whole-parts, rest-two, each-front}
 use Rattle.card.proofs.Leading.{passed-start, one-more}
@@ -308,12 +308,12 @@ leading-yes (true ∷ bs) zero h = refl
 leading-yes (true ∷ bs) (suc i) h = leading-yes bs i (omega arith)
 leading-yes (false ∷ bs) i h = absurd (omega arith)
 
-slot-no : (k : ℕ) (slot : List ℕ) (a : ℕ) → slotPasses k slot ≡ a → a < 4 → answerAt k a slot ≡ false
+slot-no : (k : ℕ) (slot : List ℕ) (a : ℕ) → slotPasses k slot ≡ a → a < 4 → slotAnswer k a slot ≡ false
 unfolding slotPasses
 slot-no k slot a e h =
-    subst (λ (x : ℕ). answerAt k x slot ≡ false) e (leading-no (answers k atMostFour (λ p. blankOr k p slot)) (omega arith))
+    subst (λ (x : ℕ). slotAnswer k x slot ≡ false) e (leading-no (answers k atMostFour (λ p. blankOr k p slot)) (omega arith))
 
-slot-yes : (k : ℕ) (slot : List ℕ) (a : ℕ) → a < slotPasses k slot → answerAt k a slot ≡ true
+slot-yes : (k : ℕ) (slot : List ℕ) (a : ℕ) → a < slotPasses k slot → slotAnswer k a slot ≡ true
 unfolding slotPasses
 slot-yes k slot a h = leading-yes (answers k atMostFour (λ p. blankOr k p slot)) a h
 

@@ -15,7 +15,7 @@ use Rattle.card.specs.Record.{erasureBytes, recordSize, recordOf}
 use Rattle.card.specs.Slots.{recordCount, recordAt, isBlank, overFirst, overSlots}
 use Rattle.card.specs.Listing.{lineText, refusalOf, changesOf, recordLine, blankLine, slotLine, counted, slotCounted, slotFurther}
 use Rattle.card.specs.Listing.{Told, slotTold, untold, partLines, partProgress, totalLine, moreLine, mostRecords, start, listing}
-use Rattle.card.specs.Batch.{further, Lists}
+use Rattle.card.specs.Batch.{further, ListsSlots}
 use Rattle.card.proofs.Slots.{slot-front, slot-behind}
 use Rattle.card.proofs.Folding.{over-more, over-map, in-parts}
 use Rattle.card.proofs.Writing.{writes-none, writes-on}
@@ -34,19 +34,19 @@ piece-some batch bytes i e h = rw e (simp (length-take, length-drop) (omega arit
 -- a slot is listed as blank or as a record
 module _ (slot : List ℕ) (b : Bool) (e : b ≡ isBlank slot) (done : Listed) {next : Listed} {old new : List ℕ} where
   pub lists-blank : b ≡ true
-      → Lists (done .used) (blankLine (done .progress .next)) (further (done .progress) (done .progress .totals)) old next new
-      → Lists (done .used) (slotLine (done .progress .next) slot) (further (done .progress) (slotCounted (done .progress .totals) slot)) old next new
+      → ListsSlots (done .used) (blankLine (done .progress .next)) (further (done .progress) (done .progress .totals)) old next new
+      → ListsSlots (done .used) (slotLine (done .progress .next) slot) (further (done .progress) (slotCounted (done .progress .totals) slot)) old next new
   lists-blank t l = let f : isBlank slot ≡ true = sym e ∙ t in rw f l
 
   pub lists-record : b ≡ false
-      → Lists (done .used) (recordLine (done .progress .next) slot) (further (done .progress) (counted (done .progress .totals) (recordOf slot))) old next new
-      → Lists (done .used) (slotLine (done .progress .next) slot) (further (done .progress) (slotCounted (done .progress .totals) slot)) old next new
+      → ListsSlots (done .used) (recordLine (done .progress .next) slot) (further (done .progress) (counted (done .progress .totals) (recordOf slot))) old next new
+      → ListsSlots (done .used) (slotLine (done .progress .next) slot) (further (done .progress) (slotCounted (done .progress .totals) slot)) old next new
   lists-record t l = let f : isBlank slot ≡ false = sym e ∙ t in rw f l
 
 -- with a slot more
-pub lists-on : (t : Told) (slot : List ℕ) {done next : Listed} {a b c : List ℕ} → Lists 0 (t .text) (t .progress) a done b
-    → Lists (done .used) (slotLine (done .progress .next) slot) (slotFurther (done .progress) slot) b next c
-    → Lists 0 (slotTold t slot .text) (slotTold t slot .progress) a next c
+pub lists-on : (t : Told) (slot : List ℕ) {done next : Listed} {a b c : List ℕ} → ListsSlots 0 (t .text) (t .progress) a done b
+    → ListsSlots (done .used) (slotLine (done .progress .next) slot) (slotFurther (done .progress) slot) b next c
+    → ListsSlots 0 (slotTold t slot .text) (slotTold t slot .progress) a next c
 lists-on t slot w v =
     record {
       text = rw (← w .progress) (writes-on (w .text) (v .text));
@@ -58,16 +58,16 @@ module _ (s : Progress) (batch : List ℕ) where
   abbrev pub toldFirst : ℕ → Told
   toldFirst i = overFirst erasureBytes slotTold (untold s) batch i
 
-  pub lists-none : (out : List ℕ) → Lists 0 (toldFirst 0 .text) (toldFirst 0 .progress) out (record { used = 0; progress = s }) out
+  pub lists-none : (out : List ℕ) → ListsSlots 0 (toldFirst 0 .text) (toldFirst 0 .progress) out (record { used = 0; progress = s }) out
   unfolding overFirst
   lists-none out = record { text = writes-none out 0 (omega arith); progress = refl }
 
   pub lists-more : (i : ℕ) (slot : List ℕ) → slot ≡ recordAt batch i → {done next : Listed} {a b c : List ℕ}
-      → Lists 0 (toldFirst i .text) (toldFirst i .progress) a done b
-      → Lists (done .used) (slotLine (done .progress .next) slot) (slotFurther (done .progress) slot) b next c
-      → Lists 0 (toldFirst (i + 1) .text) (toldFirst (i + 1) .progress) a next c
+      → ListsSlots 0 (toldFirst i .text) (toldFirst i .progress) a done b
+      → ListsSlots (done .used) (slotLine (done .progress .next) slot) (slotFurther (done .progress) slot) b next c
+      → ListsSlots 0 (toldFirst (i + 1) .text) (toldFirst (i + 1) .progress) a next c
   lists-more i slot e {done} {next} {a} {b} {c} w v =
-      subst (λ (t : Told). Lists 0 (t .text) (t .progress) a next c)
+      subst (λ (t : Told). ListsSlots 0 (t .text) (t .progress) a next c)
       (ap (slotTold (toldFirst i)) e ∙ over-more erasureBytes slotTold (untold s) batch i) (lists-on (toldFirst i) slot w v)
 
   -- how far it has come
@@ -75,9 +75,9 @@ module _ (s : Progress) (batch : List ℕ) where
   told-progress i = over-map erasureBytes slotTold slotFurther (λ (t : Told). t .progress) (λ t slot. refl) (untold s) batch i
 
   pub lists-end : (i : ℕ) → i ≡ recordCount (length batch) → {r : Listed} {old new : List ℕ}
-      → Lists 0 (toldFirst i .text) (toldFirst i .progress) old r new → Lists 0 (partLines s batch) (partProgress s batch) old r new
+      → ListsSlots 0 (toldFirst i .text) (toldFirst i .progress) old r new → ListsSlots 0 (partLines s batch) (partProgress s batch) old r new
   lists-end i e {r} {old} {new} L =
-      let M : Lists 0 (toldFirst i .text) (overFirst erasureBytes slotFurther s batch i) old r new =
+      let M : ListsSlots 0 (toldFirst i .text) (overFirst erasureBytes slotFurther s batch i) old r new =
       record { text = L .text; progress = L .progress ∙ told-progress i } in
       rw e at M
 

@@ -47,7 +47,7 @@ abbrev pub further : Progress → Totals → Progress
 further s t = record { next = s .next + 1; totals = t }
 
 -- the text xs is written behind what is used of the buffer, and the listing has come to s
-pub record Lists (used : ℕ) (xs : List ℕ) (s : Progress) (old : List ℕ) (r : Listed) (new : List ℕ) : Type 0 where
+pub record ListsSlots (used : ℕ) (xs : List ℕ) (s : Progress) (old : List ℕ) (r : Listed) (new : List ℕ) : Type 0 where
   pub text : Writes old used xs new (r .used)
   pub progress : r .progress ≡ s
 

@@ -51,16 +51,16 @@ VerdictIs k j asked =
     (card : List ℕ) → foundVerdict (partFound k nothingFound card) (length card % sizeOf k) ≡ asked card (slotCount k (length card) * sizeOf j)
 
 -- the answer of a slot to the question a: 0 to 3 are questions 1, 3, 4 and 15
-abbrev pub answerAt : ℕ → ℕ → List ℕ → Bool
-answerAt k a slot = getD (answers k atMostFour (λ p. blankOr k p slot)) a true
+abbrev pub slotAnswer : ℕ → ℕ → List ℕ → Bool
+slotAnswer k a slot = getD (answers k atMostFour (λ p. blankOr k p slot)) a true
 
 -- the record of this number is the first that the question a refuses, and the questions before it refuse none
 pub record FirstOffender (k : ℕ) (card : List ℕ) (a number : ℕ) : Type 0 where
   pub low : 1 ≤ number
   pub inside : number ≤ slotCount k (length card)
-  pub refused : answerAt k a (slotIn k card (number - 1)) ≡ false
-  pub before : (i : ℕ) → i < number - 1 → answerAt k a (slotIn k card i) ≡ true
-  pub earlier : (b : ℕ) → b < a → (i : ℕ) → i < slotCount k (length card) → answerAt k b (slotIn k card i) ≡ true
+  pub refused : slotAnswer k a (slotIn k card (number - 1)) ≡ false
+  pub before : (i : ℕ) → i < number - 1 → slotAnswer k a (slotIn k card i) ≡ true
+  pub earlier : (b : ℕ) → b < a → (i : ℕ) → i < slotCount k (length card) → slotAnswer k b (slotIn k card i) ≡ true
 
 -- the number is that of the first offending record, and 0 where there is none
 abbrev pub NumberIs : Type 0

@@ -4,7 +4,7 @@ pub mod Slots  -- slots, blank ones among them; one fold over them (`overSlots`)
 pub mod Card  -- where a part lies on its card (`LiesAt`); the card check, and what its answer says
 pub mod Listing  -- the whole text of a listing, its lines and totals, also of a part of a card
 pub mod Placed  -- inner: a text written into a buffer
-pub mod Batch  -- inner: the sizes of lines and batches; listing a batch (`Lists`), and from batch to batch (`Continues`)
+pub mod Batch  -- inner: the sizes of lines and batches; listing a batch (`ListsSlots`), and from batch to batch (`Continues`)
 pub mod Words  -- each refusal in words, and the line of a refused record
 pub mod Checked  -- the card check as a line of text, of a card that comes in batches; what `cardcheck` promises
 pub mod Conversion  -- cards between the two editions: questions, answer, output; there and back, and that each slot stays the same

@@ -7,7 +7,7 @@ ghost use Rattle.card.specs.Listing.{decimal, lineText, blankLine, total
 ghost use Rattle.card.specs.Listing.{counted, slotFurther, partLines, partProgress};
 ghost use Rattle.code.specs.Call.{repair};
 ghost use Rattle.card.specs.Record.{recordOf};
-ghost use Rattle.card.specs.Batch.{longestField, longestLine, longestTotal, batchRecords, batchSize, Within, further, Lists};
+ghost use Rattle.card.specs.Batch.{longestField, longestLine, longestTotal, batchRecords, batchSize, Within, further, ListsSlots};
 ghost use Rattle.card.specs.Placed.{Writes};
 use crate::Progress;
 use crate::Totals;
@@ -162,7 +162,7 @@ fn list_record(bytes: &[u8], done: Listed, out: &mut [u8]) -> Listed
     requires { ⌜ (0 < length (now bytes)) × (done .used + longestLine ≤ length (now out)) × Within (2 ^ 63) (done .progress) ⌝ }
     ensures { λ r.
         ⌜
-        Lists (done .used) (recordLine (done .progress .next) (now (bytes .entry)))
+        ListsSlots (done .used) (recordLine (done .progress .next) (now (bytes .entry)))
         (further (done .progress) (counted (done .progress .totals) (recordOf (now (bytes .entry))))) (now (out .entry)) r (now (out .exit))
         ⌝ }
 {
@@ -187,7 +187,7 @@ fn list_blank(done: Listed, out: &mut [u8]) -> Listed
     requires { ⌜ (done .used + longestLine ≤ length (now out)) × Within (2 ^ 63) (done .progress) ⌝ }
     ensures { λ r.
         ⌜
-        Lists (done .used) (blankLine (done .progress .next)) (further (done .progress) (done .progress .totals)) (now (out .entry)) r
+        ListsSlots (done .used) (blankLine (done .progress .next)) (further (done .progress) (done .progress .totals)) (now (out .entry)) r
         (now (out .exit))
         ⌝ }
 {
@@ -208,7 +208,7 @@ fn list_slot(slot: &[u8], done: Listed, out: &mut [u8]) -> Listed
     requires { ⌜ (0 < length (now slot)) × (done .used + longestLine ≤ length (now out)) × Within (2 ^ 63) (done .progress) ⌝ }
     ensures { λ r.
         ⌜
-        Lists (done .used) (slotLine (done .progress .next) (now (slot .entry)))
+        ListsSlots (done .used) (slotLine (done .progress .next) (now (slot .entry)))
         (slotFurther (done .progress) (now (slot .entry))) (now (out .entry)) r (now (out .exit))
         ⌝ }
 {
@@ -225,7 +225,7 @@ pub fn list_records(batch: &[u8], s: Progress, out: &mut [u8]) -> Listed
     requires { ⌜ (length (now batch) ≤ batchSize) × (batchRecords * longestLine ≤ length (now out)) × Within (2 ^ 62) s ⌝ }
     ensures { λ r.
         ⌜
-        Lists 0 (partLines s (now (batch .entry))) (partProgress s (now (batch .entry))) (now (out .entry)) r (now (out .exit))
+        ListsSlots 0 (partLines s (now (batch .entry))) (partProgress s (now (batch .entry))) (now (out .entry)) r (now (out .exit))
         ⌝ }
 {
     let n = record_count(batch.len());

@@ -12,11 +12,11 @@ use lib.ListN.{length, getD, set, length-set}
 use lib.Seq.{getD-set-same, getD-set-other}
 use Rattle.dock.specs.declared.Rewrites.{Rewrites}
 use Rattle.dock.specs.Dock.{ownOf, anyLeft, spent}
-use Rattle.dock.specs.Run.{sumOf, allLeft}
+use Rattle.dock.specs.Run.{ownSum, allLeft}
 use Rattle.dock.specs.Demands.{OneLess}
 
 -- the sum of a list of which one number is replaced
-sum-set : (xs : List ℕ) (i v : ℕ) → i < length xs → sumOf (set xs i v) + getD xs i 0 ≡ sumOf xs + v
+sum-set : (xs : List ℕ) (i v : ℕ) → i < length xs → ownSum (set xs i v) + getD xs i 0 ≡ ownSum xs + v
 sum-set [] i v h = absurd (omega arith)
 sum-set (x ∷ xs) zero v h = omega arith
 sum-set (x ∷ xs) (suc i) v h = let rest = sum-set xs i v (omega arith) in omega arith

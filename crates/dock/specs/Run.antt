@@ -33,10 +33,10 @@ usedBy bay [] = 0
 usedBy bay (e ∷ es) = cond (eqb (e .bay) bay) (cond (same (e .lent) (e .back)) 0 1) 0 + usedBy bay es
 
 -- the sum of the list
-abbrev pub sumOf : List ℕ → ℕ
-sumOf [] = 0
-sumOf (x ∷ xs) = x + sumOf xs
+abbrev pub ownSum : List ℕ → ℕ
+ownSum [] = 0
+ownSum (x ∷ xs) = x + ownSum xs
 
 -- the rewrites left to all
 abbrev pub allLeft : Rewrites → ℕ
-allLeft left = sumOf (left .own) + left .common
+allLeft left = ownSum (left .own) + left .common

@@ -18,7 +18,7 @@ use Rattle.dock.specs.declared.Reach.{Reach}
 use Rattle.dock.specs.declared.Served.{Served}
 use Rattle.dock.specs.Dock.{bays, charged, callOn, callOf, callWritten, callLeft, Serves}
 use Rattle.exports.specs.Packed.{packed}
-use Rattle.exports.specs.Counts.{countsSize, rewritesOf, countsOf, countsAsked, chargeOf, chargeWritten}
+use Rattle.exports.specs.Counts.{countsSize, rewritesOf, lentCounts, countsAsked, chargeOf, chargeWritten}
 use Rattle.exports.specs.Counts.{bayAsked, bayOf, bayCounts, bayWritten}
 
 -- ---- read and written one by one
@@ -52,7 +52,7 @@ set-five (v ∷ w ∷ x ∷ y ∷ z ∷ u ∷ xs) h a b c d e = absurd (omega ar
 pub counts-written : (xs : List ℕ) (left : Rewrites) → length xs ≡ countsSize → length (left .own) ≡ bays
     → set (set (set (set (set xs 0 (getD (left .own) 0 0)) 1 (getD (left .own) 1 0)) 2 (getD (left .own) 2 0)) 3 (getD (left .own) 3 0)) 4
     (left .common)
-    ≡ countsOf left
+    ≡ lentCounts left
 counts-written xs left h k = set-five xs h _ _ _ _ (left .common) ∙ ap (λ (l : List ℕ). l ++ (left .common ∷ [])) (own-four (left .own) k)
 
 -- ---- a new charge
@@ -65,7 +65,7 @@ module _ (xs : List ℕ) (n : length xs ≡ countsSize → ⊥) where
   charge-refused r e = e ∙ ap (λ (v : Verdict). packed (done v)) asked-no
 
   pub charge-kept : xs ≡ chargeWritten xs
-  charge-kept = ap (λ (v : Verdict). written v xs (countsOf charged)) asked-no
+  charge-kept = ap (λ (v : Verdict). written v xs (lentCounts charged)) asked-no
 
 module _ (xs : List ℕ) (h : length xs ≡ countsSize) where
   asked-yes : Passed ≡ countsAsked (length xs)
@@ -74,8 +74,8 @@ module _ (xs : List ℕ) (h : length xs ≡ countsSize) where
   pub charge-passed : 0 ≡ packed (chargeOf xs)
   charge-passed = ap (λ (v : Verdict). packed (done v)) asked-yes
 
-  pub charge-written : (left : Rewrites) → left ≡ charged → (new : List ℕ) → new ≡ countsOf left → new ≡ chargeWritten xs
-  charge-written left e new en = en ∙ ap countsOf e ∙ ap (λ (v : Verdict). written v xs (countsOf charged)) asked-yes
+  pub charge-written : (left : Rewrites) → left ≡ charged → (new : List ℕ) → new ≡ lentCounts left → new ≡ chargeWritten xs
+  charge-written left e new en = en ∙ ap lentCounts e ∙ ap (λ (v : Verdict). written v xs (lentCounts charged)) asked-yes
 
 -- ---- a bay's call
 
@@ -110,11 +110,11 @@ module _ (bay : ℕ) (reach : Reach) (xs bytes : List ℕ) (v : Verdict) (e : v 
         ∙ ap (λ (l : Rewrites). callOf l (callOn bay reach bytes)) el
         ∙ ap (λ (u : Verdict). after u (callOf (rewritesOf xs) (callOn bay reach bytes))) (sym p ∙ e))
 
-    pub served-counts : (out : List ℕ) → out ≡ countsOf (s .left) → out ≡ bayCounts bay reach xs bytes
+    pub served-counts : (out : List ℕ) → out ≡ lentCounts (s .left) → out ≡ bayCounts bay reach xs bytes
     served-counts out eo =
         eo
-        ∙ ap countsOf (S .rest ∙ ap (λ (l : Rewrites). callLeft l (callOn bay reach bytes)) el)
-        ∙ ap (λ (u : Verdict). written u xs (countsOf (callLeft (rewritesOf xs) (callOn bay reach bytes)))) (sym p ∙ e)
+        ∙ ap lentCounts (S .rest ∙ ap (λ (l : Rewrites). callLeft l (callOn bay reach bytes)) el)
+        ∙ ap (λ (u : Verdict). written u xs (lentCounts (callLeft (rewritesOf xs) (callOn bay reach bytes)))) (sym p ∙ e)
 
     pub served-written : new ≡ bayWritten bay reach xs bytes
     served-written =
@@ -128,7 +128,7 @@ module _ (bay : ℕ) (reach : Reach) (xs bytes : List ℕ) (v : Verdict) (e : v 
         er ∙ ap (λ (u : Verdict). packed (after u (callOf (rewritesOf xs) (callOn bay reach bytes)))) (sym p ∙ e)
 
     pub refused-counts : xs ≡ bayCounts bay reach xs bytes
-    refused-counts = ap (λ (u : Verdict). written u xs (countsOf (callLeft (rewritesOf xs) (callOn bay reach bytes)))) (sym p ∙ e)
+    refused-counts = ap (λ (u : Verdict). written u xs (lentCounts (callLeft (rewritesOf xs) (callOn bay reach bytes)))) (sym p ∙ e)
 
     pub refused-written : bytes ≡ bayWritten bay reach xs bytes
     refused-written = ap (λ (u : Verdict). written u bytes (callWritten (rewritesOf xs) (callOn bay reach bytes))) (sym p ∙ e)

@@ -21,8 +21,8 @@ abbrev pub rewritesOf : List ℕ → Rewrites
 rewritesOf xs = record { own = take bays xs; common = getD xs bays 0 }
 
 -- and the counts, by the rewrites left
-abbrev pub countsOf : Rewrites → List ℕ
-countsOf left = left .own ++ (left .common ∷ [])
+abbrev pub lentCounts : Rewrites → List ℕ
+lentCounts left = left .own ++ (left .common ∷ [])
 
 -- ---- a new charge
 
@@ -33,7 +33,7 @@ abbrev pub chargeOf : List ℕ → Outcome
 chargeOf xs = done (countsAsked (length xs))
 
 abbrev pub chargeWritten : List ℕ → List ℕ
-chargeWritten xs = written (countsAsked (length xs)) xs (countsOf charged)
+chargeWritten xs = written (countsAsked (length xs)) xs (lentCounts charged)
 
 -- ---- a bay's call: the bay is asked first, then the length of the counts
 
@@ -45,7 +45,7 @@ bayOf bay reach xs bytes = after (bayAsked bay (length xs)) (callOf (rewritesOf 
 
 -- the counts and the record after the call
 abbrev pub bayCounts : ℕ → Reach → List ℕ → List ℕ → List ℕ
-bayCounts bay reach xs bytes = written (bayAsked bay (length xs)) xs (countsOf (callLeft (rewritesOf xs) (callOn bay reach bytes)))
+bayCounts bay reach xs bytes = written (bayAsked bay (length xs)) xs (lentCounts (callLeft (rewritesOf xs) (callOn bay reach bytes)))
 
 abbrev pub bayWritten : ℕ → Reach → List ℕ → List ℕ → List ℕ
 bayWritten bay reach xs bytes = written (bayAsked bay (length xs)) bytes (callWritten (rewritesOf xs) (callOn bay reach bytes))

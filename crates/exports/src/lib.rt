@@ -15,9 +15,9 @@ ghost use Rattle.walk.specs.Look.{lookOf, lookWritten};
 ghost use Rattle.dock.specs.declared.Reach.the-variants.{Longest, Named};
 ghost use Rattle.sheet.specs.Call.{writeSheetOf, writeSheetWritten, readSheetOf, readSheetWritten};
 ghost use Rattle.report.specs.Compare.{choice, intoOf, intoTotal, intoWritten};
-ghost use Rattle.report.specs.Window.{windowFrom, startsOf, startsWritten};
+ghost use Rattle.report.specs.Window.{windowFrom, windowOf, windowWritten};
 ghost use Rattle.exports.specs.Packed.{packed, packedBytes, packedTotals, checked};
-ghost use Rattle.exports.specs.Counts.{countsSize, rewritesOf, countsOf, chargeOf, chargeWritten, bayAsked, bayOf, bayCounts, bayWritten};
+ghost use Rattle.exports.specs.Counts.{countsSize, rewritesOf, lentCounts, chargeOf, chargeWritten, bayAsked, bayOf, bayCounts, bayWritten};
 use card::CardCheck;
 use card::cards::check;
 use card::conversion::card_to_new;
@@ -352,7 +352,7 @@ fn read_counts(left: &[u16]) -> Rewrites
 
 fn write_counts(left: &mut [u16], counts: Rewrites)
     requires { ⌜ length (now left) ≡ countsSize ⌝ }
-    ensures { λ r. ⌜ now (left .exit) ≡ countsOf counts ⌝ }
+    ensures { λ r. ⌜ now (left .exit) ≡ lentCounts counts ⌝ }
 {
     let own = counts.own;
     left[0] = own[0];
@@ -459,9 +459,9 @@ pub extern "C" fn xrs_compare_sheets<'a>(
 // Writes the report of the compressor starts in a window of the day, over the card, into `report`.
 #[no_mangle]
 pub extern "C" fn xrs_window(card: &[u8], first: u8, end: u8, report: &mut [u64]) -> u32
-    ensures answer { λ r. ⌜ r ≡ packed (startsOf (windowFrom first end) (now (report .entry))) ⌝ }
+    ensures answer { λ r. ⌜ r ≡ packed (windowOf (windowFrom first end) (now (report .entry))) ⌝ }
     ensures written { λ r.
-        ⌜ now (report .exit) ≡ startsWritten (windowFrom first end) (now (card .entry)) (now (report .entry)) ⌝ }
+        ⌜ now (report .exit) ≡ windowWritten (windowFrom first end) (now (card .entry)) (now (report .entry)) ⌝ }
 {
     pack_verdict(starts(card, Window { first, end }, report))
 }

@@ -24,7 +24,7 @@ use Rattle.code.specs.declared.Repair.the-variants.{Restored, Refused as Refuse
 use Rattle.card.specs.Record.{onAccept}
 use Rattle.sheet.specs.Sheet.{quarters, yearAt, monthAt, dayAt, pumpAt, sheetSize}
 use Rattle.sheet.proofs.Asking.{after-accepted}
-use Rattle.report.specs.Day.{hasRecord, slotOf, SlotPart, sheet, dayOf, answered, dayIn, daySymbols, Tells}
+use Rattle.report.specs.Day.{hasRecord, slotOf, SlotPart, sheet, dayOf, answered, dayIn, daySymbols, TellsDay}
 use Rattle.report.specs.Compare.{signOf, signsOf, sheetSigns, sameDay, chosenOf, comparedOf, choice, refusedComparison, Shows}
 use Rattle.report.specs.Compare.{numbersAsked, symbolsAt, compareOf, Compares, partOf, PartFrom, HandsBack, intoAsked, intoOf, ComparesInto}
 use Rattle.report.specs.declared.day.Reading.{Reading}
@@ -170,7 +170,7 @@ module _ (c : List ℕ) (i : ℕ) (d : List ℕ) (j : ℕ) (v : Verdict) (ev : v
   compares-refused q e = shows-refused q (compareOf c i d j) (compared (RefusedBy q) e) _ _
 
   -- x and y are what was read of the slots a and b
-  pub compares : v ≡ Passed → (a b : List ℕ) → a ≡ slotOf c i → b ≡ slotOf d j → (x y : Reading) → Tells (dayOf a) x → Tells (dayOf b) y
+  pub compares : v ≡ Passed → (a b : List ℕ) → a ≡ slotOf c i → b ≡ slotOf d j → (x y : Reading) → TellsDay (dayOf a) x → TellsDay (dayOf b) y
       → (z : Comparison) → Shows (comparedOf (dayIn x) (dayIn y)) (x .symbols) (y .symbols) z → Compares c i d j z
   compares e a b ea eb x y X Y z S =
       let ex : dayIn x ≡ dayOf (slotOf c i) = X .day ∙ ap dayOf ea in

@@ -18,7 +18,7 @@ use Rattle.code.specs.Word.{at}
 use Rattle.code.specs.Demands.{occurs}
 use Rattle.sheet.specs.Sheet.{quarters, yearAt, monthAt, dayAt}
 use Rattle.sheet.specs.Demands.{SheetSymbols}
-use Rattle.report.specs.Window.{isWindow, countsIn, sumOf, fullCount, highestOf, countsOf, earlier, below, leads, peakOf, dateOf, rowAfter, rowWith, reportSize, startsAsked, dayMost, countsWith}
+use Rattle.report.specs.Window.{isWindow, countsIn, startsSum, fullCount, highestOf, countsOf, earlier, below, leads, peakOf, dateOf, rowAfter, rowWith, reportSize, windowAsked, dayMost, countsWith}
 use Rattle.report.specs.declared.window.Window.{Window}
 use Rattle.report.specs.declared.window.Date.{Date}
 use Rattle.report.specs.declared.window.Peak.{Peak}
@@ -43,7 +43,7 @@ counts-made c x n f m en ef em =
 
 pub record Counted (xs : List ℕ) (i : ℕ) (c : Counts) : Type 0 where
   pub place : i ≤ length xs
-  pub sum : c .sum + sumOf (drop i xs) ≡ sumOf xs
+  pub sum : c .sum + startsSum (drop i xs) ≡ startsSum xs
   pub full : c .full + occurs fullCount (drop i xs) ≡ occurs fullCount xs
   pub highest : max (c .highest) (highestOf (drop i xs)) ≡ highestOf xs
   pub small : c .sum ≤ i * 255
@@ -66,7 +66,7 @@ module _ (xs : List ℕ) (i : ℕ) (c : Counts) (K : Counted xs i c) where
   pub counted-on : i < length xs → getD xs i 0 < 256 → (c′ : Counts) → c′ ≡ countsWith c (getD xs i 0) → Counted xs (i + 1) c′
   counted-on h small c′ e = rw e (record {
     place = omega arith;
-    sum = omega (arith, K .sum, ap sumOf one);
+    sum = omega (arith, K .sum, ap startsSum one);
     full = omega (arith, K .full, occurs-step fullCount xs i h);
     highest = omega (arith, K .highest, ap highestOf one);
     small = omega (arith, K .small);
@@ -80,7 +80,7 @@ module _ (xs : List ℕ) (i : ℕ) (c : Counts) (K : Counted xs i c) where
   unfolding countsOf occurs
   counted-end h =
       let none : drop i xs ≡ [] = drop-of-length-le xs h in
-      let s : c .sum ≡ sumOf xs = omega (arith, K .sum, ap sumOf none) in
+      let s : c .sum ≡ startsSum xs = omega (arith, K .sum, ap startsSum none) in
       let f : c .full ≡ occurs fullCount xs = omega (arith, K .full, ap (occurs fullCount) none) in
       let m : c .highest ≡ highestOf xs = omega (arith, K .highest, ap highestOf none) in
       same s f m
@@ -91,7 +91,7 @@ module _ (xs : List ℕ) (i : ℕ) (c : Counts) (K : Counted xs i c) where
 
 -- ---- how large they are
 
-sum-most : (b : ℕ) (xs : List ℕ) → ((k : ℕ) → k < length xs → getD xs k 0 ≤ b) → sumOf xs ≤ length xs * b
+sum-most : (b : ℕ) (xs : List ℕ) → ((k : ℕ) → k < length xs → getD xs k 0 ≤ b) → startsSum xs ≤ length xs * b
 sum-most b [] h = omega arith
 sum-most b (x ∷ xs) h = omega (arith, h 0 (omega arith), sum-most b xs (λ k l. h (suc k) (omega arith)))
 
@@ -140,7 +140,7 @@ module _ (w : Window) (h : isWindow w ≡ true) (ss : List ℕ) (S : SheetSymbol
       let m : k < w .end - w .first = omega (arith, counts-long) in
       omega (arith, counts-at k m, S .symbols (w .first + k) (omega (arith, window-end)))
 
-  pub counts-sum : sumOf (countsIn w ss) ≤ dayMost
+  pub counts-sum : startsSum (countsIn w ss) ≤ dayMost
   counts-sum = omega (arith, sum-most fullCount (countsIn w ss) count-small, counts-long, window-end)
 
   pub counts-full : occurs fullCount (countsIn w ss) ≤ dayMost
@@ -219,17 +219,17 @@ row-with w r ss c d x ec ed ex = ex ∙ ap₂ (rowAfter r) ec ed
 -- ---- the questions of the call
 
 module _ (w : Window) (n : ℕ) (b : Bool) (eb : b ≡ isWindow w) where
-  pub starts-no-window : not b ≡ true → Refused InWindow ≡ startsAsked w n
-  unfolding startsAsked
+  pub starts-no-window : not b ≡ true → Refused InWindow ≡ windowAsked w n
+  unfolding windowAsked
   starts-no-window t = ap (λ (x : Bool). ask x InWindow (ask (eqb n reportSize) Length Passed)) (sym (not-true b t) ∙ eb)
 
   module _ (t : not b ≡ false) where
-    second : (x : Bool) → eqb n reportSize ≡ x → ask x Length Passed ≡ startsAsked w n
-    unfolding startsAsked
+    second : (x : Bool) → eqb n reportSize ≡ x → ask x Length Passed ≡ windowAsked w n
+    unfolding windowAsked
     second x e = ap₂ (λ (y z : Bool). ask y InWindow (ask z Length Passed)) (sym (not-false b t) ∙ eb) (sym e)
 
-    pub starts-no-length : (n ≡ reportSize → ⊥) → Refused Length ≡ startsAsked w n
+    pub starts-no-length : (n ≡ reportSize → ⊥) → Refused Length ≡ windowAsked w n
     starts-no-length h = second false (ne-eqb n reportSize h)
 
-    pub starts-pass : n ≡ reportSize → Passed ≡ startsAsked w n
+    pub starts-pass : n ≡ reportSize → Passed ≡ windowAsked w n
     starts-pass h = second true (eq-eqb n reportSize h)

@@ -26,7 +26,7 @@ use Rattle.sheet.specs.Call.{contentAsked, readSheetAsked}
 use Rattle.sheet.specs.Demands.{SheetSymbols}
 use Rattle.sheet.proofs.Asking.{after-accepted}
 use Rattle.sheet.proofs.Sheets.{codeword-content, read-means, read-symbols}
-use Rattle.report.specs.Day.{hasRecord, slotOf, Day, sheet, noSheet, readDay, restoredDay, copyDay, dayOf, answered, daySymbols, Tells, Whole}
+use Rattle.report.specs.Day.{hasRecord, slotOf, Day, sheet, noSheet, readDay, restoredDay, copyDay, dayOf, answered, daySymbols, TellsDay, Whole}
 use Rattle.report.specs.declared.day.Reading.{Reading}
 
 -- ---- slots by number
@@ -68,13 +68,13 @@ module _ (r : List ℕ) (W : Whole r) (n : ℕ) (en : n ≡ wordLength (widthOf 
     day-is = ap (λ (u : Verdict). readDay u k (symbolsOf (wordOf r))) verdict
 
     pub restored-refused : (q : Question) → v ≡ Refused q
-        → Tells (restoredDay k r) (record { answer = RefusedRepair q; symbols = replicate sheetSize 0 })
+        → TellsDay (restoredDay k r) (record { answer = RefusedRepair q; symbols = replicate sheetSize 0 })
     restored-refused q e =
         let f : noSheet (refusal q) ≡ restoredDay k r = ap (λ (u : Verdict). readDay u k (symbolsOf (wordOf r))) (sym e) ∙ day-is in
         record { day = f; symbols = ap daySymbols f }
 
     pub restored-read : v ≡ Passed → (ss : List ℕ) → ss ≡ take sheetSize (drop (headerSize + checks) r)
-        → Tells (restoredDay k r) (record { answer = Restored k; symbols = ss })
+        → TellsDay (restoredDay k r) (record { answer = Restored k; symbols = ss })
     restored-read e ss es =
         let f : sheet k ss ≡ restoredDay k r = ap (sheet k) same ∙ ap (λ (u : Verdict). readDay u k (symbolsOf (wordOf r))) (sym e) ∙ day-is in
         record { day = f; symbols = ap daySymbols f }
@@ -133,13 +133,13 @@ module _ (r : List ℕ) where
     pub copied-whole : (k : ℕ) → x ≡ Restored k → Whole b
     copied-whole k e = rw eb (copy-is-whole k (sym ex ∙ ap repair e))
 
-    pub day-restored : (k : ℕ) → x ≡ Restored k → (y : Reading) → Tells (restoredDay k b) y → Tells (dayOf r) y
+    pub day-restored : (k : ℕ) → x ≡ Restored k → (y : Reading) → TellsDay (restoredDay k b) y → TellsDay (dayOf r) y
     unfolding dayOf
     day-restored k e y T =
         let f : restoredDay k b ≡ copyDay (recordOf r) (copyWritten r) = ap₂ copyDay (ap repair (sym e) ∙ ex) eb in
         rw f at T
 
-    pub day-refused : (q : Question) → x ≡ RefusedRepair q → Tells (dayOf r) (record { answer = RefusedRepair q; symbols = replicate sheetSize 0 })
+    pub day-refused : (q : Question) → x ≡ RefusedRepair q → TellsDay (dayOf r) (record { answer = RefusedRepair q; symbols = replicate sheetSize 0 })
     unfolding dayOf
     day-refused q e =
         let f : noSheet (refusal q) ≡ copyDay (recordOf r) (copyWritten r) = ap (λ (o : Outcome). copyDay o (copyWritten r)) (ap repair (sym e) ∙ ex) in
@@ -147,7 +147,7 @@ module _ (r : List ℕ) where
 
 -- ---- what a reading tells
 
-module _ (d : Day) (x : Reading) (T : Tells d x) where
+module _ (d : Day) (x : Reading) (T : TellsDay d x) where
   pub told-sheet : (k : ℕ) → x .answer ≡ Restored k → d ≡ sheet k (x .symbols)
   told-sheet k e = sym (T .day) ∙ ap (λ (a : Repair). answered a (x .symbols)) e
 

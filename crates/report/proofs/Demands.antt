@@ -30,7 +30,7 @@ use Rattle.report.proofs.Days.{slot-some, is-sheet}
 use Rattle.report.proofs.Comparing.{sheet-signs-long, sheet-signs-at, compared-number, compared-other}
 use Rattle.report.proofs.Order.{earlier-irreflexive, earlier-transitive, earlier-total}
 use Rattle.report.proofs.Quarters.{stands-for, quarter-texts}
-use Rattle.report.proofs.Starts.{all-looked, row-totals, refused-total, blank-total, goes-on, goes-not-on, row-mean, row-none, row-highest}
+use Rattle.report.proofs.Totals.{all-looked, row-totals, refused-total, blank-total, goes-on, goes-not-on, row-mean, row-none, row-highest}
 
 -- ---- two day sheets side by side
 

@@ -6,5 +6,5 @@ pub mod Counting  -- the counts of a sheet in a window, and a row with a further
 pub mod Reports  -- rows in the report, bounds of its numbers, slot by slot, in parts
 pub mod Tables  -- the lines of a table, and how long they are
 pub mod Quarters  -- the texts of a quarter hour, and the search for it
-pub mod Starts  -- what the report of a card says: totals, mean, highest count
+pub mod Totals  -- what the report of a card says: totals, mean, highest count
 pub mod Demands  -- every demand, under its name in small letters

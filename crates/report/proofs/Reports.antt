@@ -26,7 +26,7 @@ use Rattle.sheet.specs.Demands.{SheetSymbols}
 use Rattle.report.specs.Day.{Day, sheet, noSheet, dayOf}
 use Rattle.report.specs.Window.{isWindow, countsIn, highestOf, countsOf, dateOf, leads, rowWith}
 use Rattle.report.specs.Window.{pumps, rowSize, refusedAt, blankAt, moreAt, reportSize, rowFrom, rowNumbers, rowOf, withRow, oneMore, noReport}
-use Rattle.report.specs.Window.{dayAdded, slotAdded, partAdded, finished, goesOn, reportOf, startsAsked, Starts, Within, Countable, Most, dayMost}
+use Rattle.report.specs.Window.{dayAdded, slotAdded, partAdded, finished, goesOn, reportOf, windowAsked, ReportsWindow, AllWithin, Countable, Most, dayMost}
 use Rattle.report.specs.declared.window.Window.{Window}
 use Rattle.report.specs.declared.window.Peak.{Peak}
 use Rattle.report.specs.declared.window.Row.{Row}
@@ -135,35 +135,35 @@ row-kept R i v p h l =
 -- ---- bounds
 
 module _ (b : ℕ) where
-  within-append : (xs ys : List ℕ) → Within b xs → Within b ys → Within b (xs ++ ys)
+  within-append : (xs ys : List ℕ) → AllWithin b xs → AllWithin b ys → AllWithin b (xs ++ ys)
   within-append [] ys p q = q
   within-append (x ∷ xs) ys p q = (p .0, within-append xs ys (p .1) q)
 
-  within-take : (n : ℕ) (xs : List ℕ) → Within b xs → Within b (take n xs)
+  within-take : (n : ℕ) (xs : List ℕ) → AllWithin b xs → AllWithin b (take n xs)
   within-take zero xs p = tt
   within-take (suc n) [] p = tt
   within-take (suc n) (x ∷ xs) p = (p .0, within-take n xs (p .1))
 
-  within-drop : (n : ℕ) (xs : List ℕ) → Within b xs → Within b (drop n xs)
+  within-drop : (n : ℕ) (xs : List ℕ) → AllWithin b xs → AllWithin b (drop n xs)
   within-drop zero xs p = p
   within-drop (suc n) [] p = tt
   within-drop (suc n) (x ∷ xs) p = within-drop n xs (p .1)
 
-  pub within-at : (xs : List ℕ) (i : ℕ) → Within b xs → at xs i ≤ b
+  pub within-at : (xs : List ℕ) (i : ℕ) → AllWithin b xs → at xs i ≤ b
   within-at [] i p = omega arith
   within-at (x ∷ xs) zero p = p .0
   within-at (x ∷ xs) (suc i) p = within-at xs i (p .1)
 
-  within-set : (xs : List ℕ) (i x : ℕ) → Within b xs → x ≤ b → Within b (set xs i x)
+  within-set : (xs : List ℕ) (i x : ℕ) → AllWithin b xs → x ≤ b → AllWithin b (set xs i x)
   within-set [] i x p h = tt
   within-set (y ∷ xs) zero x p h = (h, p .1)
   within-set (y ∷ xs) (suc i) x p h = (p .0, within-set xs i x (p .1) h)
 
-  within-zeros : (n : ℕ) → Within b (replicate n 0)
+  within-zeros : (n : ℕ) → AllWithin b (replicate n 0)
   within-zeros zero = tt
   within-zeros (suc n) = (omega arith, within-zeros n)
 
-  within-more : (c : ℕ) → b ≤ c → (xs : List ℕ) → Within b xs → Within c xs
+  within-more : (c : ℕ) → b ≤ c → (xs : List ℕ) → AllWithin b xs → AllWithin c xs
   within-more c h [] p = tt
   within-more c h (x ∷ xs) p = (omega (arith, p .0), within-more c h xs (p .1))
 
@@ -176,7 +176,7 @@ module _ (b : ℕ) (R : List ℕ) (C : Countable b R) (p : ℕ) (h : p < pumps) 
   pub row-fits : p * rowSize + rowSize ≤ length R
   row-fits = omega (arith, C .size)
 
-  nine : Within b (take rowSize (drop (p * rowSize) R))
+  nine : AllWithin b (take rowSize (drop (p * rowSize) R))
   nine = within-take b rowSize (drop (p * rowSize) R) (within-drop b (p * rowSize) R (C .within))
 
   number-most : (i : ℕ) → at (take rowSize (drop (p * rowSize) R)) i ≤ b
@@ -203,7 +203,7 @@ module _ (b : ℕ) (R : List ℕ) (C : Countable b R) (p : ℕ) (h : p < pumps) 
     )
     peak-within old k y m d new n e false = (omega (arith, k), (omega (arith, y), (omega (arith, m), omega (arith, d))))
 
-    numbers-within : Within (b + dayMost) (rowNumbers (rowWith w (rowOf R p) ss))
+    numbers-within : AllWithin (b + dayMost) (rowNumbers (rowWith w (rowOf R p) ss))
     unfolding rowWith countsOf
     numbers-within =
         let r = rowOf R p in
@@ -239,7 +239,7 @@ module _ (b : ℕ) (R : List ℕ) (C : Countable b R) (p : ℕ) (h : p < pumps) 
     sheet-countable = record {
       size = row-long R p (rowWith w (rowOf R p) ss) row-fits ∙ C .size;
       within =
-          let up : Within (b + dayMost) R = within-more b (b + dayMost) (omega arith) R (C .within) in
+          let up : AllWithin (b + dayMost) R = within-more b (b + dayMost) (omega arith) R (C .within) in
           within-append (b + dayMost) (take (p * rowSize) R) _ (within-take (b + dayMost) (p * rowSize) R up)
           (within-append (b + dayMost) (rowNumbers (rowWith w (rowOf R p) ss)) (drop rowSize (drop (p * rowSize) R)) numbers-within
           (within-drop (b + dayMost) rowSize (drop (p * rowSize) R) (within-drop (b + dayMost) (p * rowSize) R up)));
@@ -348,26 +348,26 @@ module _ (w : Window) (card : List ℕ) (n : ℕ) (en : n ≡ reportSize) (z : L
         (sym (lt-ltb (mostRecords * recordSize) (length card) (subst (λ (k : ℕ). k < length card) em h)))
 
 -- v is what the questions said
-module _ (w : Window) (old : List ℕ) (v : Verdict) (e : v ≡ startsAsked w (length old)) where
+module _ (w : Window) (old : List ℕ) (v : Verdict) (e : v ≡ windowAsked w (length old)) where
   module _ (p : v ≡ Passed) where
-    asked : startsAsked w (length old) ≡ Passed
+    asked : windowAsked w (length old) ≡ Passed
     asked = sym e ∙ p
 
-    pub starts-window : isWindow w ≡ true
-    unfolding startsAsked
-    starts-window = ask-yes (isWindow w) InWindow (ask (eqb (length old) reportSize) Length Passed) asked
+    pub asked-window : isWindow w ≡ true
+    unfolding windowAsked
+    asked-window = ask-yes (isWindow w) InWindow (ask (eqb (length old) reportSize) Length Passed) asked
 
-    pub starts-size : length old ≡ reportSize
-    unfolding startsAsked
-    starts-size =
+    pub asked-size : length old ≡ reportSize
+    unfolding windowAsked
+    asked-size =
         eqb-true (length old) reportSize
         (ask-yes (eqb (length old) reportSize) Length Passed (ask-next (isWindow w) InWindow (ask (eqb (length old) reportSize) Length Passed) asked))
 
-    pub starts-reported : (card new : List ℕ) → new ≡ reportOf w card → Starts w card old Passed new
-    starts-reported card new f =
+    pub window-reported : (card new : List ℕ) → new ≡ reportOf w card → ReportsWindow w card old Passed new
+    window-reported card new f =
         record { answer = sym (ap done asked); content = f ∙ sym (ap (λ (u : Verdict). written u old (reportOf w card)) asked) }
 
-  pub starts-refused : (q : Question) → v ≡ Refused q → (card : List ℕ) → Starts w card old (Refused q) old
-  starts-refused q p card =
+  pub window-refused : (q : Question) → v ≡ Refused q → (card : List ℕ) → ReportsWindow w card old (Refused q) old
+  window-refused q p card =
       let f = sym p ∙ e in
       record { answer = ap done f; content = ap (λ (u : Verdict). written u old (reportOf w card)) f }

@@ -74,7 +74,7 @@ daySymbols (sheet k ss) = ss
 daySymbols (noSheet n) = replicate sheetSize 0
 
 -- the reading stands for the day d
-pub record Tells (d : Day) (x : Reading) : Type 0 where
+pub record TellsDay (d : Day) (x : Reading) : Type 0 where
   pub day : dayIn x ≡ d
   pub symbols : x .symbols ≡ daySymbols d
 

@@ -18,7 +18,7 @@ use Rattle.card.specs.Listing.{decimal, mostRecords}
 use Rattle.sheet.specs.Sheet.{quarters, pumpAt}
 use Rattle.report.specs.Day.{hasRecord, slotOf, Day, sheet, noSheet, dayOf}
 use Rattle.report.specs.Compare.{signOf, sameDay, chosenOf, symbolsAt, compareOf, compareSigns, compareTotal, comparePart, HandsBack}
-use Rattle.report.specs.Window.{isWindow, countsIn, sumOf, fullCount, dateOf, earlier, pumps, rowSize, refusedAt, blankAt, moreAt}
+use Rattle.report.specs.Window.{isWindow, countsIn, startsSum, fullCount, dateOf, earlier, pumps, rowSize, refusedAt, blankAt, moreAt}
 use Rattle.report.specs.Window.{rowFrom, rowOf, partAdded, reportOf}
 use Rattle.report.specs.Quarter.{clockText, quarterOf}
 use Rattle.report.specs.declared.quarter.Time.the-variants.{At}
@@ -118,13 +118,13 @@ abbrev pub ofPump : ℕ → (List ℕ → ℕ) → List ℕ → ℕ
 ofPump p f slot = ofSheet p f (dayOf slot)
 
 -- the report's numbers of a pump are totals over its sheets: their number, the sum of their counts in the window, and how many of these are 127
-pub record Totals (w : Window) (card : List ℕ) (p : ℕ) (r : Row) : Type 0 where
+pub record PumpTotals (w : Window) (card : List ℕ) (p : ℕ) (r : Row) : Type 0 where
   pub sheets : r .sheets ≡ totalOver (ofPump p (λ ss. 1)) card
-  pub sum : r .sum ≡ totalOver (ofPump p (λ ss. sumOf (countsIn w ss))) card
+  pub sum : r .sum ≡ totalOver (ofPump p (λ ss. startsSum (countsIn w ss))) card
   pub full : r .full ≡ totalOver (ofPump p (λ ss. occurs fullCount (countsIn w ss))) card
 
 abbrev pub TotalsStand : Type 0
-TotalsStand = (w : Window) (card : List ℕ) (p : ℕ) → isWindow w ≡ true → p < pumps → Totals w card p (rowOf (reportOf w card) p)
+TotalsStand = (w : Window) (card : List ℕ) (p : ℕ) → isWindow w ≡ true → p < pumps → PumpTotals w card p (rowOf (reportOf w card) p)
 
 -- 1 for a blank slot
 abbrev pub oneBlank : List ℕ → ℕ

@@ -35,9 +35,9 @@ countsIn w ss = take (w .end - w .first) (drop (w .first) ss)
 
 -- ---- of some counts their sum, how many are 127, and the highest
 
-abbrev pub sumOf : List ℕ → ℕ
-sumOf [] = 0
-sumOf (x ∷ xs) = x + sumOf xs
+abbrev pub startsSum : List ℕ → ℕ
+startsSum [] = 0
+startsSum (x ∷ xs) = x + startsSum xs
 
 -- means 127 or more, and enters the sum as 127
 abbrev pub fullCount : ℕ
@@ -48,7 +48,7 @@ highestOf [] = 0
 highestOf (x ∷ xs) = max x (highestOf xs)
 
 unfoldable pub countsOf : List ℕ → Counts
-countsOf xs = record { sum = sumOf xs; full = occurs fullCount xs; highest = highestOf xs }
+countsOf xs = record { sum = startsSum xs; full = occurs fullCount xs; highest = highestOf xs }
 
 -- ---- dates
 
@@ -177,32 +177,32 @@ abbrev pub windowFrom : ℕ → ℕ → Window
 windowFrom first end = record { first = first; end = end }
 
 -- question 21, then question 2, put to a report of n numbers
-unfoldable pub startsAsked : Window → ℕ → Verdict
-startsAsked w n = ask (isWindow w) InWindow (ask (eqb n reportSize) Length Passed)
+unfoldable pub windowAsked : Window → ℕ → Verdict
+windowAsked w n = ask (isWindow w) InWindow (ask (eqb n reportSize) Length Passed)
 
 -- what the call answers
-abbrev pub startsOf : Window → List ℕ → Outcome
-startsOf w report = done (startsAsked w (length report))
+abbrev pub windowOf : Window → List ℕ → Outcome
+windowOf w report = done (windowAsked w (length report))
 
 -- the report after the call; on a refusal it stays as it was
-abbrev pub startsWritten : Window → List ℕ → List ℕ → List ℕ
-startsWritten w card report = written (startsAsked w (length report)) report (reportOf w card)
+abbrev pub windowWritten : Window → List ℕ → List ℕ → List ℕ
+windowWritten w card report = written (windowAsked w (length report)) report (reportOf w card)
 
 -- the call's promise: what starts answers and leaves in the report
-pub record Starts (w : Window) (card old : List ℕ) (v : Verdict) (new : List ℕ) : Type 0 where
-  pub answer : done v ≡ startsOf w old
-  pub content : new ≡ startsWritten w card old
+pub record ReportsWindow (w : Window) (card old : List ℕ) (v : Verdict) (new : List ℕ) : Type 0 where
+  pub answer : done v ≡ windowOf w old
+  pub content : new ≡ windowWritten w card old
 
 -- ---- what the functions below it ask of a report, so that no sum overflows
 
 -- no number is above b
-abbrev pub Within : ℕ → List ℕ → Type 0
-Within b [] = Unit
-Within b (x ∷ xs) = (x ≤ b) × Within b xs
+abbrev pub AllWithin : ℕ → List ℕ → Type 0
+AllWithin b [] = Unit
+AllWithin b (x ∷ xs) = (x ≤ b) × AllWithin b xs
 
 pub record Countable (b : ℕ) (report : List ℕ) : Type 0 where
   pub size : length report ≡ reportSize
-  pub within : Within b report
+  pub within : AllWithin b report
 
 -- a slot adds no more than this to a number: 96 counts of 127
 abbrev pub dayMost : ℕ

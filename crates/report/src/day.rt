@@ -1,6 +1,6 @@
 // The slots of a card by their numbers, and a record read as a day sheet.
 ghost use mathlib.Core.Path.{_≡_};
-ghost use Rattle.report.specs.Day.{hasRecord, SlotPart, Whole, restoredDay, dayOf, Tells};
+ghost use Rattle.report.specs.Day.{hasRecord, SlotPart, Whole, restoredDay, dayOf, TellsDay};
 use card::cards::is_number;
 use card::cards::record_count;
 use card::cards::record_from;
@@ -44,7 +44,7 @@ pub(crate) fn slot(card: &[u8], number: usize) -> &[u8]
 // content are put.
 fn read_restored(bytes: &[u8], k: u8) -> Reading
     requires { ⌜ Whole (now bytes) ⌝ }
-    ensures { λ r. ⌜ Tells (restoredDay k (now (bytes .entry))) r ⌝ }
+    ensures { λ r. ⌜ TellsDay (restoredDay k (now (bytes .entry))) r ⌝ }
 {
     let width = bytes[0];
     let from = HEADER;
@@ -69,7 +69,7 @@ fn read_restored(bytes: &[u8], k: u8) -> Reading
 
 // Restores a record in a copy and reads it as a day sheet; the record stays as it is.
 pub(crate) fn read_day(bytes: &[u8]) -> Reading
-    ensures { λ r. ⌜ Tells (dayOf (now (bytes .entry))) r ⌝ }
+    ensures { λ r. ⌜ TellsDay (dayOf (now (bytes .entry))) r ⌝ }
 {
     let restored = restored_copy(bytes);
     let answer = restored.answer;

@@ -13,7 +13,7 @@ ghost use Rattle.sheet.specs.Demands.{SheetSymbols};
 ghost use Rattle.report.specs.Day.{dayOf};
 ghost use Rattle.report.specs.Window.{isWindow, fullCount, countsOf, dateOf, earlier, peakOf, rowAfter, rowWith, rowFrom, rowNumbers};
 ghost use Rattle.report.specs.Window.{rowSize, withRow, rowOf, oneMore, dayAdded, slotAdded, partAdded, finished, reportOf, reportSize, moreAt};
-ghost use Rattle.report.specs.Window.{startsAsked, Starts, Countable, countsWith, Most};
+ghost use Rattle.report.specs.Window.{windowAsked, ReportsWindow, Countable, countsWith, Most};
 use crate::day::read_day;
 use card::cards::is_blank;
 use card::cards::record_count;
@@ -370,8 +370,8 @@ fn write_report(card: &[u8], w: Window, report: &mut [u64])
 }
 
 // Question 21, then question 2, put to a report of n numbers.
-fn ask_starts(w: Window, n: usize) -> Verdict
-    ensures { λ r. ⌜ r ≡ startsAsked w n ⌝ }
+fn ask_window(w: Window, n: usize) -> Verdict
+    ensures { λ r. ⌜ r ≡ windowAsked w n ⌝ }
 {
     if !is_window(w) {
         return Verdict::Refused(Question::Window);
@@ -385,9 +385,9 @@ fn ask_starts(w: Window, n: usize) -> Verdict
 
 // Reports the starts in the window over a card.
 pub fn starts(card: &[u8], w: Window, report: &mut [u64]) -> Verdict
-    ensures { λ r. ⌜ Starts w (now (card .entry)) (now (report .entry)) r (now (report .exit)) ⌝ }
+    ensures { λ r. ⌜ ReportsWindow w (now (card .entry)) (now (report .entry)) r (now (report .exit)) ⌝ }
 {
-    match ask_starts(w, report.len()) {
+    match ask_window(w, report.len()) {
         Verdict::Passed => {
             write_report(card, w, report);
             Verdict::Passed

@@ -21,7 +21,7 @@ use Rattle.code.specs.Word.{checks, places}
 use Rattle.code.specs.Call.{allZero, zeroSyndromes, done, testAsked, testOf}
 use Rattle.code.proofs.Answers.{test-width, test-size, test-symbols}
 use Rattle.code.proofs.Loops.{part-drop}
-use Rattle.sheet.specs.Sheet.{sheetWidth, sheetSize, isDated, symbolsOf, unusedOf}
+use Rattle.sheet.specs.Sheet.{sheetWidth, sheetSize, isDated, symbolsOf, unusedSymbols}
 use Rattle.sheet.specs.Call.{sheetAsked, contentAsked, writeSheetAsked, readSheetAsked}
 
 -- ---- writing
@@ -85,7 +85,7 @@ module _ (m : ℕ) (w : List ℕ) where
     content-no-date t = simp (eq-eqb m sheetWidth x, sym ed ∙ not-true d t)
 
     module _ (t : not d ≡ false) (z : Bool) (ez : z ≡ allZero (take (length w - (checks + sheetSize)) (drop (checks + sheetSize) w))) where
-      zeros : z ≡ allZero (unusedOf w)
+      zeros : z ≡ allZero (unusedSymbols w)
       zeros = ez ∙ ap allZero (part-drop (checks + sheetSize) w ∙ sym (drop-drop sheetSize checks w))
 
       asked-last : (c : Bool) → z ≡ c → ask c Unused Passed ≡ contentAsked m w

@@ -20,7 +20,7 @@ use Rattle.code.proofs.Questions.{allBelow-means, allBelow-holds, allZero-below
 use Rattle.code.proofs.Passing.{syndromes-zero, zero-syndromes}
 use Rattle.field.proofs.Widths.{field-of}
 use Rattle.code.proofs.Encoding.{encode-codeword, codeword-encode}
-use Rattle.sheet.specs.Sheet.{sheetWidth, sheetSize, unusedSize, isDated, sheetData, sheetWord, symbolsOf, unusedOf}
+use Rattle.sheet.specs.Sheet.{sheetWidth, sheetSize, unusedSize, isDated, sheetData, sheetWord, symbolsOf, unusedSymbols}
 use Rattle.sheet.specs.Call.{writeSheetAsked, contentAsked, readSheetAsked}
 use Rattle.sheet.specs.Demands.{SheetSymbols, DaySheet, Writable, Readable}
 
@@ -40,24 +40,24 @@ module _ (xs : List ℕ) where
 
 -- ---- day sheets
 
-unused-long : (w : List ℕ) → Codeword sheetWidth w → length (unusedOf w) ≡ unusedSize
+unused-long : (w : List ℕ) → Codeword sheetWidth w → length (unusedSymbols w) ≡ unusedSize
 unused-long w C = simp length-drop (omega (arith, C .size))
 
 -- a day sheet, by the answers to questions 12 and 13
-sheet-of : (w : List ℕ) → Codeword sheetWidth w → isDated (symbolsOf w) ≡ true → allZero (unusedOf w) ≡ true → DaySheet w
+sheet-of : (w : List ℕ) → Codeword sheetWidth w → isDated (symbolsOf w) ≡ true → allZero (unusedSymbols w) ≡ true → DaySheet w
 sheet-of w C d z = record {
   codeword = C;
   date = d;
   unused = λ i l h.
       (let split : sheetSize + (i - sheetSize) ≡ i = omega arith in
       sym (ap (at (dataOf w)) split) ∙ sym (getD-drop sheetSize (dataOf w) (i - sheetSize) 0)
-      ∙ zeros-mean (unusedOf w) z (i - sheetSize) (omega (arith, unused-long w C)));
+      ∙ zeros-mean (unusedSymbols w) z (i - sheetSize) (omega (arith, unused-long w C)));
 }
 
 -- and the answer to question 13 from a day sheet
-unused-zero : (w : List ℕ) → DaySheet w → allZero (unusedOf w) ≡ true
+unused-zero : (w : List ℕ) → DaySheet w → allZero (unusedSymbols w) ≡ true
 unused-zero w D =
-    zeros-hold (unusedOf w)
+    zeros-hold (unusedSymbols w)
     (λ i l. getD-drop sheetSize (dataOf w) i 0 ∙ D .unused (sheetSize + i) (omega arith) (omega (arith, unused-long w (D .codeword))))
 
 -- ---- writing
@@ -90,7 +90,7 @@ module _ (ss : List ℕ) (S : SheetSymbols ss) where
   pub sheet-symbols : symbolsOf (sheetWord ss) ≡ ss
   sheet-symbols = take-at ss (replicate unusedSize 0) sheetSize (S .size)
 
-  sheet-unused : unusedOf (sheetWord ss) ≡ replicate unusedSize 0
+  sheet-unused : unusedSymbols (sheetWord ss) ≡ replicate unusedSize 0
   sheet-unused = drop-at ss (replicate unusedSize 0) sheetSize (S .size)
 
   pub written-sheet : DaySheet (sheetWord ss)
@@ -159,7 +159,7 @@ read-means m w ss p1 =
       width = x;
       symbols-size = eqb-true k sheetSize (ask-yes (eqb k sheetSize) Length _ p3);
       sheet = sheet-of w (subst (λ (n : ℕ). Codeword n w) x C) (ask-yes (isDated (symbolsOf w)) Date _ p7)
-          (ask-yes (allZero (unusedOf w)) Unused Passed p8);
+          (ask-yes (allZero (unusedSymbols w)) Unused Passed p8);
     }
 
 -- ---- what is read, written again
@@ -183,5 +183,5 @@ module _ (w : List ℕ) (D : DaySheet w) where
       ∙ ap (encode sheetWidth) (take-append-drop sheetSize (dataOf w))
       ∙ codeword-encode (field-of sheetWidth refl) C
     where
-      padding : unusedOf w ≡ replicate unusedSize 0
-      padding = zeros-replicate (unusedOf w) (unused-zero w D) ∙ ap (λ (n : ℕ). replicate n 0) (unused-long w C)
+      padding : unusedSymbols w ≡ replicate unusedSize 0
+      padding = zeros-replicate (unusedSymbols w) (unused-zero w D) ∙ ap (λ (n : ℕ). replicate n 0) (unused-long w C)

@@ -11,7 +11,7 @@ use Rattle.field.specs.declared.Question.the-variants.{Length, Symbol, Syndrome
 use Rattle.field.specs.declared.Verdict.{Verdict}
 use Rattle.field.specs.declared.Verdict.the-variants.{Passed}
 use Rattle.code.specs.Call.{written, allZero, zeroSyndromes, done, wordAsked}
-use Rattle.sheet.specs.Sheet.{sheetWidth, sheetSize, isDated, sheetWord, symbolsOf, unusedOf}
+use Rattle.sheet.specs.Sheet.{sheetWidth, sheetSize, isDated, sheetWord, symbolsOf, unusedSymbols}
 
 -- questions 1 and 2, put to a word of n bytes and a slice of k symbols, then question 7, put to the symbols xs of either, then the next
 abbrev pub slicesAsked : ℕ → ℕ → ℕ → List ℕ → Verdict → Verdict
@@ -44,7 +44,7 @@ pub record WritesSheet (m : ℕ) (ss old : List ℕ) (v : Verdict) (new : List �
 
 -- questions 11, 12 and 13, put to a codeword
 abbrev pub contentAsked : ℕ → List ℕ → Verdict
-contentAsked m w = sheetAsked m (symbolsOf w) (ask (allZero (unusedOf w)) Unused Passed)
+contentAsked m w = sheetAsked m (symbolsOf w) (ask (allZero (unusedSymbols w)) Unused Passed)
 
 -- the questions, put to the word and a slice of k symbols
 unfoldable pub readSheetAsked : ℕ → List ℕ → ℕ → Verdict

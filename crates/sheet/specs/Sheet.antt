@@ -55,5 +55,5 @@ abbrev pub symbolsOf : List ℕ → List ℕ
 symbolsOf w = take sheetSize (dataOf w)
 
 -- the data symbols from c_100 on
-abbrev pub unusedOf : List ℕ → List ℕ
-unusedOf w = drop sheetSize (dataOf w)
+abbrev pub unusedSymbols : List ℕ → List ℕ
+unusedSymbols w = drop sheetSize (dataOf w)

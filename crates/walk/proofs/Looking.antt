@@ -27,7 +27,7 @@ use Rattle.card.proofs.Again.{refused-stays, accepted-whole, restored-again, re
 use Rattle.walk.specs.declared.Walk.{Walk}
 use Rattle.walk.specs.Restored.{restoredCard, slotsFrom, restoredFrom}
 use Rattle.walk.specs.Walk.{stepAsked, stepCount, stepWritten, afterSteps, afterStates}
-use Rattle.walk.specs.Look.{rowSize, inRow, symbolsOf, uncounted, Shows, lookAsked, lookOf, lookWritten, Looks}
+use Rattle.walk.specs.Look.{lookSize, inRow, lookSymbols, uncounted, ShowsRecord, lookAsked, lookOf, lookWritten, Looks}
 use Rattle.walk.specs.Demands.{Tells, LookBetween, LookAmong}
 use Rattle.card.proofs.Lines.{record-front, record-behind}
 use Rattle.card.proofs.Numbering.{number-yes, number-low, number-high}
@@ -42,14 +42,14 @@ module _ (r row : List ℕ) where
     told : repair x ≡ recordOf r
     told = ap repair (sym ex) ∙ R .answer
 
-    pub shows-no : (q : Question) → x ≡ RefusedRepair q → Shows r row (Refused q) row
+    pub shows-no : (q : Question) → x ≡ RefusedRepair q → ShowsRecord r row (Refused q) row
     shows-no q p =
         let o : refused (refusal q) ≡ recordOf r = ap repair (sym p) ∙ told in
-        record { answer = ap uncounted o; symbols = ap (λ (y : Outcome). onAccept y row (symbolsOf r)) o }
+        record { answer = ap uncounted o; symbols = ap (λ (y : Outcome). onAccept y row (lookSymbols r)) o }
 
     -- the row is the last part of the restored copy
     pub shows-yes : (k : ℕ) → x ≡ Restored k
-        → (row′ : List ℕ) → row′ ≡ take (recordSize - headerSize) (drop headerSize (copy .bytes)) → Shows r row Passed row′
+        → (row′ : List ℕ) → row′ ≡ take (recordSize - headerSize) (drop headerSize (copy .bytes)) → ShowsRecord r row Passed row′
     shows-yes k p row′ e =
         let o : accepted k ≡ recordOf r = ap repair (sym p) ∙ told in
         let whole : length r ≡ recordSize = accepted-whole r k (sym o) in
@@ -61,7 +61,7 @@ module _ (r row : List ℕ) where
               ∙ take-all (recordSize - headerSize) (drop headerSize (copy .bytes)) (simp length-drop (omega (arith, size)))
               ∙ ap (drop headerSize) written
               ∙ restored-symbols r k (sym o)
-              ∙ ap (λ (y : Outcome). onAccept y row (symbolsOf r)) o;
+              ∙ ap (λ (y : Outcome). onAccept y row (lookSymbols r)) o;
         }
 
 -- a second look, at the restored record
@@ -83,13 +83,13 @@ module _ (n number m r : ℕ) (er : r ≡ recordCount n) (b : Bool) (eb : b ≡ 
   unfolding lookAsked
   asked-number t = simp (sym same ∙ t)
 
-  pub asked-row : b ≡ true → (m ≡ rowSize → ⊥) → Refused Length ≡ lookAsked n number m
+  pub asked-row : b ≡ true → (m ≡ lookSize → ⊥) → Refused Length ≡ lookAsked n number m
   unfolding lookAsked
-  asked-row t e = simp (sym same ∙ t, ne-eqb m rowSize e)
+  asked-row t e = simp (sym same ∙ t, ne-eqb m lookSize e)
 
-  pub asked-passed : b ≡ true → m ≡ rowSize → Passed ≡ lookAsked n number m
+  pub asked-passed : b ≡ true → m ≡ lookSize → Passed ≡ lookAsked n number m
   unfolding lookAsked
-  asked-passed t e = simp (sym same ∙ t, eq-eqb m rowSize e)
+  asked-passed t e = simp (sym same ∙ t, eq-eqb m lookSize e)
 
 -- what the questions tell where they were answered yes
 module _ (n number m : ℕ) (v : Verdict) (e : v ≡ lookAsked n number m) (p : v ≡ Passed) where
@@ -103,11 +103,11 @@ module _ (n number m : ℕ) (v : Verdict) (e : v ≡ lookAsked n number m) (p : 
   pub looked-at : (number - 1) * recordSize < n
   looked-at = omega (arith, looked-low, number-high (recordCount n) number in-range)
 
-  pub looked-row : m ≡ rowSize
+  pub looked-row : m ≡ lookSize
   unfolding lookAsked
   looked-row =
-      eqb-true m rowSize
-      (ask-yes (eqb m rowSize) Length Passed (ask-next (isNumber (recordCount n) number) RecordNumber _ (sym e ∙ p)))
+      eqb-true m lookSize
+      (ask-yes (eqb m lookSize) Length Passed (ask-next (isNumber (recordCount n) number) RecordNumber _ (sym e ∙ p)))
 
 -- a count that is left out changes nothing in what is written
 uncounted-accept : (o : Outcome) (old new : List ℕ) → onAccept (uncounted o) old new ≡ onAccept o old new
@@ -119,10 +119,10 @@ module _ (card : List ℕ) (number : ℕ) (row : List ℕ) (v : Verdict) (e : v 
   unfolding lookOf
   answer-by = ap (λ (u : Verdict). after u (uncounted (recordOf (recordNumbered card number)))) e
 
-  written-by : onAccept (after v (uncounted (recordOf (recordNumbered card number)))) row (symbolsOf (recordNumbered card number))
+  written-by : onAccept (after v (uncounted (recordOf (recordNumbered card number)))) row (lookSymbols (recordNumbered card number))
       ≡ lookWritten card number row
   unfolding lookWritten
-  written-by = ap (λ (o : Outcome). onAccept o row (symbolsOf (recordNumbered card number))) answer-by
+  written-by = ap (λ (o : Outcome). onAccept o row (lookSymbols (recordNumbered card number))) answer-by
 
 pub looks-refused : (card : List ℕ) (number : ℕ) (row : List ℕ) (v : Verdict) (q : Question)
     → v ≡ lookAsked (length card) number (length row) → v ≡ Refused q → Looks card number row (Refused q) row
@@ -132,14 +132,14 @@ looks-refused card number row v q e p =
 
 pub looks-shown : (card : List ℕ) (number : ℕ) (row : List ℕ) (v : Verdict)
     → v ≡ lookAsked (length card) number (length row) → v ≡ Passed → (bytes : List ℕ) → bytes ≡ recordNumbered card number
-    → (x : Verdict) (new : List ℕ) → Shows bytes row x new → Looks card number row x new
+    → (x : Verdict) (new : List ℕ) → ShowsRecord bytes row x new → Looks card number row x new
 looks-shown card number row v e p bytes eb x new S =
     let a = sym p ∙ e in
     record {
       answer = S .answer ∙ ap (λ (r : List ℕ). uncounted (recordOf r)) eb ∙ answer-by card number row Passed a;
       symbols = S .symbols
-          ∙ ap (λ (r : List ℕ). onAccept (recordOf r) row (symbolsOf r)) eb
-          ∙ sym (uncounted-accept (recordOf (recordNumbered card number)) row (symbolsOf (recordNumbered card number)))
+          ∙ ap (λ (r : List ℕ). onAccept (recordOf r) row (lookSymbols r)) eb
+          ∙ sym (uncounted-accept (recordOf (recordNumbered card number)) row (lookSymbols (recordNumbered card number)))
           ∙ written-by card number row Passed a;
     }
 
@@ -148,7 +148,7 @@ looks-shown card number row v e p bytes eb x new S =
 -- a look at record i shows the same, whether it is among the k records restored or not
 pub record SameShown (old new : List ℕ) : Type 0 where
   pub answer : uncounted (recordOf new) ≡ uncounted (recordOf old)
-  pub symbols : symbolsOf new ≡ symbolsOf old
+  pub symbols : lookSymbols new ≡ lookSymbols old
 
 restored-shown : (r : List ℕ) → SameShown r (recordWritten r)
 restored-shown r = record { answer = uncounted-again r; symbols = ap (λ (w : List ℕ). inRow (wordOf w)) (written-again r) }
@@ -278,7 +278,7 @@ among-same (w ∷ ws) card number row =
     record { answer = others .answer ∙ first .answer; symbols = others .symbols ∙ first .symbols }
 
 -- a look at record i of a card that shows the same
-look-tells : (card now : List ℕ) (i : ℕ) (row : List ℕ) → i < recordCount (length card) → length row ≡ rowSize
+look-tells : (card now : List ℕ) (i : ℕ) (row : List ℕ) → i < recordCount (length card) → length row ≡ lookSize
     → SameLook card now (i + 1) row → Tells card now i row
 look-tells card now i row h s same =
     let r = recordAt card i in
@@ -287,13 +287,13 @@ look-tells card now i row h s same =
     let passed = asked-passed (length card) (i + 1) (length row) (recordCount (length card)) refl true (sym yes) refl s in
     let answer : lookOf now (i + 1) row ≡ uncounted (recordOf r) =
     same .answer ∙ sym (answer-by card (i + 1) row Passed passed) ∙ ap (λ (j : ℕ). uncounted (recordOf (recordAt card j))) back in
-    let symbols : lookWritten now (i + 1) row ≡ onAccept (uncounted (recordOf r)) row (symbolsOf r) =
+    let symbols : lookWritten now (i + 1) row ≡ onAccept (uncounted (recordOf r)) row (lookSymbols r) =
     same .symbols
     ∙ sym (written-by card (i + 1) row Passed passed)
-    ∙ ap (λ (j : ℕ). onAccept (uncounted (recordOf (recordAt card j))) row (symbolsOf (recordAt card j))) back in
+    ∙ ap (λ (j : ℕ). onAccept (uncounted (recordOf (recordAt card j))) row (lookSymbols (recordAt card j))) back in
     record {
-      symbols = λ k e. (answer ∙ ap uncounted e, symbols ∙ ap (λ (o : Outcome). onAccept (uncounted o) row (symbolsOf r)) e);
-      refusal = λ n e. (answer ∙ ap uncounted e, symbols ∙ ap (λ (o : Outcome). onAccept (uncounted o) row (symbolsOf r)) e);
+      symbols = λ k e. (answer ∙ ap uncounted e, symbols ∙ ap (λ (o : Outcome). onAccept (uncounted o) row (lookSymbols r)) e);
+      refusal = λ n e. (answer ∙ ap uncounted e, symbols ∙ ap (λ (o : Outcome). onAccept (uncounted o) row (lookSymbols r)) e);
     }
 
 pub look-between : LookBetween

@@ -84,13 +84,13 @@ longestRestored = 34 + 4 * longestField
 -- ---- what is asked of them; proofs/Tallying.antt proves it
 
 -- accepted and refused records and blank slots make the slots of the card, and those that are counted blank are blank
-pub record AllCounted (card : List ℕ) (s : Progress) : Type 0 where
+pub record CountsMake (card : List ℕ) (s : Progress) : Type 0 where
   pub slots : s .next ≡ recordCount (length card) + 1
   pub make : s .totals .accepted + s .totals .refused + blanksOf card ≡ recordCount (length card)
   pub blank : blanksCounted s ≡ blanksOf card
 
 abbrev pub SlotsCounted : Type 0
-SlotsCounted = (card : List ℕ) → AllCounted card (partProgress start card)
+SlotsCounted = (card : List ℕ) → CountsMake card (partProgress start card)
 
 -- a card is restored part by part, the first of j whole slots
 abbrev pub RestoredInParts : Type 0

@@ -11,7 +11,7 @@ use Rattle.card.specs.Slots.{recordCount, recordAt}
 use Rattle.walk.specs.declared.Walk.{Walk}
 use Rattle.walk.specs.Restored.{restoredCard}
 use Rattle.walk.specs.Walk.{stepOf, stepState, stepWritten, afterSteps, stepsOf, stateOver, afterStates}
-use Rattle.walk.specs.Look.{rowSize, symbolsOf, lookOf, lookWritten}
+use Rattle.walk.specs.Look.{lookSize, lookSymbols, lookOf, lookWritten}
 
 -- ---- restoring again
 
@@ -76,18 +76,18 @@ RefusedStep = (w : Walk) (card : List ℕ) (n : ℕ) → stepOf w card ≡ refus
 -- on the card `now` a look at record i, counted from 0, gives the symbols that restoring it on the card `before` writes, or its refusal
 pub record Tells (before now : List ℕ) (i : ℕ) (row : List ℕ) : Type 0 where
   pub symbols : (k : ℕ) → recordOf (recordAt before i) ≡ accepted k
-      → (lookOf now (i + 1) row ≡ accepted 0) × (lookWritten now (i + 1) row ≡ symbolsOf (recordAt before i))
+      → (lookOf now (i + 1) row ≡ accepted 0) × (lookWritten now (i + 1) row ≡ lookSymbols (recordAt before i))
   pub refusal : (n : ℕ) → recordOf (recordAt before i) ≡ refused n
       → (lookOf now (i + 1) row ≡ refused n) × (lookWritten now (i + 1) row ≡ row)
 
 -- after any number of steps a look gives what restoring the record would have given before the first, treated already or not
 abbrev pub LookBetween : Type 0
 LookBetween =
-    (card : List ℕ) (k i : ℕ) (row : List ℕ) → i < recordCount (length card) → length row ≡ rowSize
+    (card : List ℕ) (k i : ℕ) (row : List ℕ) → i < recordCount (length card) → length row ≡ lookSize
     → Tells card (afterSteps k card .card) i row
 
 -- the same after steps of any walks over the card, in whatever states they were handed, refused ones among them
 abbrev pub LookAmong : Type 0
 LookAmong =
-    (card : List ℕ) (ws : List Walk) (i : ℕ) (row : List ℕ) → i < recordCount (length card) → length row ≡ rowSize
+    (card : List ℕ) (ws : List Walk) (i : ℕ) (row : List ℕ) → i < recordCount (length card) → length row ≡ lookSize
     → Tells card (afterStates ws card) i row

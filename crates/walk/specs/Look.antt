@@ -16,16 +16,16 @@ use Rattle.card.specs.Card.{isNumber, recordNumbered}
 use Rattle.walk.specs.declared.View.{View}
 
 -- a row has room for the longest word
-abbrev pub rowSize : ℕ
-rowSize = longest
+abbrev pub lookSize : ℕ
+lookSize = longest
 
 -- a word as a row: 0 after its last place
 abbrev pub inRow : List ℕ → List ℕ
-inRow w = w ++ replicate (rowSize - length w) 0
+inRow w = w ++ replicate (lookSize - length w) 0
 
 -- the symbols that restoring the record gives
-abbrev pub symbolsOf : List ℕ → List ℕ
-symbolsOf r = inRow (wordOf (recordWritten r))
+abbrev pub lookSymbols : List ℕ → List ℕ
+lookSymbols r = inRow (wordOf (recordWritten r))
 
 -- no count of changes comes with a look
 abbrev pub uncounted : Outcome → Outcome
@@ -33,13 +33,13 @@ uncounted (accepted k) = accepted 0
 uncounted (refused n) = refused n
 
 -- what a look at one record answers and leaves in the row
-pub record Shows (r old : List ℕ) (v : Verdict) (new : List ℕ) : Type 0 where
+pub record ShowsRecord (r old : List ℕ) (v : Verdict) (new : List ℕ) : Type 0 where
   pub answer : done v ≡ uncounted (recordOf r)
-  pub symbols : new ≡ onAccept (recordOf r) old (symbolsOf r)
+  pub symbols : new ≡ onAccept (recordOf r) old (lookSymbols r)
 
 -- the record's number is asked first, 1 to N on a card of n bytes; then the length of the row, which has room for m symbols
 unfoldable pub lookAsked : ℕ → ℕ → ℕ → Verdict
-lookAsked n number m = ask (isNumber (recordCount n) number) RecordNumber (ask (eqb m rowSize) Length Passed)
+lookAsked n number m = ask (isNumber (recordCount n) number) RecordNumber (ask (eqb m lookSize) Length Passed)
 
 -- what a look at the record of that number answers
 unfoldable pub lookOf : List ℕ → ℕ → List ℕ → Outcome
@@ -47,7 +47,7 @@ lookOf card number row = after (lookAsked (length card) number (length row)) (un
 
 -- the row after the call: as it was where the look is refused
 unfoldable pub lookWritten : List ℕ → ℕ → List ℕ → List ℕ
-lookWritten card number row = onAccept (lookOf card number row) row (symbolsOf (recordNumbered card number))
+lookWritten card number row = onAccept (lookOf card number row) row (lookSymbols (recordNumbered card number))
 
 -- the call's promise: what a look answers and leaves in the row
 pub record Looks (card : List ℕ) (number : ℕ) (old : List ℕ) (v : Verdict) (new : List ℕ) : Type 0 where
@@ -56,7 +56,7 @@ pub record Looks (card : List ℕ) (number : ℕ) (old : List ℕ) (v : Verdict)
 
 -- a row by value is zeros before the look, and so where it is refused
 abbrev pub noSymbols : List ℕ
-noSymbols = replicate rowSize 0
+noSymbols = replicate lookSize 0
 
 abbrev pub LooksAt : List ℕ → ℕ → View → Type 0
 LooksAt card number v = Looks card number noSymbols (v .verdict) (v .row)

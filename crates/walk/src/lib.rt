@@ -7,7 +7,7 @@ ghost use lib.ListN.{length};
 ghost use Rattle.card.specs.Slots.{recordCount};
 ghost use Rattle.walk.specs.Restored.{restoredFrom};
 ghost use Rattle.walk.specs.Walk.{stepRecords, begun, stepAsked, Steps};
-ghost use Rattle.walk.specs.Look.{rowSize, lookAsked, Looks, LooksAt, Shows};
+ghost use Rattle.walk.specs.Look.{lookSize, lookAsked, Looks, LooksAt, ShowsRecord};
 use card::Progress;
 use card::Totals;
 use card::cards::is_number;
@@ -110,8 +110,8 @@ fn ask_look(n: usize, number: usize, row: usize) -> Verdict
 
 // The symbols of a record, which is restored in a copy.
 fn show(bytes: &[u8], row: &mut [u8]) -> Verdict
-    requires { ⌜ length (now row) ≡ rowSize ⌝ }
-    ensures { λ r. ⌜ Shows (now (bytes .entry)) (now (row .entry)) r (now (row .exit)) ⌝ }
+    requires { ⌜ length (now row) ≡ lookSize ⌝ }
+    ensures { λ r. ⌜ ShowsRecord (now (bytes .entry)) (now (row .entry)) r (now (row .exit)) ⌝ }
 {
     let restored = restored_copy(bytes);
     let answer = restored.answer;

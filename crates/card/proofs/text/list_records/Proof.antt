@@ -6,7 +6,7 @@ use Prim.Native.Nat.{_-_, _^_, _≤_}
 use native.Mathlib.Omega.{arith}
 use lib.ListN.{length}
 use Rattle.card.specs.Slots.{recordCount}
-use Rattle.card.specs.Batch.{Lists}
+use Rattle.card.specs.Batch.{ListsSlots}
 use Rattle.card.proofs.Lines.{piece-some, toldFirst, lists-none, lists-more, lists-end, told-progress}
 use Rattle.card.proofs.Bounds.{lines-short, progress-within}
 use Rattle.card.proofs.text.list_records.Statement.{statement}
@@ -16,7 +16,7 @@ abbrev Inv-loop : tie.InvT-loop
 Inv-loop batch out₀ n done₀ i₀ out done i =
     (i ≤ n)
     × (length out ≡ length out₀)
-    × Lists 0 (toldFirst (done₀ .progress) batch i .text) (toldFirst (done₀ .progress) batch i .progress) out₀ done out
+    × ListsSlots 0 (toldFirst (done₀ .progress) batch i .text) (toldFirst (done₀ .progress) batch i .progress) out₀ done out
 
 abbrev μ-loop : tie.MeasureT-loop
 μ-loop batch out₀ n done₀ i₀ out done i = n - i

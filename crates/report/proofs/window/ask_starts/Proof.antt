@@ -1,4 +1,4 @@
--- `report::window::ask_starts` meets its contract. Assumes nothing.
+-- `report::window::ask_window` meets its contract. Assumes nothing.
 use borrow.Author.Needs.{needs}
 use Rattle.report.proofs.Counting.{starts-no-window, starts-no-length, starts-pass}
 use Rattle.report.proofs.window.ask_starts.Statement.{statement}

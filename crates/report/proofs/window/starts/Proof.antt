@@ -1,6 +1,6 @@
 -- `report::window::starts` meets its contract. Assumes nothing.
 use borrow.Author.Needs.{needs}
-use Rattle.report.proofs.Reports.{starts-window, starts-size, starts-reported, starts-refused}
+use Rattle.report.proofs.Reports.{asked-window, asked-size, window-reported, window-refused}
 use Rattle.report.proofs.window.starts.Statement.{statement}
 use Rattle.report.proofs.window.starts.Tie as tie
 
@@ -10,8 +10,8 @@ write-report-requires c κs =
     let v = told .before .before in
     let a = v .before .before .before .args in
     let x = v .ask-starts in (
-      starts-window (a .w) (a .report .now) (x .result) (x .ensures) (told .enum-told .given .1),
-      starts-size (a .w) (a .report .now) (x .result) (x .ensures) (told .enum-told .given .1),
+      asked-window (a .w) (a .report .now) (x .result) (x .ensures) (told .enum-told .given .1),
+      asked-size (a .w) (a .report .now) (x .result) (x .ensures) (told .enum-told .given .1),
     )
 
 returns : tie.Need-returns
@@ -21,7 +21,7 @@ returns c =
     let v = told .before .before in
     let a = v .before .before .before .args in
     let x = v .ask-starts in
-    starts-reported (a .w) (a .report .now) (x .result) (x .ensures) (told .enum-told .given .1) (a .card .now) _ (done .write-report .ensures)
+    window-reported (a .w) (a .report .now) (x .result) (x .ensures) (told .enum-told .given .1) (a .card .now) _ (done .write-report .ensures)
 
 returns-2 : tie.Need-returns-2
 returns-2 c =
@@ -29,7 +29,7 @@ returns-2 c =
     let v = told .before .before in
     let a = v .before .before .before .args in
     let x = v .ask-starts in
-    starts-refused (a .w) (a .report .now) (x .result) (x .ensures) _ (told .q .given .1) (a .card .now)
+    window-refused (a .w) (a .report .now) (x .result) (x .ensures) _ (told .q .given .1) (a .card .now)
 
 pub starts-spec : {M : Type 1} → statement M
 starts-spec =

@@ -22,10 +22,10 @@ use Rattle.card.proofs.Folding.{over-same}
 use Rattle.card.proofs.Lines.{record-front}
 use Rattle.sheet.specs.Sheet.{pumpAt}
 use Rattle.report.specs.Day.{Day, sheet, noSheet, dayOf}
-use Rattle.report.specs.Window.{isWindow, countsIn, sumOf, fullCount, highestOf, countsOf, dateOf, below, earlier, leads, peakOf, rowWith}
+use Rattle.report.specs.Window.{isWindow, countsIn, startsSum, fullCount, highestOf, countsOf, dateOf, below, earlier, leads, peakOf, rowWith}
 use Rattle.report.specs.Window.{pumps, rowSize, refusedAt, blankAt, moreAt, reportSize, rowFrom, rowOf, withRow, oneMore, noReport}
 use Rattle.report.specs.Window.{dayAdded, slotAdded, partAdded, goesOn, reportOf, Countable}
-use Rattle.report.specs.Demands.{looked, sheetsBelow, summed, totalOver, ofSheet, ofPump, Totals, oneBlank, oneUnread, oneRefused, noRow, CountAt}
+use Rattle.report.specs.Demands.{looked, sheetsBelow, summed, totalOver, ofSheet, ofPump, PumpTotals, oneBlank, oneUnread, oneRefused, noRow, CountAt}
 use Rattle.report.specs.Demands.{Highest}
 use Rattle.report.specs.declared.window.Window.{Window}
 use Rattle.report.specs.declared.window.Date.{Date}
@@ -233,7 +233,7 @@ one-sheet : (w : Window) (r : Row) (ss : List ℕ) → rowWith w r ss .sheets �
 unfolding rowWith
 one-sheet w r ss = refl
 
-sum-more : (w : Window) (r : Row) (ss : List ℕ) → rowWith w r ss .sum ≡ r .sum + sumOf (countsIn w ss)
+sum-more : (w : Window) (r : Row) (ss : List ℕ) → rowWith w r ss .sum ≡ r .sum + startsSum (countsIn w ss)
 unfolding rowWith countsOf
 sum-more w r ss = refl
 
@@ -504,10 +504,10 @@ module _ (w : Window) (wh : isWindow w ≡ true) (card : List ℕ) where
         ∙ total w wh (listedPart card) p h g f start further (recordCount (length (listedPart card)))
         ∙ looked-over card (ofPump p f)
 
-    pub row-totals : Totals w card p (rowOf (reportOf w card) p)
+    pub row-totals : PumpTotals w card p (rowOf (reportOf w card) p)
     row-totals = record {
       sheets = row-total (λ r. r .sheets) (λ ss. 1) refl (one-sheet w);
-      sum = row-total (λ r. r .sum) (λ ss. sumOf (countsIn w ss)) refl (sum-more w);
+      sum = row-total (λ r. r .sum) (λ ss. startsSum (countsIn w ss)) refl (sum-more w);
       full = row-total (λ r. r .full) (λ ss. occurs fullCount (countsIn w ss)) refl (full-more w);
     }
 
