@@ -18,5 +18,5 @@ pub mod Leading  -- how many questions slot after slot passes, and the verdict
 pub mod Converting  -- from the questions to the contracts of conversion
 pub mod Editions  -- a slot of the old edition, and the same slot in the new
 pub mod ThereAndBack  -- whole cards: `there-and-back`, `back-and-there`, `new-same`, `old-same`
-pub mod Found  -- the questions over a card in parts: `found-in-parts`, `to-new-in-parts`, `to-old-in-parts`, `number-is`
+pub mod Findings  -- the questions over a card in parts: `found-in-parts`, `to-new-in-parts`, `to-old-in-parts`, `number-is`
 pub mod Coming  -- from batch to batch, whatever is carried: `came-on`, `came-end`

@@ -9,4 +9,4 @@ pub mod Words  -- each refusal in words, and the line of a refused record
 pub mod Checked  -- the card check as a line of text, of a card that comes in batches; what `cardcheck` promises
 pub mod Conversion  -- cards between the two editions: questions, answer, output; there and back, and that each slot stays the same
 pub mod Leading  -- inner: how many of a conversion's questions a slot or a card passes before the first that it does not
-pub mod Found  -- a conversion's questions over a card in parts, and what is asked of them; what `cardconvert` promises
+pub mod Findings  -- a conversion's questions over a card in parts, and what is asked of them; what `cardconvert` promises

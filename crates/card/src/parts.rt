@@ -5,7 +5,7 @@ ghost use Prim.Native.Nat.{_+_, _^_, _≤_, _<_};
 ghost use lib.ListN.{length};
 ghost use Rattle.card.specs.Record.{sizeOf, erasureBytes};
 ghost use Rattle.card.specs.Leading.{slotPasses};
-ghost use Rattle.card.specs.Found.{nothingFound, slotFound, partFound, foundVerdict, foundNumber};
+ghost use Rattle.card.specs.Findings.{nothingFound, slotFound, partFound, foundVerdict, foundNumber};
 use crate::cards::blank_in;
 use crate::records::OLD_ERASURE_BYTES;
 use crate::records::passed;

@@ -13,10 +13,10 @@ use Rattle.card.specs.declared.parts.Findings.{Findings}
 use Rattle.card.specs.Record.{sizeOf, erasureBytes}
 use Rattle.card.specs.Slots.{slotCount, overFirst, Came}
 use Rattle.card.specs.Batch.{batchRecords, batchSize, mostBatches}
-use Rattle.card.specs.Found.{nothingFound, slotFound, partFound, Asks}
+use Rattle.card.specs.Findings.{nothingFound, slotFound, partFound, Asks}
 use Rattle.card.proofs.Folding.{over-none, whole-parts, rest-two}
 use Rattle.card.proofs.Coming.{came-start, came-batch, came-whole, came-more, came-on}
-use Rattle.card.proofs.Found.{found-slots}
+use Rattle.card.proofs.Findings.{found-slots}
 
 -- the bytes of a batch
 abbrev pub batch : ℕ → ℕ

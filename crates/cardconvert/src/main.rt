@@ -8,7 +8,7 @@ ghost use lib.ListN.{length};
 ghost use Rattle.card.specs.Record.{sizeOf, erasureBytes};
 ghost use Rattle.card.specs.Conversion.{oldErasureBytes, Converts, toNewAsked, toOldAsked};
 ghost use Rattle.card.specs.Batch.{batchRecords, batchSize, mostBatches};
-ghost use Rattle.card.specs.Found.{nothingFound, Asks};
+ghost use Rattle.card.specs.Findings.{nothingFound, Asks};
 use card::conversion::card_to_new;
 use card::conversion::card_to_old;
 use card::parts::Findings;

@@ -6,7 +6,7 @@ use Prim.Native.Nat.{ℕ, _-_, _*_, _≤_}
 use native.Mathlib.Omega.{arith}
 use Rattle.card.specs.Batch.{mostBatches}
 use Rattle.card.specs.declared.parts.Findings.{Findings}
-use Rattle.card.specs.Found.{nothingFound, Asks}
+use Rattle.card.specs.Findings.{nothingFound, Asks}
 use Rattle.cardconvert.proofs.Asking.{batch, asks-start, asks-slots, asks-on, asks-end}
 use Rattle.cardconvert.proofs.ask_card.Statement.{statement}
 use Rattle.cardconvert.proofs.ask_card.Tie as tie

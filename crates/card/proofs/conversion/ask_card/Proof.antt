@@ -5,7 +5,7 @@ use native.Mathlib.Omega.{arith}
 use lib.ListN.{length}
 use Rattle.card.specs.declared.parts.Findings.{Findings}
 use Rattle.card.specs.Record.{sizeOf}
-use Rattle.card.proofs.Found.{found-card}
+use Rattle.card.proofs.Findings.{found-card}
 use Rattle.card.proofs.Converting.{lengths-whole, lengths-are, asked-refused, asked-verdict}
 use Rattle.card.proofs.conversion.ask_card.Statement.{statement}
 use Rattle.card.proofs.conversion.ask_card.Tie as tie

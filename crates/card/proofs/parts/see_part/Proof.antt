@@ -5,10 +5,10 @@ use Prim.Native.Nat.{ℕ, _+_, _-_, _*_, _/_, _≤_}
 use native.Mathlib.Nat.{div-le-self}
 use native.Mathlib.Omega.{arith}
 use lib.ListN.{length}
-use Rattle.card.specs.Found.{slotFound}
+use Rattle.card.specs.Findings.{slotFound}
 use Rattle.card.specs.declared.parts.Findings.{Findings}
 use Rattle.card.proofs.Slots.{slot-cut, slot-whole, slot-inside}
-use Rattle.card.proofs.Found.{slots-fit, slotsFound, found-slots}
+use Rattle.card.proofs.Findings.{slots-fit, slotsFound, found-slots}
 use Rattle.card.proofs.Folding.{over-none, over-on}
 use Rattle.card.proofs.parts.see_part.Statement.{statement}
 use Rattle.card.proofs.parts.see_part.Tie as tie

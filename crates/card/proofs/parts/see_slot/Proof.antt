@@ -1,6 +1,6 @@
 -- `card::parts::see_slot` meets its contract. Assumes nothing.
 use borrow.Author.Needs.{needs}
-use Rattle.card.proofs.Found.{found-fewer, found-kept}
+use Rattle.card.proofs.Findings.{found-fewer, found-kept}
 use Rattle.card.proofs.parts.see_slot.Statement.{statement}
 use Rattle.card.proofs.parts.see_slot.Tie as tie
 

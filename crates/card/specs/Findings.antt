@@ -38,7 +38,7 @@ foundVerdict s rest = ask (eqb rest 0) Length (verdictAt (s .passed))
 abbrev pub foundNumber : Findings → ℕ → ℕ
 foundNumber s rest = cond (eqb rest 0) (s .first) (s .slots + 1)
 
--- ---- what is asked of them; proofs/Found.antt proves it
+-- ---- what is asked of them; proofs/Findings.antt proves it
 
 -- the card may be cut behind any slot
 abbrev pub FoundInParts : Type 0

@@ -21,8 +21,8 @@ use Rattle.card.specs.Record.{sizeOf, erasureBytes}
 use Rattle.card.specs.Slots.{slotIn, slotCount, overFirst, appended}
 use Rattle.card.specs.Conversion.{oldErasureBytes, converted, convertedCard, blankOr, atMostFour, cardAsked, fourAsked}
 use Rattle.card.specs.Leading.{convertedSlots, every, leading, answers, slotPasses, cardPasses, verdictAt}
-use Rattle.card.specs.Found.{nothingFound, slotFound, partFound, foundVerdict, foundNumber, slotAnswer}
-use Rattle.card.specs.Found.{FoundInParts, NumberIs, ToNewInParts, ToOldInParts}
+use Rattle.card.specs.Findings.{nothingFound, slotFound, partFound, foundVerdict, foundNumber, slotAnswer}
+use Rattle.card.specs.Findings.{FoundInParts, NumberIs, ToNewInParts, ToOldInParts}
 use Rattle.card.proofs.Folding.{whole-parts, rest-two, each-front}
 use Rattle.card.proofs.Leading.{passed-start, one-more}
 use Rattle.card.proofs.Converting.{card-whole, lengths-whole, lengths-are, asked-refused, asked-verdict, passed-out, new-asked, old-asked}
