@@ -4,12 +4,14 @@ ghost use Prim.Native.Nat.{_^_, _≤_};
 ghost use lib.ListN.{length};
 ghost use Rattle.card.specs.Words.{longestRefusal};
 ghost use Rattle.card.specs.Checked.{FindsBatch, FindsSome, Says};
+use card::BATCH;
+use card::BATCH_SLOTS;
+use card::MOST_BATCHES;
 use card::checked::Found;
 use card::checked::check_batch;
 use card::text::put_bytes;
 use libc::STDIN_FILENO;
 use libc::STDOUT_FILENO;
-use stream::MOST_BATCHES;
 use stream::read_batch;
 use stream::say;
 
@@ -24,7 +26,7 @@ fn check_next(slots: u64, out: &mut [u8]) -> Turn
     requires { ⌜ (slots ≤ 2 ^ 62) × (longestRefusal ≤ length (now out)) ⌝ }
     ensures { λ r. ⌜ FindsBatch slots (now (out .entry)) (r .found) (r .going) (now (out .exit)) ⌝ }
 {
-    let mut batch = [0u8; 55600];
+    let mut batch = [0u8; BATCH];
     let input = read_batch(STDIN_FILENO, &mut batch);
     let n = input.count;
     let failed = input.failed;
@@ -34,7 +36,7 @@ fn check_next(slots: u64, out: &mut [u8]) -> Turn
     let found = check_batch(&batch[..n], slots, out);
     Turn {
         found,
-        going: n == 55600,
+        going: n == BATCH,
     }
 }
 
@@ -45,7 +47,7 @@ fn check_batches(out: &mut [u8]) -> Found
 {
     let mut i: u64 = 0;
     while i < MOST_BATCHES {
-        let turn = check_next(i * 400, out);
+        let turn = check_next(i * BATCH_SLOTS as u64, out);
         let found = turn.found;
         let any = found.any;
         let going = turn.going;

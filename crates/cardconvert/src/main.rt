@@ -9,6 +9,9 @@ ghost use Rattle.card.specs.Record.{sizeOf, erasureBytes};
 ghost use Rattle.card.specs.Conversion.{oldErasureBytes, Converts, toNewAsked, toOldAsked};
 ghost use Rattle.card.specs.Batch.{batchRecords, batchSize, mostBatches};
 ghost use Rattle.card.specs.Findings.{nothingFound, Asks};
+use card::BATCH;
+use card::BATCH_SLOTS;
+use card::MOST_BATCHES;
 use card::conversion::card_to_new;
 use card::conversion::card_to_old;
 use card::parts::Findings;
@@ -25,12 +28,8 @@ use field::Question;
 use field::Verdict;
 use libc::SEEK_SET;
 use libc::STDOUT_FILENO;
-use stream::MOST_BATCHES;
 use stream::read_batch;
 use stream::say;
-
-// The slots of a batch.
-const BATCH: usize = 400;
 
 // What the questions have found, how many bytes are left behind the slots, whether the card may go on, and whether a read failed.
 pub struct Asked {
@@ -54,7 +53,7 @@ fn ask_into(buf: &mut [u8], fd: i32, k: usize, s: Findings) -> Asked
     ensures { λ r. ⌜ Asks k (batchRecords * sizeOf k) s (r .findings) (r .rest) (r .going) ⌝ }
 {
     let size = size_of(k);
-    let n = BATCH * size;
+    let n = BATCH_SLOTS * size;
     let input = read_batch(fd, &mut buf[..n]);
     let count = input.count;
     let findings = see_part(s, &buf[..count], k);
@@ -71,7 +70,7 @@ fn ask_batch(fd: i32, k: usize, s: Findings) -> Asked
     requires { ⌜ (k ≤ erasureBytes) × (s .slots ≤ 2 ^ 62) ⌝ }
     ensures { λ r. ⌜ Asks k (batchRecords * sizeOf k) s (r .findings) (r .rest) (r .going) ⌝ }
 {
-    let mut buf = [0u8; 55600];
+    let mut buf = [0u8; BATCH];
     ask_into(&mut buf, fd, k, s)
 }
 
@@ -157,8 +156,8 @@ fn write_part(buf: &mut [u8], out: &mut [u8], fd: i32, k: usize, want: usize) ->
 fn write_batch(fd: i32, k: usize, want: usize) -> Step
     requires { ⌜ (oldErasureBytes ≤ k) × (k ≤ erasureBytes) × (want ≤ batchRecords) ⌝ }
 {
-    let mut buf = [0u8; 55600];
-    let mut out = [0u8; 55600];
+    let mut buf = [0u8; BATCH];
+    let mut out = [0u8; BATCH];
     write_part(&mut buf, &mut out, fd, k, want)
 }
 
@@ -166,7 +165,11 @@ fn write_batch(fd: i32, k: usize, want: usize) -> Step
 fn next_batch(left: u64) -> usize
     ensures { λ r. ⌜ (r ≤ batchRecords) × (r ≤ left) × (0 < left → 0 < r) ⌝ }
 {
-    if left < 400 { left as usize } else { BATCH }
+    if left < BATCH_SLOTS as u64 {
+        left as usize
+    } else {
+        BATCH_SLOTS
+    }
 }
 
 // Can one more byte be read?

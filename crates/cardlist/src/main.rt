@@ -4,6 +4,8 @@ ghost use Prim.Native.Nat.{_*_, _^_};
 ghost use Rattle.card.specs.Record.{recordSize};
 ghost use Rattle.card.specs.Listing.{mostRecords, start};
 ghost use Rattle.card.specs.Batch.{batchSize, Within, Continues};
+use card::BATCH;
+use card::LISTED_BATCHES;
 use card::Progress;
 use card::Totals;
 use card::text::list_records;
@@ -36,7 +38,7 @@ fn list_batch(s: Progress) -> Turn
     requires { ⌜ Within (2 ^ 62) s ⌝ }
     ensures { λ r. ⌜ Continues batchSize s (r .progress) (r .going) ⌝ }
 {
-    let mut batch = [0u8; 55600];
+    let mut batch = [0u8; BATCH];
     let mut out = [0u8; 33600];
     let input = read_batch(STDIN_FILENO, &mut batch);
     let n = input.count;
@@ -50,7 +52,7 @@ fn list_batch(s: Progress) -> Turn
     let progress = listed.progress;
     Turn {
         progress,
-        going: n == 55600,
+        going: n == BATCH,
         written,
     }
 }
@@ -68,7 +70,7 @@ fn list_batches() -> Turn
         },
     };
     let mut i: u64 = 0;
-    while i < 2500 {
+    while i < LISTED_BATCHES {
         let turn = list_batch(s);
         let progress = turn.progress;
         let going = turn.going;

@@ -4,11 +4,12 @@ ghost use Prim.Native.Nat.{_*_, _^_};
 ghost use Rattle.card.specs.Listing.{start};
 ghost use Rattle.card.specs.Batch.{batchSize, mostBatches, Within, Continues};
 ghost use Rattle.walk.specs.Counting.{CountsCard, Sound};
+use card::BATCH;
+use card::MOST_BATCHES;
 use card::Progress;
 use card::Totals;
 use libc::STDIN_FILENO;
 use libc::STDOUT_FILENO;
-use stream::MOST_BATCHES;
 use stream::read_batch;
 use stream::say;
 use walk::counting::put_restored;
@@ -42,7 +43,7 @@ fn restore_batch(s: Progress) -> Turn
     requires { ⌜ Within (2 ^ 62) s ⌝ }
     ensures { λ r. ⌜ Continues batchSize s (r .progress) (r .going) ⌝ }
 {
-    let mut batch = [0u8; 55600];
+    let mut batch = [0u8; BATCH];
     let input = read_batch(STDIN_FILENO, &mut batch);
     let n = input.count;
     let failed = input.failed;
@@ -53,7 +54,7 @@ fn restore_batch(s: Progress) -> Turn
     let progress = restored.progress;
     Turn {
         progress,
-        going: n == 55600,
+        going: n == BATCH,
         written: restored.written,
     }
 }

@@ -5,7 +5,7 @@ use mathlib.Core.List.{List}
 use Prim.Native.Nat.{ℕ}
 use Rattle.card.specs.Slots.{Came}
 use Rattle.report.specs.Window.{partAdded, reportOf}
-use Rattle.report.specs.declared.window.Window.{Window}
+use Rattle.report.specs.declared.row.Window.{Window}
 
 -- the report has come from `old` to `new` over some bytes, n of them at most, and just n where the card may go on
 abbrev pub Adds : ℕ → Window → List ℕ → List ℕ → Bool → Type 0

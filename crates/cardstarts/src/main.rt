@@ -9,16 +9,18 @@ ghost use Rattle.card.specs.Listing.{mostRecords};
 ghost use Rattle.card.specs.Batch.{batchSize};
 ghost use Rattle.report.specs.Window.{isWindow, noReport, reportSize, Countable};
 ghost use Rattle.cardstarts.specs.Batches.{Adds, Reported};
+use card::BATCH;
+use card::LISTED_BATCHES;
 use libc::STDIN_FILENO;
 use libc::STDOUT_FILENO;
 use report::quarter::Time;
 use report::quarter::quarter;
+use report::row::Window;
+use report::row::is_window;
 use report::table::put_table;
-use report::window::Window;
 use report::window::add_part;
 use report::window::begin;
 use report::window::finish;
-use report::window::is_window;
 use stream::read_batch;
 use stream::say;
 
@@ -32,7 +34,7 @@ fn add_batch(w: Window, report: &mut [u64]) -> bool
     requires { ⌜ (isWindow w ≡ true) × Countable (2 ^ 62) (now report) ⌝ }
     ensures { λ r. ⌜ Adds batchSize w (now (report .entry)) (now (report .exit)) r ⌝ }
 {
-    let mut batch = [0u8; 55600];
+    let mut batch = [0u8; BATCH];
     let input = read_batch(STDIN_FILENO, &mut batch);
     let n = input.count;
     let failed = input.failed;
@@ -40,7 +42,7 @@ fn add_batch(w: Window, report: &mut [u64]) -> bool
         report_read();
     }
     add_part(&batch[..n], w, report);
-    n == 55600
+    n == BATCH
 }
 
 // Adds batch after batch to a report of nothing, until the input ends or 1,000,000 records are looked at.
@@ -49,7 +51,7 @@ fn add_batches(w: Window, report: &mut [u64]) -> bool
     ensures { λ r. ⌜ Adds (mostRecords * recordSize) w noReport (now (report .exit)) r ⌝ }
 {
     let mut i: u64 = 0;
-    while i < 2500 {
+    while i < LISTED_BATCHES {
         let going = add_batch(w, report);
         if !going {
             return false;

@@ -36,8 +36,8 @@ use field::Question;
 use field::Verdict;
 use report::compare::Choice;
 use report::compare::compare_into;
-use report::window::Window;
-use report::window::starts;
+use report::row::Window;
+use report::window::window;
 use sheet::read_sheet;
 use sheet::write_sheet;
 use walk::Walk;
@@ -463,5 +463,5 @@ pub extern "C" fn xrs_window(card: &[u8], first: u8, end: u8, report: &mut [u64]
     ensures written { λ r.
         ⌜ now (report .exit) ≡ windowWritten (windowFrom first end) (now (card .entry)) (now (report .entry)) ⌝ }
 {
-    pack_verdict(starts(card, Window { first, end }, report))
+    pack_verdict(window(card, Window { first, end }, report))
 }

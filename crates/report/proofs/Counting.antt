@@ -19,11 +19,11 @@ use Rattle.code.specs.Demands.{occurs}
 use Rattle.sheet.specs.Sheet.{quarters, yearAt, monthAt, dayAt}
 use Rattle.sheet.specs.Demands.{SheetSymbols}
 use Rattle.report.specs.Window.{isWindow, countsIn, startsSum, fullCount, highestOf, countsOf, earlier, below, leads, peakOf, dateOf, rowAfter, rowWith, reportSize, windowAsked, dayMost, countsWith}
-use Rattle.report.specs.declared.window.Window.{Window}
-use Rattle.report.specs.declared.window.Date.{Date}
-use Rattle.report.specs.declared.window.Peak.{Peak}
-use Rattle.report.specs.declared.window.Row.{Row}
-use Rattle.report.specs.declared.window.Counts.{Counts}
+use Rattle.report.specs.declared.row.Window.{Window}
+use Rattle.report.specs.declared.row.Date.{Date}
+use Rattle.report.specs.declared.row.Peak.{Peak}
+use Rattle.report.specs.declared.row.Row.{Row}
+use Rattle.report.specs.declared.row.Counts.{Counts}
 use Rattle.report.proofs.Comparing.{occurs-step}
 use Rattle.report.proofs.Order.{below-same, below-other}
 
@@ -219,17 +219,17 @@ row-with w r ss c d x ec ed ex = ex ∙ ap₂ (rowAfter r) ec ed
 -- ---- the questions of the call
 
 module _ (w : Window) (n : ℕ) (b : Bool) (eb : b ≡ isWindow w) where
-  pub starts-no-window : not b ≡ true → Refused InWindow ≡ windowAsked w n
+  pub window-none : not b ≡ true → Refused InWindow ≡ windowAsked w n
   unfolding windowAsked
-  starts-no-window t = ap (λ (x : Bool). ask x InWindow (ask (eqb n reportSize) Length Passed)) (sym (not-true b t) ∙ eb)
+  window-none t = ap (λ (x : Bool). ask x InWindow (ask (eqb n reportSize) Length Passed)) (sym (not-true b t) ∙ eb)
 
   module _ (t : not b ≡ false) where
     second : (x : Bool) → eqb n reportSize ≡ x → ask x Length Passed ≡ windowAsked w n
     unfolding windowAsked
     second x e = ap₂ (λ (y z : Bool). ask y InWindow (ask z Length Passed)) (sym (not-false b t) ∙ eb) (sym e)
 
-    pub starts-no-length : (n ≡ reportSize → ⊥) → Refused Length ≡ windowAsked w n
-    starts-no-length h = second false (ne-eqb n reportSize h)
+    pub window-length : (n ≡ reportSize → ⊥) → Refused Length ≡ windowAsked w n
+    window-length h = second false (ne-eqb n reportSize h)
 
-    pub starts-pass : n ≡ reportSize → Passed ≡ windowAsked w n
-    starts-pass h = second true (eq-eqb n reportSize h)
+    pub window-pass : n ≡ reportSize → Passed ≡ windowAsked w n
+    window-pass h = second true (eq-eqb n reportSize h)

@@ -8,7 +8,7 @@ use native.Mathlib.Omega.{arith}
 use borrow.Author.Tests.{eq-eqb, ne-eqb, eqb-true, eqb-false, lt-ltb, le-ltb, ltb-true, ltb-false}
 use lib.Dec.{eqb, ltb}
 use Rattle.report.specs.Window.{below, earlier}
-use Rattle.report.specs.declared.window.Date.{Date}
+use Rattle.report.specs.declared.row.Date.{Date}
 
 -- ---- one number, and then the rest
 

@@ -15,7 +15,7 @@ use Rattle.card.proofs.Writing.{length-decimal, length-one, writes-none, writes
 use Rattle.report.specs.Window.{refusedAt, blankAt, moreAt, rowOf}
 use Rattle.report.specs.Table.{twoDigits, dateText, countFields, rowLine, pumpLine, pumpLines, refusedWord, lastLines}
 use Rattle.report.specs.Table.{longestNumber, longestRow}
-use Rattle.report.specs.declared.window.Row.{Row}
+use Rattle.report.specs.declared.row.Row.{Row}
 
 -- ---- numbers and dates
 

@@ -27,10 +27,10 @@ use Rattle.report.specs.Window.{pumps, rowSize, refusedAt, blankAt, more
 use Rattle.report.specs.Window.{dayAdded, slotAdded, partAdded, goesOn, reportOf, Countable}
 use Rattle.report.specs.Demands.{looked, sheetsBelow, summed, totalOver, ofSheet, ofPump, PumpTotals, oneBlank, oneUnread, oneRefused, noRow, CountAt}
 use Rattle.report.specs.Demands.{Highest}
-use Rattle.report.specs.declared.window.Window.{Window}
-use Rattle.report.specs.declared.window.Date.{Date}
-use Rattle.report.specs.declared.window.Peak.{Peak}
-use Rattle.report.specs.declared.window.Row.{Row}
+use Rattle.report.specs.declared.row.Window.{Window}
+use Rattle.report.specs.declared.row.Date.{Date}
+use Rattle.report.specs.declared.row.Peak.{Peak}
+use Rattle.report.specs.declared.row.Row.{Row}
 use Rattle.report.proofs.Days.{is-sheet}
 use Rattle.report.proofs.Order.{below-means, below-not, earlier-irreflexive, earlier-transitive}
 use Rattle.report.proofs.Counting.{window-first, counts-long, counts-at, highest-all, highest-some}

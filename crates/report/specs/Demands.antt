@@ -22,10 +22,10 @@ use Rattle.report.specs.Window.{isWindow, countsIn, startsSum, fullCount
 use Rattle.report.specs.Window.{rowFrom, rowOf, partAdded, reportOf}
 use Rattle.report.specs.Quarter.{clockText, quarterOf}
 use Rattle.report.specs.declared.quarter.Time.the-variants.{At}
-use Rattle.report.specs.declared.window.Window.{Window}
-use Rattle.report.specs.declared.window.Date.{Date}
-use Rattle.report.specs.declared.window.Peak.{Peak}
-use Rattle.report.specs.declared.window.Row.{Row}
+use Rattle.report.specs.declared.row.Window.{Window}
+use Rattle.report.specs.declared.row.Date.{Date}
+use Rattle.report.specs.declared.row.Peak.{Peak}
+use Rattle.report.specs.declared.row.Row.{Row}
 
 -- ---- two day sheets side by side: record i of the controller's card c, and record j of the cupboard's card d
 

@@ -6,8 +6,8 @@ use lib.Dec.{eqb, ltb}
 use Rattle.code.specs.Word.{at}
 use Rattle.card.specs.Listing.{bytesOf, decimal, space, newline, blankWord, moreLine}
 use Rattle.card.specs.Batch.{longestField}
-use Rattle.report.specs.declared.window.Date.{Date}
-use Rattle.report.specs.declared.window.Row.{Row}
+use Rattle.report.specs.declared.row.Date.{Date}
+use Rattle.report.specs.declared.row.Row.{Row}
 use Rattle.report.specs.Window.{pumps, refusedAt, blankAt, moreAt, rowOf}
 
 -- ---- numbers and dates

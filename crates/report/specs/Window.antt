@@ -17,11 +17,11 @@ use Rattle.card.specs.Slots.{isBlank, overSlots}
 use Rattle.card.specs.Listing.{mostRecords, listedPart}
 use Rattle.sheet.specs.Sheet.{quarters, yearAt, monthAt, dayAt, pumpAt}
 use Rattle.report.specs.Day.{Day, sheet, noSheet, dayOf}
-use Rattle.report.specs.declared.window.Window.{Window}
-use Rattle.report.specs.declared.window.Date.{Date}
-use Rattle.report.specs.declared.window.Peak.{Peak}
-use Rattle.report.specs.declared.window.Row.{Row}
-use Rattle.report.specs.declared.window.Counts.{Counts}
+use Rattle.report.specs.declared.row.Window.{Window}
+use Rattle.report.specs.declared.row.Date.{Date}
+use Rattle.report.specs.declared.row.Peak.{Peak}
+use Rattle.report.specs.declared.row.Row.{Row}
+use Rattle.report.specs.declared.row.Counts.{Counts}
 
 -- ---- the window
 

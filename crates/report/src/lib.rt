@@ -2,5 +2,6 @@
 pub mod compare;
 pub mod day;
 pub mod quarter;
+pub mod row;
 pub mod table;
 pub mod window;

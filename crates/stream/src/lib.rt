@@ -4,9 +4,6 @@ ghost use Prim.Native.Nat.{_≤_};
 ghost use lib.ListN.{length};
 use libc::STDERR_FILENO;
 
-// A loop must end, and no card has so many batches of 400 slots: they would be 3.9 * 10^18 bytes.
-pub const MOST_BATCHES: u64 = 70368744177664;
-
 // How many bytes were read, and whether a read failed.
 pub struct Input {
     pub count: usize,

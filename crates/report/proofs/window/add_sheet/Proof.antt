@@ -6,7 +6,7 @@ use Prim.Native.Nat.{_^_}
 use Rattle.code.specs.Word.{at}
 use Rattle.sheet.specs.Sheet.{pumpAt}
 use Rattle.report.specs.Window.{Most, rowWith, rowOf}
-use Rattle.report.specs.declared.window.Row.{Row}
+use Rattle.report.specs.declared.row.Row.{Row}
 use Rattle.report.proofs.Reports.{pump-small, row-fits, row-most, part-long, row-read, row-written}
 use Rattle.report.proofs.window.add_sheet.Statement.{statement}
 use Rattle.report.proofs.window.add_sheet.Tie as tie

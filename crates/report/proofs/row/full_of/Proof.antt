@@ -1,8 +1,8 @@
--- `report::window::full_of` meets its contract. Assumes nothing.
+-- `report::row::full_of` meets its contract. Assumes nothing.
 use mathlib.Core.Path.{sym}
 use borrow.Author.Tests.{eq-eqb, ne-eqb}
-use Rattle.report.proofs.window.full_of.Statement.{statement}
-use Rattle.report.proofs.window.full_of.Tie as tie
+use Rattle.report.proofs.row.full_of.Statement.{statement}
+use Rattle.report.proofs.row.full_of.Tie as tie
 
 returns : tie.Need-returns
 returns c = simp (eq-eqb 127 _ (sym (c .if1 .taken)))

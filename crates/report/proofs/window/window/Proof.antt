@@ -1,15 +1,15 @@
--- `report::window::starts` meets its contract. Assumes nothing.
+-- `report::window::window` meets its contract. Assumes nothing.
 use borrow.Author.Needs.{needs}
 use Rattle.report.proofs.Reports.{asked-window, asked-size, window-reported, window-refused}
-use Rattle.report.proofs.window.starts.Statement.{statement}
-use Rattle.report.proofs.window.starts.Tie as tie
+use Rattle.report.proofs.window.window.Statement.{statement}
+use Rattle.report.proofs.window.window.Tie as tie
 
 write-report-requires : tie.Need-write-report-requires
 write-report-requires c κs =
     let told = c .before in
     let v = told .before .before in
     let a = v .before .before .before .args in
-    let x = v .ask-starts in (
+    let x = v .ask-window in (
       asked-window (a .w) (a .report .now) (x .result) (x .ensures) (told .enum-told .given .1),
       asked-size (a .w) (a .report .now) (x .result) (x .ensures) (told .enum-told .given .1),
     )
@@ -20,7 +20,7 @@ returns c =
     let told = done .before .before in
     let v = told .before .before in
     let a = v .before .before .before .args in
-    let x = v .ask-starts in
+    let x = v .ask-window in
     window-reported (a .w) (a .report .now) (x .result) (x .ensures) (told .enum-told .given .1) (a .card .now) _ (done .write-report .ensures)
 
 returns-2 : tie.Need-returns-2
@@ -28,11 +28,11 @@ returns-2 c =
     let told = c .before in
     let v = told .before .before in
     let a = v .before .before .before .args in
-    let x = v .ask-starts in
+    let x = v .ask-window in
     window-refused (a .w) (a .report .now) (x .result) (x .ensures) _ (told .q .given .1) (a .card .now)
 
-pub starts-spec : {M : Type 1} → statement M
-starts-spec =
+pub window-spec : {M : Type 1} → statement M
+window-spec =
     tie.close
     (tie.spec
     (λ c κs. search needs)

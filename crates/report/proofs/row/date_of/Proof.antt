@@ -1,8 +1,8 @@
--- `report::window::date_of` meets its contract. Assumes nothing.
+-- `report::row::date_of` meets its contract. Assumes nothing.
 use borrow.Author.Needs.{needs}
 use Rattle.report.proofs.Counting.{date-made}
-use Rattle.report.proofs.window.date_of.Statement.{statement}
-use Rattle.report.proofs.window.date_of.Tie as tie
+use Rattle.report.proofs.row.date_of.Statement.{statement}
+use Rattle.report.proofs.row.date_of.Tie as tie
 
 returns : tie.Need-returns
 returns c =

@@ -1,9 +1,9 @@
--- `report::window::with_sheet` meets its contract. Assumes nothing.
+-- `report::row::with_sheet` meets its contract. Assumes nothing.
 use borrow.Author.Needs.{needs}
 use native.Mathlib.Omega.{arith}
 use Rattle.report.proofs.Counting.{window-first, window-end, counts-long, counts-fit, row-with}
-use Rattle.report.proofs.window.with_sheet.Statement.{statement}
-use Rattle.report.proofs.window.with_sheet.Tie as tie
+use Rattle.report.proofs.row.with_sheet.Statement.{statement}
+use Rattle.report.proofs.row.with_sheet.Tie as tie
 
 sub-counts-of : tie.Need-sub-counts-of
 sub-counts-of c =

@@ -1,11 +1,11 @@
--- `report::window::with_count` meets its contract. Assumes nothing.
+-- `report::row::with_count` meets its contract. Assumes nothing.
 use borrow.Author.Needs.{needs}
 use native.Mathlib.Omega.{arith}
 use lib.Dec.{eqb}
 use Rattle.report.specs.Window.{fullCount}
 use Rattle.report.proofs.Counting.{one-most, counts-made}
-use Rattle.report.proofs.window.with_count.Statement.{statement}
-use Rattle.report.proofs.window.with_count.Tie as tie
+use Rattle.report.proofs.row.with_count.Statement.{statement}
+use Rattle.report.proofs.row.with_count.Tie as tie
 
 add-t4 : tie.Need-add-t4
 add-t4 c = omega (arith, c .before .before .pre .0, c .before .wide .ensures, c .before .before .fits .x)

@@ -1,11 +1,11 @@
--- `report::window::counts_of` meets its contract. Assumes nothing.
+-- `report::row::counts_of` meets its contract. Assumes nothing.
 use borrow.Author.Needs.{needs}
 use native.Mathlib.Omega.{arith}
 use Prim.Native.Nat.{_-_}
 use lib.ListN.{length}
 use Rattle.report.proofs.Counting.{Counted, counted-start, counted-on, counted-end}
-use Rattle.report.proofs.window.counts_of.Statement.{statement}
-use Rattle.report.proofs.window.counts_of.Tie as tie
+use Rattle.report.proofs.row.counts_of.Statement.{statement}
+use Rattle.report.proofs.row.counts_of.Tie as tie
 
 abbrev Inv-loop : tie.InvT-loop
 Inv-loop xs c₀ i₀ c i = Counted xs i c

@@ -1,9 +1,9 @@
--- `report::window::is_earlier` meets its contract. Assumes nothing.
+-- `report::row::is_earlier` meets its contract. Assumes nothing.
 use mathlib.Core.Path.{sym, _∙_}
 use Rattle.report.specs.Window.{earlier}
 use Rattle.report.proofs.Order.{below-same, below-other}
-use Rattle.report.proofs.window.is_earlier.Statement.{statement}
-use Rattle.report.proofs.window.is_earlier.Tie as tie
+use Rattle.report.proofs.row.is_earlier.Statement.{statement}
+use Rattle.report.proofs.row.is_earlier.Tie as tie
 
 returns : tie.Need-returns
 unfolding earlier

@@ -1,8 +1,8 @@
--- `report::window::row_after` meets its contract. Assumes nothing.
+-- `report::row::row_after` meets its contract. Assumes nothing.
 use borrow.Author.Needs.{needs}
 use Rattle.report.proofs.Counting.{row-made}
-use Rattle.report.proofs.window.row_after.Statement.{statement}
-use Rattle.report.proofs.window.row_after.Tie as tie
+use Rattle.report.proofs.row.row_after.Statement.{statement}
+use Rattle.report.proofs.row.row_after.Tie as tie
 
 returns : tie.Need-returns
 returns c =

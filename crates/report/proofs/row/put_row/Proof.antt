@@ -1,10 +1,10 @@
--- `report::window::put_row` meets its contract. Assumes nothing.
+-- `report::row::put_row` meets its contract. Assumes nothing.
 use borrow.Author.Needs.{needs}
 use native.Mathlib.Omega.{arith}
 use lib.ListN.{length-set}
 use Rattle.report.proofs.Reports.{row-stored}
-use Rattle.report.proofs.window.put_row.Statement.{statement}
-use Rattle.report.proofs.window.put_row.Tie as tie
+use Rattle.report.proofs.row.put_row.Statement.{statement}
+use Rattle.report.proofs.row.put_row.Tie as tie
 
 slice-write-xs : tie.Need-slice-write-xs
 slice-write-xs c = omega (arith, c .pre)

@@ -1,9 +1,9 @@
--- `report::window::peak_of` meets its contract. Assumes nothing.
+-- `report::row::peak_of` meets its contract. Assumes nothing.
 use borrow.Author.Needs.{needs}
 use native.Mathlib.Omega.{arith}
 use Rattle.report.proofs.Counting.{peak-first, peak-higher, peak-lower, peak-earlier, peak-later}
-use Rattle.report.proofs.window.peak_of.Statement.{statement}
-use Rattle.report.proofs.window.peak_of.Tie as tie
+use Rattle.report.proofs.row.peak_of.Statement.{statement}
+use Rattle.report.proofs.row.peak_of.Tie as tie
 
 returns : tie.Need-returns
 returns c = let a = c .before .args in peak-first (a .sheets) (a .old) (a .new) (c .if1 .taken)

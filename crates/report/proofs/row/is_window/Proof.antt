@@ -1,8 +1,8 @@
--- `report::window::is_window` meets its contract. Assumes nothing.
+-- `report::row::is_window` meets its contract. Assumes nothing.
 use borrow.Author.Needs.{needs}
 use borrow.Author.Tests.{lt-ltb, le-ltb}
-use Rattle.report.proofs.window.is_window.Statement.{statement}
-use Rattle.report.proofs.window.is_window.Tie as tie
+use Rattle.report.proofs.row.is_window.Statement.{statement}
+use Rattle.report.proofs.row.is_window.Tie as tie
 
 returns : tie.Need-returns
 returns c = simp (lt-ltb _ _ (c .before .if1 .taken))
