@@ -7,7 +7,7 @@ use Rattle.exports.proofs.xrs_window.Tie as tie
 
 returns : tie.Need-returns
 returns c =
-    let l = c .before .before .before .starts .ensures in
+    let l = c .before .before .before .window .ensures in
     (c .pack-verdict .ensures ∙ ap packed (l .answer), l .content)
 
 pub xrs-window-spec : {M : Type 1} → statement M
