@@ -26,7 +26,8 @@ use Rattle.code.proofs.Filling.{agrees-changes}
 use Rattle.code.proofs.Passing.{passes-within}
 use Rattle.code.proofs.Demands.{never-two, accepts}
 use Rattle.card.specs.declared.RestoredCopy.{RestoredCopy}
-use Rattle.card.specs.Record.{erasureBytes, headerSize, recordSize, widthOf, erasuresOf, wordOf, tailOf, allAre, allowedIn, askedIn}
+use Rattle.card.specs.Record.{erasureBytes, recordSize, widthOf, erasuresOf, wordOf, allAre, allowedIn, askedIn}
+use Rattle.card.specs.inner.Parts.{headerSize, tailOf}
 use Rattle.card.specs.Record.{recordAsked, clearRecord, onAccept, recordWithinOf, recordWithinWritten, reachOf, recordOf, recordWritten}
 use Rattle.card.specs.Record.{copyWritten, RestoresCopy}
 use Rattle.card.proofs.Layouts.{Asked, asked}

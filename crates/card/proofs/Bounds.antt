@@ -15,7 +15,7 @@ use Rattle.card.specs.Record.{widthOf, wordOf, erasuresOf, recordAsked, 
 use Rattle.card.specs.Slots.{recordCount, recordAt, isBlank, overFirst}
 use Rattle.card.specs.Listing.{refusalOf, changesOf, lineText, recordLine, blankLine, slotLine, counted, slotFurther, slotTold, untold}
 use Rattle.card.specs.Listing.{partProgress, mostRecords, listedPart, start}
-use Rattle.card.specs.Batch.{longestLine, Within}
+use Rattle.card.specs.inner.Room.{longestLine, Within}
 use Rattle.card.proofs.Writing.{length-decimal}
 
 -- ---- lines

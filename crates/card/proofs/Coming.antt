@@ -14,7 +14,8 @@ use Rattle.card.specs.declared.Progress.{Progress}
 use Rattle.card.specs.Record.{erasureBytes, recordSize}
 use Rattle.card.specs.Slots.{recordCount, overSlots, Came}
 use Rattle.card.specs.Listing.{start}
-use Rattle.card.specs.Batch.{batchRecords, batchSize, mostBatches, Within, Continues}
+use Rattle.card.specs.Batch.{batchRecords, batchSize, mostBatches, Continues}
+use Rattle.card.specs.inner.Room.{Within}
 use Rattle.card.proofs.Folding.{over-none, in-parts}
 use Rattle.card.proofs.Bounds.{progress-within}
 

@@ -11,7 +11,7 @@ use lib.Seq.{take-all, take-at, drop-at, length-take-le, drop-drop}
 use Rattle.card.specs.Record.{headerOf, sizeOf, erasureBytes}
 use Rattle.card.specs.Slots.{slotIn, overFirst}
 use Rattle.card.specs.Conversion.{oldErasureBytes, converted}
-use Rattle.card.specs.Leading.{convertedSlots}
+use Rattle.card.specs.inner.Leading.{convertedSlots}
 use Rattle.card.proofs.Slots.{slot-size}
 use Rattle.card.proofs.Folding.{each-long, each-at}
 

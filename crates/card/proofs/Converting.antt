@@ -19,7 +19,8 @@ use Rattle.code.specs.Call.{written, done}
 use Rattle.card.specs.Record.{sizeOf, hasWidth, fewIn, paddedIn, erasureBytes}
 use Rattle.card.specs.Slots.{slotIn, blankIn, slotCount, overFirst}
 use Rattle.card.specs.Conversion.{oldErasureBytes, convertedCard, lengthsFit, blankOr, everyRecord, atMostFour}
-use Rattle.card.specs.Leading.{convertedSlots, every, cardPasses, verdictAt}
+use Rattle.card.specs.inner.Leading.{convertedSlots, every, cardPasses}
+use Rattle.card.specs.Leading.{verdictAt}
 use Rattle.card.specs.Conversion.{cardAsked, fourAsked, Converts, toNewAsked, toOldAsked}
 use Rattle.card.proofs.Layouts.{asked-late, few-fit}
 use Rattle.card.proofs.Leading.{verdict-card}

@@ -20,7 +20,8 @@ use Rattle.card.specs.declared.parts.Findings.{Findings}
 use Rattle.card.specs.Record.{sizeOf, erasureBytes}
 use Rattle.card.specs.Slots.{slotIn, slotCount, overFirst, appended}
 use Rattle.card.specs.Conversion.{oldErasureBytes, converted, convertedCard, blankOr, atMostFour, cardAsked, fourAsked}
-use Rattle.card.specs.Leading.{convertedSlots, every, leading, answers, slotPasses, cardPasses, verdictAt}
+use Rattle.card.specs.inner.Leading.{convertedSlots, every, cardPasses}
+use Rattle.card.specs.Leading.{leading, answers, slotPasses, verdictAt}
 use Rattle.card.specs.Findings.{nothingFound, slotFound, partFound, foundVerdict, foundNumber, slotAnswer}
 use Rattle.card.specs.Findings.{FoundInParts, NumberIs, ToNewInParts, ToOldInParts}
 use Rattle.card.proofs.Folding.{whole-parts, rest-two, each-front}

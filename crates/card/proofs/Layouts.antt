@@ -17,9 +17,10 @@ use Rattle.field.proofs.Ask.{ask-yes, ask-next, and-true-left, and-true-right}
 use Rattle.code.specs.Word.{places, wordLength}
 use Rattle.code.proofs.Lengths.{width-some, width-none, length-is, places-most}
 use Rattle.card.specs.Record.{headerOf, sizeOf, widthOf, countOf, erasuresOf, unusedIn, allowedIn, allAre, hasWidth, fewIn}
-use Rattle.card.specs.Record.{paddedIn, askedIn}
-use Rattle.card.specs.Record.{erasureBytes, headerSize, recordSize, unusedOf, wordOf, tailOf, recordAsked}
-use Rattle.card.specs.Leading.{leading, recordPasses, verdictAt}
+use Rattle.card.specs.Record.{paddedIn, askedIn, erasureBytes, recordSize, wordOf, recordAsked}
+use Rattle.card.specs.inner.Parts.{headerSize, unusedOf, tailOf}
+use Rattle.card.specs.Leading.{leading, verdictAt}
+use Rattle.card.specs.inner.Leading.{recordPasses}
 
 -- ---- bytes that are all the same
 

@@ -10,7 +10,8 @@ use Rattle.field.specs.declared.Verdict.the-variants.{Passed}
 use Rattle.card.specs.Record.{hasWidth, fewIn, paddedIn}
 use Rattle.card.specs.Slots.{slotIn, blankIn, overFirst}
 use Rattle.card.specs.Conversion.{oldErasureBytes, blankOr, atMostFour}
-use Rattle.card.specs.Leading.{every, leading, recordPasses, slotPasses, cardPasses, verdictAt}
+use Rattle.card.specs.inner.Leading.{every, recordPasses, cardPasses}
+use Rattle.card.specs.Leading.{leading, slotPasses, verdictAt}
 use Rattle.card.proofs.Layouts.{verdict-asked}
 
 -- ---- a slot; b is what `is_blank` says of it

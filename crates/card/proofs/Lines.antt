@@ -15,7 +15,8 @@ use Rattle.card.specs.Record.{erasureBytes, recordSize, recordOf}
 use Rattle.card.specs.Slots.{recordCount, recordAt, isBlank, overFirst, overSlots}
 use Rattle.card.specs.Listing.{lineText, refusalOf, changesOf, recordLine, blankLine, slotLine, counted, slotCounted, slotFurther}
 use Rattle.card.specs.Listing.{Told, slotTold, untold, partLines, partProgress, totalLine, moreLine, mostRecords, start, listing}
-use Rattle.card.specs.Batch.{further, ListsSlots}
+use Rattle.card.specs.inner.Room.{further}
+use Rattle.card.specs.Batch.{ListsSlots}
 use Rattle.card.proofs.Slots.{slot-front, slot-behind}
 use Rattle.card.proofs.Folding.{over-more, over-map, in-parts}
 use Rattle.card.proofs.Writing.{writes-none, writes-on}

@@ -17,9 +17,9 @@ use Rattle.code.specs.declared.Repair.{Repair}
 use Rattle.code.specs.declared.Repair.the-variants.{Restored, Refused}
 use Rattle.code.proofs.Lengths.{places-most}
 use Rattle.code.proofs.Demands.{accepts, refused-unchanged}
-use Rattle.card.specs.Record.{erasureBytes, headerSize, recordSize, widthOf, countOf, wordOf, tailOf, erasuresOf, recordAsked, clearRecord, onAccept}
+use Rattle.card.specs.Record.{erasureBytes, recordSize, widthOf, countOf, wordOf, erasuresOf, recordAsked, clearRecord, onAccept, RestoresCopy}
+use Rattle.card.specs.inner.Parts.{headerSize, tailOf, noCopy}
 use Rattle.card.specs.Record.{recordWithinOf, recordWithinWritten, RestoresRecordWithin, reachOf, recordOf, recordWritten, RestoresRecord, copyWritten}
-use Rattle.card.specs.Record.{noCopy, RestoresCopy}
 use Rattle.card.specs.declared.RestoredCopy.{RestoredCopy}
 use Rattle.card.proofs.Layouts.{Asked, asked, all-replicate, length-no, word-part, erasures-part}
 

@@ -16,7 +16,8 @@ use Rattle.code.specs.Word.{places}
 use Rattle.code.specs.Erasure.{distinct, symbolsFrom}
 use Rattle.code.specs.Near.{radius, Restoration, none, one, several, restoration}
 use Rattle.code.specs.Call.{maxErasures, restoreAsked, followed, withinAsked, decided, withinOf}
-use Rattle.card.specs.Record.{erasureBytes, recordSize, widthOf, countOf, erasuresOf, unusedOf, wordOf, tailOf, allAre, allowedIn, askedIn}
+use Rattle.card.specs.Record.{erasureBytes, recordSize, widthOf, countOf, erasuresOf, wordOf, allAre, allowedIn, askedIn}
+use Rattle.card.specs.inner.Parts.{unusedOf, tailOf}
 use Rattle.card.specs.Record.{recordWithinOf, reachOf, recordOf}
 
 abbrev Low : Outcome → Type 0

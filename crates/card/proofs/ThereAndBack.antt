@@ -19,7 +19,7 @@ use Rattle.code.specs.Call.{written, done}
 use Rattle.card.specs.Record.{sizeOf, hasWidth, fewIn, paddedIn, erasureBytes}
 use Rattle.card.specs.Slots.{slotIn, slotCount, overFirst}
 use Rattle.card.specs.Conversion.{oldErasureBytes, converted, convertedCard, lengthsFit, blankOr, everyRecord, atMostFour}
-use Rattle.card.specs.Leading.{convertedSlots, every}
+use Rattle.card.specs.inner.Leading.{convertedSlots, every}
 use Rattle.card.specs.Conversion.{cardAsked, fourAsked, toNewAsked, toNewOf, toNewWritten, toOldAsked, toOldOf, toOldWritten}
 use Rattle.card.specs.Conversion.{ThereAndBack, BackAndThere, SameSlot, SameSlots, NewSame, OldSame}
 use Rattle.card.proofs.Slots.{slot-size}

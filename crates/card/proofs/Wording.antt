@@ -6,7 +6,8 @@ use native.Mathlib.Omega.{arith}
 use lib.ListN.{length}
 use Rattle.field.specs.Question.{refusal}
 use Rattle.field.specs.declared.Question.{Question}
-use Rattle.card.specs.Words.{words, longestWords}
+use Rattle.card.specs.Words.{words}
+use Rattle.card.specs.inner.Room.{longestWords}
 use Rattle.card.specs.Placed.{Writes}
 
 -- the words xs of the question v are written, and v was asked for

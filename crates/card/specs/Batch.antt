@@ -2,26 +2,13 @@
 use mathlib.Core.Path.{_≡_}
 use mathlib.Core.Bool.{Bool}
 use mathlib.Core.List.{List}
-use Prim.Native.Nat.{ℕ, _+_, _*_, _^_, _≤_}
-use Rattle.card.specs.declared.Totals.{Totals}
+use Prim.Native.Nat.{ℕ, _*_, _^_}
 use Rattle.card.specs.declared.Progress.{Progress}
 use Rattle.card.specs.declared.text.Listed.{Listed}
 use Rattle.card.specs.Record.{recordSize}
 use Rattle.card.specs.Slots.{Came}
 use Rattle.card.specs.Listing.{partProgress}
 use Rattle.card.specs.Placed.{Writes}
-
--- a number has at most 20 digits; with the byte behind it, it is a field of a line
-abbrev pub longestField : ℕ
-longestField = 21
-
--- the line of a record has four fields; that of a blank slot is shorter
-abbrev pub longestLine : ℕ
-longestLine = 4 * longestField
-
--- the last line has a word of five letters, a space and three fields
-abbrev pub longestTotal : ℕ
-longestTotal = 6 + 3 * longestField
 
 -- a batch has at most so many slots
 abbrev pub batchRecords : ℕ
@@ -34,17 +21,6 @@ batchSize = batchRecords * recordSize
 -- and no card has more batches: a program's loop over them must end
 abbrev pub mostBatches : ℕ
 mostBatches = 2 ^ 46
-
--- no number of the progress is above b
-pub record Within (b : ℕ) (s : Progress) : Type 0 where
-  pub next : s .next ≤ b
-  pub accepted : s .totals .accepted ≤ b
-  pub refused : s .totals .refused ≤ b
-  pub changed : s .totals .changed ≤ b
-
--- one slot further, with these totals
-abbrev pub further : Progress → Totals → Progress
-further s t = record { next = s .next + 1; totals = t }
 
 -- the text xs is written behind what is used of the buffer, and the listing has come to s
 pub record ListsSlots (used : ℕ) (xs : List ℕ) (s : Progress) (old : List ℕ) (r : Listed) (new : List ℕ) : Type 0 where

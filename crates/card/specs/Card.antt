@@ -4,10 +4,10 @@ use mathlib.Core.Bool.{Bool, true, false, cond, _&&_, _||_}
 use mathlib.Core.List.{List}
 use Prim.Native.Nat.{ℕ, _+_, _-_, _≤_, _<_}
 use lib.Dec.{leb}
-use lib.ListN.{length, take, drop}
-use denote.Ref.{RefT, now}
+use lib.ListN.{length}
+use denote.Ref.{RefT}
 use Rattle.field.specs.Question.{Outcome, accepted, refused}
-use Rattle.card.specs.Record.{recordSize, recordOf}
+use Rattle.card.specs.Record.{recordOf}
 use Rattle.card.specs.Slots.{recordCount, recordAt, isBlank, overSlots}
 use Rattle.card.specs.declared.CardCheck.{CardCheck}
 use Rattle.card.specs.declared.CardCheck.the-variants.{AllAccepted, Refused}
@@ -16,11 +16,6 @@ use Rattle.card.specs.declared.CardCheck.the-variants.{AllAccepted, Refu
 pub record LiesAt (card : RefT (List ℕ)) (a : ℕ) (r : RefT (List ℕ)) : Type 0 where
   pub block : r .ptr .0 ≡ card .ptr .0
   pub place : r .ptr .1 ≡ card .ptr .1 + a
-
--- the slot of today's edition that begins at byte a of the lent card: its bytes, where they lie
-pub record SlotFrom (card : RefT (List ℕ)) (a : ℕ) (r : RefT (List ℕ)) : Type 0 where
-  pub bytes : now r ≡ take recordSize (drop a (now card))
-  pub lies : LiesAt card a r
 
 -- is the number 1 to n?
 unfoldable pub isNumber : ℕ → ℕ → Bool

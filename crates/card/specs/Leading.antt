@@ -3,13 +3,11 @@
 use mathlib.Core.Bool.{Bool, true, false}
 use mathlib.Core.List.{List, [], _∷_}
 use Prim.Native.Nat.{ℕ, zero, suc}
-use lib.Dec.{leb}
 use Rattle.field.specs.declared.Question.the-variants.{Width, ErasureCount, Padding, FourErasures}
 use Rattle.field.specs.declared.Verdict.{Verdict}
 use Rattle.field.specs.declared.Verdict.the-variants.{Passed, Refused}
-use Rattle.card.specs.Record.{countOf, hasWidth, fewIn, paddedIn}
-use Rattle.card.specs.Slots.{overFirst, appended}
-use Rattle.card.specs.Conversion.{converted, blankOr, alsoTo, atMostFour}
+use Rattle.card.specs.Record.{hasWidth, fewIn, paddedIn}
+use Rattle.card.specs.Conversion.{blankOr, atMostFour}
 
 -- the number of yeses before the first no
 abbrev pub leading : List Bool → ℕ
@@ -21,21 +19,9 @@ leading (false ∷ bs) = 0
 abbrev pub answers : ℕ → (List ℕ → Bool) → ((List ℕ → Bool) → Bool) → List Bool
 answers k last put = put hasWidth ∷ put (fewIn k) ∷ put (paddedIn k) ∷ put last ∷ []
 
--- to a record; the last one allows so many erasures
-unfoldable pub recordPasses : ℕ → ℕ → List ℕ → ℕ
-recordPasses k most r = leading (answers k (λ s. leb (countOf s) most) (λ p. p r))
-
 -- to a slot; the last one is question 15
 unfoldable pub slotPasses : ℕ → List ℕ → ℕ
 slotPasses k slot = leading (answers k atMostFour (λ p. blankOr k p slot))
-
--- a question, put to the first n slots of a card
-abbrev pub every : ℕ → (List ℕ → Bool) → List ℕ → ℕ → Bool
-every k p card n = overFirst k (alsoTo k p) true card n
-
--- the four questions, put to them
-unfoldable pub cardPasses : ℕ → List ℕ → ℕ → ℕ
-cardPasses k card n = leading (answers k atMostFour (λ p. every k p card n))
 
 -- the verdict where so many are passed
 abbrev pub verdictAt : ℕ → Verdict
@@ -44,8 +30,3 @@ verdictAt (suc zero) = Refused ErasureCount
 verdictAt (suc (suc zero)) = Refused Padding
 verdictAt (suc (suc (suc zero))) = Refused FourErasures
 verdictAt (suc (suc (suc (suc n)))) = Passed
-
--- ---- what is written of the first n slots, where records have j erasure bytes in the output
-
-abbrev pub convertedSlots : ℕ → ℕ → List ℕ → ℕ → List ℕ
-convertedSlots k j card n = overFirst k (appended (converted k j)) [] card n

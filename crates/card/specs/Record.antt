@@ -1,12 +1,11 @@
 -- A record: width, number of erasures, erasures, symbols, and zeros up to the record's length. Assumes nothing.
 use mathlib.Core.Path.{_≡_}
-use mathlib.Core.Bool.{Bool, true, cond, _&&_}
+use mathlib.Core.Bool.{Bool, true, _&&_}
 use mathlib.Core.List.{List, [], _∷_, _++_}
 use Prim.Native.Nat.{ℕ, _+_, _-_, min}
 use lib.Dec.{eqb, leb}
 use lib.ListN.{length, getD, take, drop, replicate}
 use Rattle.field.specs.Question.{Outcome, accepted, refused, ask, after, isWidth}
-use Rattle.field.specs.declared.Question.{Question}
 use Rattle.field.specs.declared.Question.the-variants.{Width, Length, ErasureCount, Padding}
 use Rattle.field.specs.declared.Verdict.{Verdict}
 use Rattle.field.specs.declared.Verdict.the-variants.{Passed}
@@ -14,7 +13,6 @@ use Rattle.code.specs.Word.{places, longest}
 use Rattle.code.specs.Near.{radius}
 use Rattle.code.specs.Call.{maxErasures, withinOf, withinWritten, repair}
 use Rattle.code.specs.declared.Repair.{Repair}
-use Rattle.code.specs.declared.Repair.the-variants.{Refused}
 use Rattle.card.specs.declared.RestoredCopy.{RestoredCopy}
 
 -- ---- the layout, with k erasure bytes, document 01's mark bytes
@@ -86,20 +84,11 @@ askedIn k r =
 abbrev pub erasureBytes : ℕ
 erasureBytes = 5
 
-abbrev pub headerSize : ℕ
-headerSize = headerOf erasureBytes
-
 abbrev pub recordSize : ℕ
 recordSize = sizeOf erasureBytes
 
-abbrev pub unusedOf : List ℕ → List ℕ
-unusedOf r = unusedIn erasureBytes r
-
 abbrev pub wordOf : List ℕ → List ℕ
 wordOf r = wordIn erasureBytes r
-
-abbrev pub tailOf : List ℕ → List ℕ
-tailOf r = tailIn erasureBytes r
 
 -- ---- restoring a record with a reach: its own questions, then those that are put to its word
 
@@ -156,10 +145,6 @@ pub record RestoresRecord (old : List ℕ) (r : Repair) (new : List ℕ) : Type 
 -- the copy: the record after the call, and zeros where it is refused
 unfoldable pub copyWritten : List ℕ → List ℕ
 copyWritten r = onAccept (recordOf r) (replicate recordSize 0) (recordWritten r)
-
--- the answer and the copy of a record that is refused
-abbrev pub noCopy : Question → RestoredCopy
-noCopy q = record { answer = Refused q; bytes = replicate recordSize 0 }
 
 -- what restored_copy gives
 pub record RestoresCopy (r : List ℕ) (x : RestoredCopy) : Type 0 where

@@ -1,9 +1,8 @@
 -- Refusals in plain words, and the line that names a refused record. Assumes nothing.
 use mathlib.Core.List.{List, [], _∷_, _++_}
-use Prim.Native.Nat.{ℕ, _+_, _*_}
+use Prim.Native.Nat.{ℕ}
 use lib.ListN.{getD}
 use Rattle.card.specs.Listing.{bytesOf, decimal, space, newline}
-use Rattle.card.specs.Batch.{longestField}
 
 -- the refusals, in the order of their numbers; 0 is none
 unfoldable pub words : ℕ → List ℕ
@@ -34,14 +33,6 @@ words n =
     ∷ [])
     n []
 
--- no refusal has more letters
-abbrev pub longestWords : ℕ
-longestWords = 62
-
 -- the line that names a refused record: its number, its refusal number, and the words
 abbrev pub refusalLine : ℕ → ℕ → List ℕ
 refusalLine n r = decimal n ++ (space ∷ decimal r ++ (space ∷ words r ++ (newline ∷ [])))
-
--- two fields, the words and the end of the line
-abbrev pub longestRefusal : ℕ
-longestRefusal = 2 * longestField + longestWords + 1

@@ -5,7 +5,7 @@ ghost use Rattle.card.specs.Record.{recordOf};
 ghost use Rattle.card.specs.Card.{searched};
 ghost use Rattle.card.specs.Batch.{batchSize};
 ghost use Rattle.card.specs.Placed.{Writes};
-ghost use Rattle.card.specs.Words.{longestRefusal};
+ghost use Rattle.card.specs.inner.Room.{longestRefusal};
 ghost use Rattle.card.specs.Checked.{outcomeLine, Finds};
 use crate::CardCheck;
 use crate::cards::check;

@@ -7,7 +7,8 @@ ghost use Rattle.card.specs.Listing.{decimal, lineText, blankLine, total
 ghost use Rattle.card.specs.Listing.{counted, slotFurther, partLines, partProgress};
 ghost use Rattle.code.specs.Call.{repair};
 ghost use Rattle.card.specs.Record.{recordOf};
-ghost use Rattle.card.specs.Batch.{longestField, longestLine, longestTotal, batchRecords, batchSize, Within, further, ListsSlots};
+ghost use Rattle.card.specs.inner.Room.{longestField, longestLine, longestTotal, Within, further};
+ghost use Rattle.card.specs.Batch.{batchRecords, batchSize, ListsSlots};
 ghost use Rattle.card.specs.Placed.{Writes};
 use crate::Progress;
 use crate::Totals;

@@ -2,7 +2,8 @@
 ghost use Prim.Native.Nat.{_+_, _≤_};
 ghost use lib.ListN.{length};
 ghost use Rattle.field.specs.Question.{refusal};
-ghost use Rattle.card.specs.Words.{words, longestWords, refusalLine, longestRefusal};
+ghost use Rattle.card.specs.Words.{words, refusalLine};
+ghost use Rattle.card.specs.inner.Room.{longestWords, longestRefusal};
 ghost use Rattle.card.specs.Placed.{Writes};
 use crate::text::put_byte;
 use crate::text::put_bytes;

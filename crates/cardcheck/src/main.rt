@@ -2,7 +2,7 @@
 // words for it. The check and its line are the card crate's; here the card is read batch by batch, and the line is written.
 ghost use Prim.Native.Nat.{_^_, _≤_};
 ghost use lib.ListN.{length};
-ghost use Rattle.card.specs.Words.{longestRefusal};
+ghost use Rattle.card.specs.inner.Room.{longestRefusal};
 ghost use Rattle.card.specs.Checked.{FindsBatch, FindsSome, Says};
 use card::BATCH;
 use card::BATCH_SLOTS;

@@ -3,7 +3,8 @@
 ghost use Prim.Native.Nat.{_*_, _^_};
 ghost use Rattle.card.specs.Record.{recordSize};
 ghost use Rattle.card.specs.Listing.{mostRecords, start};
-ghost use Rattle.card.specs.Batch.{batchSize, Within, Continues};
+ghost use Rattle.card.specs.Batch.{batchSize, Continues};
+ghost use Rattle.card.specs.inner.Room.{Within};
 use card::BATCH;
 use card::LISTED_BATCHES;
 use card::Progress;

@@ -2,8 +2,10 @@
 // and its counts are the walk crate's; here the card is read, restored and written batch by batch.
 ghost use Prim.Native.Nat.{_*_, _^_};
 ghost use Rattle.card.specs.Listing.{start};
-ghost use Rattle.card.specs.Batch.{batchSize, mostBatches, Within, Continues};
-ghost use Rattle.walk.specs.Counting.{CountsCard, Sound};
+ghost use Rattle.card.specs.Batch.{batchSize, mostBatches, Continues};
+ghost use Rattle.card.specs.inner.Room.{Within};
+ghost use Rattle.walk.specs.Counting.{CountsCard};
+ghost use Rattle.walk.specs.inner.Parts.{Sound};
 use card::BATCH;
 use card::MOST_BATCHES;
 use card::Progress;

@@ -12,10 +12,10 @@ use Rattle.card.specs.Record.{recordSize}
 use Rattle.card.specs.Slots.{recordCount}
 use Rattle.card.specs.Listing.{mostRecords}
 use Rattle.card.specs.Batch.{batchRecords, batchSize}
-use Rattle.report.specs.Window.{isWindow, noReport, partAdded, finished, reportSize, dayMost, Countable}
+use Rattle.report.specs.Window.{isWindow, noReport, partAdded, finished, reportSize}
+use Rattle.report.specs.inner.Room.{dayMost, Countable}
 use Rattle.report.specs.declared.row.Window.{Window}
-use Rattle.report.proofs.Reports.{zeros-countable, slots-countable, countable-more}
-use Rattle.report.proofs.Reports.{report-short, report-long, report-countable}
+use Rattle.report.proofs.Reports.{zeros-countable, slots-countable, countable-more, report-short, report-long, report-countable}
 use Rattle.cardstarts.specs.Batches.{Adds, Reported}
 
 -- behind i whole batches

@@ -25,9 +25,9 @@ use Rattle.dock.specs.declared.Rewrites.{Rewrites}
 use Rattle.dock.specs.declared.Served.{Served}
 use Rattle.dock.specs.declared.Reach.{Reach}
 use Rattle.dock.specs.declared.Reach.the-variants.{Longest, Named}
-use Rattle.dock.specs.Dock.{bays, anyLeft, spent, answerAt, contentAt, RestoresAt, Call, callOn, answerOf, contentOf}
+use Rattle.dock.specs.Dock.{bays, anyLeft, spent, answerAt, contentAt, Call, callOn, answerOf, contentOf, callOf, callWritten, callLeft, Serves}
+use Rattle.dock.specs.inner.Parts.{RestoresAt, Settles}
 use Rattle.dock.specs.Dock.{same, allowed, remaining, granted, leftOn}
-use Rattle.dock.specs.Dock.{callOf, callWritten, callLeft, Serves, Settles}
 use Rattle.dock.specs.Demands.{AsWithout, RefusedStays, UnlessDenied}
 
 -- ---- the same bytes

@@ -9,7 +9,6 @@ use Rattle.field.specs.Question.{Outcome, accepted, refused, ask, after}
 use Rattle.field.specs.declared.Question.the-variants.{Bay, Rewrite}
 use Rattle.field.specs.declared.Verdict.the-variants.{Passed}
 use Rattle.code.specs.Call.{repair}
-use Rattle.code.specs.declared.Repair.{Repair}
 use Rattle.card.specs.Record.{recordWithinOf, recordWithinWritten, recordOf, onAccept, recordWritten}
 use Rattle.dock.specs.declared.Reach.{Reach}
 use Rattle.dock.specs.declared.Reach.the-variants.{Longest, Named}
@@ -60,11 +59,6 @@ answerAt (Named reach) r = recordWithinOf r reach
 abbrev pub contentAt : Reach → List ℕ → List ℕ
 contentAt Longest r = recordWritten r
 contentAt (Named reach) r = recordWithinWritten r reach
-
--- what restoring does
-pub record RestoresAt (reach : Reach) (old : List ℕ) (r : Repair) (new : List ℕ) : Type 0 where
-  pub answer : repair r ≡ answerAt reach old
-  pub content : new ≡ contentAt reach old
 
 -- the bay, the reach, and the record as it is lent
 pub record Call : Type 0 where
@@ -124,9 +118,3 @@ pub record Serves (left : Rewrites) (c : Call) (s : Served) (new : List ℕ) : T
   pub answer : repair (s .answer) ≡ callOf left c
   pub rest : s .left ≡ callLeft left c
   pub content : new ≡ callWritten left c
-
--- the same for a bay that passed and a restoring that was accepted with k changes and gives `new`
-pub record Settles (left : Rewrites) (bay k : ℕ) (old new : List ℕ) (s : Served) (final : List ℕ) : Type 0 where
-  pub answer : repair (s .answer) ≡ granted (accepted k) (allowed left bay old new)
-  pub rest : s .left ≡ leftOn (granted (accepted k) (allowed left bay old new)) left (remaining left bay old new)
-  pub content : final ≡ onAccept (granted (accepted k) (allowed left bay old new)) old new

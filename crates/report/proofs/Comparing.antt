@@ -24,9 +24,10 @@ use Rattle.code.specs.declared.Repair.the-variants.{Restored, Refused as Refuse
 use Rattle.card.specs.Record.{onAccept}
 use Rattle.sheet.specs.Sheet.{quarters, yearAt, monthAt, dayAt, pumpAt, sheetSize}
 use Rattle.sheet.proofs.Asking.{after-accepted}
-use Rattle.report.specs.Day.{hasRecord, slotOf, SlotPart, sheet, dayOf, answered, dayIn, daySymbols, TellsDay}
-use Rattle.report.specs.Compare.{signOf, signsOf, sheetSigns, sameDay, chosenOf, comparedOf, choice, refusedComparison, Shows}
-use Rattle.report.specs.Compare.{numbersAsked, symbolsAt, compareOf, Compares, partOf, PartFrom, HandsBack, intoAsked, intoOf, ComparesInto}
+use Rattle.report.specs.Day.{hasRecord, slotOf, sheet, dayOf, daySymbols}
+use Rattle.report.specs.inner.Parts.{SlotPart, answered, dayIn, TellsDay, refusedComparison, PartFrom}
+use Rattle.report.specs.Compare.{signOf, signsOf, sheetSigns, sameDay, chosenOf, comparedOf, choice, Shows}
+use Rattle.report.specs.Compare.{numbersAsked, symbolsAt, compareOf, Compares, partOf, HandsBack, intoAsked, intoOf, ComparesInto}
 use Rattle.report.specs.declared.day.Reading.{Reading}
 use Rattle.report.specs.declared.compare.Choice.{Choice}
 use Rattle.report.specs.declared.compare.Choice.the-variants.{Controller, Cupboard, Refused}

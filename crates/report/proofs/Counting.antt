@@ -18,7 +18,8 @@ use Rattle.code.specs.Word.{at}
 use Rattle.code.specs.Demands.{occurs}
 use Rattle.sheet.specs.Sheet.{quarters, yearAt, monthAt, dayAt}
 use Rattle.sheet.specs.Demands.{SheetSymbols}
-use Rattle.report.specs.Window.{isWindow, countsIn, startsSum, fullCount, highestOf, countsOf, earlier, below, leads, peakOf, dateOf, rowAfter, rowWith, reportSize, windowAsked, dayMost, countsWith}
+use Rattle.report.specs.Window.{isWindow, countsIn, startsSum, fullCount, highestOf, countsOf, earlier, below, leads, peakOf, dateOf, rowAfter, rowWith, reportSize, windowAsked}
+use Rattle.report.specs.inner.Room.{dayMost, countsWith}
 use Rattle.report.specs.declared.row.Window.{Window}
 use Rattle.report.specs.declared.row.Date.{Date}
 use Rattle.report.specs.declared.row.Peak.{Peak}

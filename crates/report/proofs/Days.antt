@@ -16,7 +16,8 @@ use Rattle.code.specs.declared.Repair.{Repair}
 use Rattle.code.specs.declared.Repair.the-variants.{Restored, Refused as RefusedRepair}
 use Rattle.code.proofs.Lengths.{length-is, places-most}
 use Rattle.code.proofs.Demands.{accepts}
-use Rattle.card.specs.Record.{headerSize, recordSize, widthOf, wordOf, erasuresOf, recordAsked, reachOf, clearRecord, onAccept, recordOf, copyWritten}
+use Rattle.card.specs.inner.Parts.{headerSize}
+use Rattle.card.specs.Record.{recordSize, widthOf, wordOf, erasuresOf, recordAsked, reachOf, clearRecord, onAccept, recordOf, copyWritten}
 use Rattle.card.specs.Record.{recordWithinOf, recordWithinWritten, recordWritten}
 use Rattle.card.specs.Slots.{recordAt}
 use Rattle.card.proofs.Layouts.{asked}
@@ -26,7 +27,8 @@ use Rattle.sheet.specs.Call.{contentAsked, readSheetAsked}
 use Rattle.sheet.specs.Demands.{SheetSymbols}
 use Rattle.sheet.proofs.Asking.{after-accepted}
 use Rattle.sheet.proofs.Sheets.{codeword-content, read-means, read-symbols}
-use Rattle.report.specs.Day.{hasRecord, slotOf, Day, sheet, noSheet, readDay, restoredDay, copyDay, dayOf, answered, daySymbols, TellsDay, Whole}
+use Rattle.report.specs.Day.{hasRecord, slotOf, Day, sheet, noSheet, readDay, restoredDay, copyDay, dayOf, daySymbols}
+use Rattle.report.specs.inner.Parts.{answered, TellsDay, Whole}
 use Rattle.report.specs.declared.day.Reading.{Reading}
 
 -- ---- slots by number

@@ -26,7 +26,8 @@ use Rattle.sheet.specs.Demands.{SheetSymbols}
 use Rattle.report.specs.Day.{Day, sheet, noSheet, dayOf}
 use Rattle.report.specs.Window.{isWindow, countsIn, highestOf, countsOf, dateOf, leads, rowWith}
 use Rattle.report.specs.Window.{pumps, rowSize, refusedAt, blankAt, moreAt, reportSize, rowFrom, rowNumbers, rowOf, withRow, oneMore, noReport}
-use Rattle.report.specs.Window.{dayAdded, slotAdded, partAdded, finished, goesOn, reportOf, windowAsked, ReportsWindow, AllWithin, Countable, Most, dayMost}
+use Rattle.report.specs.Window.{dayAdded, slotAdded, partAdded, finished, goesOn, reportOf, windowAsked, ReportsWindow}
+use Rattle.report.specs.inner.Room.{AllWithin, Countable, Most, dayMost}
 use Rattle.report.specs.declared.row.Window.{Window}
 use Rattle.report.specs.declared.row.Peak.{Peak}
 use Rattle.report.specs.declared.row.Row.{Row}

@@ -14,7 +14,7 @@ use Rattle.card.specs.Placed.{Writes}
 use Rattle.card.proofs.Writing.{length-decimal, length-one, writes-none, writes-on}
 use Rattle.report.specs.Window.{refusedAt, blankAt, moreAt, rowOf}
 use Rattle.report.specs.Table.{twoDigits, dateText, countFields, rowLine, pumpLine, pumpLines, refusedWord, lastLines}
-use Rattle.report.specs.Table.{longestNumber, longestRow}
+use Rattle.report.specs.inner.Room.{longestNumber, longestRow}
 use Rattle.report.specs.declared.row.Row.{Row}
 
 -- ---- numbers and dates

@@ -24,7 +24,8 @@ use Rattle.sheet.specs.Sheet.{pumpAt}
 use Rattle.report.specs.Day.{Day, sheet, noSheet, dayOf}
 use Rattle.report.specs.Window.{isWindow, countsIn, startsSum, fullCount, highestOf, countsOf, dateOf, below, earlier, leads, peakOf, rowWith}
 use Rattle.report.specs.Window.{pumps, rowSize, refusedAt, blankAt, moreAt, reportSize, rowFrom, rowOf, withRow, oneMore, noReport}
-use Rattle.report.specs.Window.{dayAdded, slotAdded, partAdded, goesOn, reportOf, Countable}
+use Rattle.report.specs.Window.{dayAdded, slotAdded, partAdded, goesOn, reportOf}
+use Rattle.report.specs.inner.Room.{Countable}
 use Rattle.report.specs.Demands.{looked, sheetsBelow, summed, totalOver, ofSheet, ofPump, PumpTotals, oneBlank, oneUnread, oneRefused, noRow, CountAt}
 use Rattle.report.specs.Demands.{Highest}
 use Rattle.report.specs.declared.row.Window.{Window}

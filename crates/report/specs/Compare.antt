@@ -1,13 +1,12 @@
 -- Two day sheets set side by side, the controller's and the meter cupboard's. Assumes nothing.
 use mathlib.Core.Path.{_≡_}
-use mathlib.Core.Bool.{Bool, true, cond, _&&_}
+use mathlib.Core.Bool.{Bool, cond, _&&_}
 use mathlib.Core.List.{List, [], _∷_}
 use Prim.Native.Nat.{ℕ, _-_, _*_}
 use lib.Dec.{eqb, leb, ltb}
 use lib.ListN.{length, take, replicate}
 use denote.Ref.{RefT, now}
 use Rattle.field.specs.Question.{Outcome, accepted, refused, refusal, ask, after}
-use Rattle.field.specs.declared.Question.{Question}
 use Rattle.field.specs.declared.Question.the-variants.{Length, RecordNumber, SameDay}
 use Rattle.field.specs.declared.Verdict.{Verdict}
 use Rattle.field.specs.declared.Verdict.the-variants.{Passed}
@@ -74,10 +73,6 @@ choice Controller = accepted 1
 choice Cupboard = accepted 2
 choice (Refused q) = refused (refusal q)
 
--- a refusal: every number is 0
-abbrev pub refusedComparison : Question → Comparison
-refusedComparison q = record { choice = Refused q; signs = replicate quarters 0; equal = 0; controller = 0; cupboard = 0 }
-
 -- the comparison shows this outcome of the sheets ss and ts
 pub record Shows (o : Outcome) (ss ts : List ℕ) (x : Comparison) : Type 0 where
   pub answer : choice (x .choice) ≡ o
@@ -121,12 +116,6 @@ partOf (refused n) a b = []
 -- the chosen record's slot, as it stands on its card
 abbrev pub comparePart : List ℕ → ℕ → List ℕ → ℕ → List ℕ
 comparePart c i d j = partOf (compareOf c i d j) (slotOf c i) (slotOf d j)
-
--- the part r of the outcome o is a slot of the lent cards x and y: its bytes, and where they lie on the card that was chosen
-pub record PartFrom (o : Outcome) (x : RefT (List ℕ)) (i : ℕ) (y : RefT (List ℕ)) (j : ℕ) (r : RefT (List ℕ)) : Type 0 where
-  pub bytes : now r ≡ partOf o (slotOf (now x) i) (slotOf (now y) j)
-  pub controller : o ≡ accepted 1 → hasRecord (now x) i ≡ true → LiesAt x ((i - 1) * recordSize) r
-  pub cupboard : o ≡ accepted 2 → hasRecord (now y) j ≡ true → LiesAt y ((j - 1) * recordSize) r
 
 -- the promise of compare_sheets: the part handed back has the chosen slot's bytes, and lies where the slot lies on its card
 pub record HandsBack (x : RefT (List ℕ)) (i : ℕ) (y : RefT (List ℕ)) (j : ℕ) (r : RefT (List ℕ)) : Type 0 where

@@ -5,3 +5,4 @@ pub mod Window  -- a window, the counts of a sheet in it, the report as a fold o
 pub mod Table  -- the report as text
 pub mod Quarter  -- the two texts of a quarter hour
 pub mod Demands  -- what is asked of comparisons, of a report, of dates and of a quarter hour's texts
+pub mod inner  -- vocabulary of inner functions, which no contract of a call, demand or stated theorem cites

@@ -5,7 +5,7 @@ use Prim.Native.Nat.{ℕ, zero, suc, _+_, _*_, _/_, _%_}
 use lib.Dec.{eqb}
 use Rattle.card.specs.Listing.{decimal}
 use Rattle.sheet.specs.Sheet.{quarters}
-use Rattle.report.specs.Table.{twoDigits, longestNumber}
+use Rattle.report.specs.Table.{twoDigits}
 use Rattle.report.specs.declared.quarter.Time.{Time}
 use Rattle.report.specs.declared.quarter.Time.the-variants.{At, Bad}
 
@@ -15,9 +15,6 @@ colon = 58
 -- the time at which quarter hour n begins, hh:mm; that of 96 is 24:00
 unfoldable pub clockText : ℕ → List ℕ
 clockText n = twoDigits (n / 4) ++ (colon ∷ twoDigits (n % 4 * 15))
-
-abbrev pub longestClock : ℕ
-longestClock = 1 + 2 * longestNumber
 
 unfoldable pub sameText : List ℕ → List ℕ → Bool
 sameText [] [] = true

@@ -1,11 +1,10 @@
 -- The text of a report as a table, for people and for awk. Assumes nothing.
 use mathlib.Core.Bool.{cond}
 use mathlib.Core.List.{List, [], _∷_, _++_}
-use Prim.Native.Nat.{ℕ, zero, suc, _+_, _*_}
+use Prim.Native.Nat.{ℕ, zero, suc, _+_}
 use lib.Dec.{eqb, ltb}
 use Rattle.code.specs.Word.{at}
 use Rattle.card.specs.Listing.{bytesOf, decimal, space, newline, blankWord, moreLine}
-use Rattle.card.specs.Batch.{longestField}
 use Rattle.report.specs.declared.row.Date.{Date}
 use Rattle.report.specs.declared.row.Row.{Row}
 use Rattle.report.specs.Window.{pumps, refusedAt, blankAt, moreAt, rowOf}
@@ -73,29 +72,3 @@ lastLines report =
 -- the whole table
 unfoldable pub tableText : List ℕ → List ℕ
 tableText report = headerLine ++ (pumpLines report pumps ++ lastLines report)
-
--- ---- how long they are
-
--- a number, which has at most 20 digits
-abbrev pub longestNumber : ℕ
-longestNumber = 20
-
--- a date is three numbers with two hyphens
-abbrev pub longestDate : ℕ
-longestDate = 2 + 3 * longestNumber
-
--- the first five columns of a line
-abbrev pub longestCounts : ℕ
-longestCounts = 5 * longestField
-
--- a line: these, a date with a space, and two fields
-abbrev pub longestRow : ℕ
-longestRow = longestCounts + (longestDate + 1) + 2 * longestField
-
--- two words with their fields, and the line "more"
-abbrev pub longestLast : ℕ
-longestLast = (8 + longestField) + (6 + longestField) + 5
-
--- the whole table
-abbrev pub longestTable : ℕ
-longestTable = 56 + pumps * longestRow + longestLast

@@ -2,7 +2,7 @@
 use mathlib.Core.Path.{_≡_}
 use mathlib.Core.Bool.{Bool, cond, _&&_, _||_}
 use mathlib.Core.List.{List, [], _∷_, _++_}
-use Prim.Native.Nat.{ℕ, _+_, _-_, _*_, _/_, _%_, _≤_, max}
+use Prim.Native.Nat.{ℕ, _+_, _-_, _*_, _/_, _%_, max}
 use lib.Dec.{eqb, leb, ltb}
 use lib.ListN.{length, set, take, drop, replicate}
 use Rattle.field.specs.Question.{Outcome, ask}
@@ -188,32 +188,7 @@ windowOf w report = done (windowAsked w (length report))
 abbrev pub windowWritten : Window → List ℕ → List ℕ → List ℕ
 windowWritten w card report = written (windowAsked w (length report)) report (reportOf w card)
 
--- the call's promise: what starts answers and leaves in the report
+-- the call's promise: what it answers and leaves in the report
 pub record ReportsWindow (w : Window) (card old : List ℕ) (v : Verdict) (new : List ℕ) : Type 0 where
   pub answer : done v ≡ windowOf w old
   pub content : new ≡ windowWritten w card old
-
--- ---- what the functions below it ask of a report, so that no sum overflows
-
--- no number is above b
-abbrev pub AllWithin : ℕ → List ℕ → Type 0
-AllWithin b [] = Unit
-AllWithin b (x ∷ xs) = (x ≤ b) × AllWithin b xs
-
-pub record Countable (b : ℕ) (report : List ℕ) : Type 0 where
-  pub size : length report ≡ reportSize
-  pub within : AllWithin b report
-
--- a slot adds no more than this to a number: 96 counts of 127
-abbrev pub dayMost : ℕ
-dayMost = quarters * fullCount
-
--- the numbers of a row that a sheet adds to are at most b
-pub record Most (b : ℕ) (r : Row) : Type 0 where
-  pub sheets : r .sheets ≤ b
-  pub sum : r .sum ≤ b
-  pub full : r .full ≤ b
-
--- with one more count
-abbrev pub countsWith : Counts → ℕ → Counts
-countsWith c x = record { sum = c .sum + x; full = c .full + cond (eqb fullCount x) 1 0; highest = max (c .highest) x }

@@ -1,6 +1,7 @@
 // The slots of a card by their numbers, and a record read as a day sheet.
 ghost use mathlib.Core.Path.{_≡_};
-ghost use Rattle.report.specs.Day.{hasRecord, SlotPart, Whole, restoredDay, dayOf, TellsDay};
+ghost use Rattle.report.specs.Day.{hasRecord, restoredDay, dayOf};
+ghost use Rattle.report.specs.inner.Parts.{SlotPart, Whole, TellsDay};
 use card::cards::is_number;
 use card::cards::record_count;
 use card::cards::record_from;

@@ -3,9 +3,9 @@
 ghost use Prim.Native.Nat.{_+_, _*_, _^_, _≤_, _<_};
 ghost use lib.ListN.{length};
 ghost use Rattle.card.specs.Placed.{Writes};
-ghost use Rattle.report.specs.Window.{pumps, Countable};
+ghost use Rattle.report.specs.Window.{pumps};
+ghost use Rattle.report.specs.inner.Room.{Countable, longestNumber, longestDate, longestCounts, longestRow, longestLast, longestTable};
 ghost use Rattle.report.specs.Table.{twoDigits, dateText, countFields, rowLine, pumpLine, pumpLines, lastLines, tableText};
-ghost use Rattle.report.specs.Table.{longestNumber, longestDate, longestCounts, longestRow, longestLast, longestTable};
 use crate::row::Date;
 use crate::row::ROW;
 use crate::row::Row;

@@ -19,7 +19,8 @@ use Rattle.code.specs.Call.{repair}
 use Rattle.code.specs.declared.Repair.{Repair}
 use Rattle.code.specs.declared.Repair.the-variants.{Restored, Refused as RefusedRepair}
 use Rattle.card.specs.declared.RestoredCopy.{RestoredCopy}
-use Rattle.card.specs.Record.{headerSize, recordSize, wordOf, recordOf, onAccept, recordWritten, RestoresCopy}
+use Rattle.card.specs.inner.Parts.{headerSize}
+use Rattle.card.specs.Record.{recordSize, wordOf, recordOf, onAccept, recordWritten, RestoresCopy}
 use Rattle.card.specs.Slots.{recordCount, recordAt}
 use Rattle.card.specs.Card.{isNumber, recordNumbered}
 use Rattle.card.proofs.Recording.{copy-accepted}
@@ -27,7 +28,8 @@ use Rattle.card.proofs.Again.{refused-stays, accepted-whole, restored-again, re
 use Rattle.walk.specs.declared.Walk.{Walk}
 use Rattle.walk.specs.Restored.{restoredCard, slotsFrom, restoredFrom}
 use Rattle.walk.specs.Walk.{stepAsked, stepCount, stepWritten, afterSteps, afterStates}
-use Rattle.walk.specs.Look.{lookSize, inRow, lookSymbols, uncounted, ShowsRecord, lookAsked, lookOf, lookWritten, Looks}
+use Rattle.walk.specs.Look.{lookSize, inRow, lookSymbols, uncounted, lookAsked, lookOf, lookWritten, Looks}
+use Rattle.walk.specs.inner.Parts.{ShowsRecord}
 use Rattle.walk.specs.Demands.{Tells, LookBetween, LookAmong}
 use Rattle.card.proofs.Lines.{record-front, record-behind}
 use Rattle.card.proofs.Numbering.{number-yes, number-low, number-high}

@@ -16,7 +16,7 @@ use Rattle.card.specs.declared.Progress.{Progress}
 use Rattle.card.specs.Record.{erasureBytes, recordSize, recordOf, recordWritten, RestoresRecord}
 use Rattle.card.specs.Slots.{recordCount, recordAt, isBlank, overFirst}
 use Rattle.card.specs.Listing.{counted, slotFurther, partProgress, start}
-use Rattle.card.specs.Batch.{further, Within}
+use Rattle.card.specs.inner.Room.{further, Within}
 use Rattle.card.proofs.Blank.{blank-refused}
 use Rattle.card.proofs.Bounds.{progress-within}
 use Rattle.card.proofs.Checking.{last-piece, whole-piece}
@@ -25,7 +25,8 @@ use Rattle.walk.specs.declared.Walk.{Walk}
 use Rattle.walk.specs.declared.counting.Counted.{Counted}
 use Rattle.walk.specs.Restored.{slotsFrom, restoredFrom}
 use Rattle.walk.specs.Walk.{stepRecords, walkAt, begun, stepAsked, stepCount}
-use Rattle.walk.specs.Counting.{CountsSlot, CountsFrom, CountsCard, progressAfter, stepProgress, StepsCounting, blankCounted, Sound, SlotsCounted}
+use Rattle.walk.specs.inner.Parts.{CountsSlot, CountsFrom, Sound}
+use Rattle.walk.specs.Counting.{CountsCard, progressAfter, stepProgress, StepsCounting, blankCounted, SlotsCounted}
 use Rattle.walk.proofs.Restoring.{card-one, from-size, from-none, from-all, from-rest, from-on, slots-all, slots-more}
 use Rattle.walk.proofs.Walking.{step-passed, going-count, steps-refused, steps-passed, state-by, card-by}
 

@@ -3,29 +3,18 @@
 use mathlib.Core.Path.{_≡_}
 use mathlib.Core.Bool.{cond}
 use mathlib.Core.List.{List, [], _∷_, _++_}
-use Prim.Native.Nat.{ℕ, _+_, _-_, _*_, _≤_}
+use Prim.Native.Nat.{ℕ, _+_, _-_, _*_}
 use lib.ListN.{length}
 use Rattle.field.specs.declared.Verdict.{Verdict}
 use Rattle.field.specs.declared.Verdict.the-variants.{Passed, Refused}
 use Rattle.card.specs.declared.Progress.{Progress}
-use Rattle.card.specs.Record.{recordSize, recordWritten}
+use Rattle.card.specs.Record.{recordSize}
 use Rattle.card.specs.Slots.{recordCount, isBlank, overSlots}
-use Rattle.card.specs.Listing.{bytesOf, decimal, newline, slotFurther, partProgress, start}
-use Rattle.card.specs.Batch.{longestField}
+use Rattle.card.specs.Listing.{bytesOf, decimal, newline, partProgress, start}
 use Rattle.walk.specs.declared.Walk.{Walk}
 use Rattle.walk.specs.declared.counting.Counted.{Counted}
-use Rattle.walk.specs.Restored.{slotsFrom, restoredFrom, restoredCard}
+use Rattle.walk.specs.Restored.{slotsFrom, restoredCard}
 use Rattle.walk.specs.Walk.{stepAsked, stepCount, Steps}
-
--- a slot is restored in its place and counted
-pub record CountsSlot (s : Progress) (old : List ℕ) (r : Progress) (new : List ℕ) : Type 0 where
-  pub content : new ≡ recordWritten old
-  pub progress : r ≡ slotFurther s old
-
--- so are the k slots behind the first i
-pub record CountsFrom (i k : ℕ) (s : Progress) (old : List ℕ) (r : Progress) (new : List ℕ) : Type 0 where
-  pub content : new ≡ restoredFrom i k old
-  pub progress : r ≡ partProgress s (slotsFrom i k old)
 
 -- so is a card
 pub record CountsCard (s : Progress) (old : List ℕ) (r : Progress) (new : List ℕ) : Type 0 where
@@ -61,10 +50,6 @@ blanksOf card = overSlots blankCounted 0 card
 abbrev pub blanksCounted : Progress → ℕ
 blanksCounted s = s .next - 1 - s .totals .accepted - s .totals .refused
 
--- no more records are counted than slots
-abbrev pub Sound : Progress → Type 0
-Sound s = s .totals .accepted + s .totals .refused + 1 ≤ s .next
-
 -- ---- the last line of a program that restores: records restored, places changed, records refused, blank slots
 
 abbrev pub comma : ℕ
@@ -76,10 +61,6 @@ restoredLine s =
     ∷ bytesOf " changed " ++ (decimal (s .totals .changed) ++ (comma
     ∷ bytesOf " refused " ++ (decimal (s .totals .refused) ++ (comma
     ∷ bytesOf " blank " ++ (decimal (blanksCounted s) ++ (newline ∷ []))))))))
-
--- four words, of 34 letters with the spaces, and four fields
-abbrev pub longestRestored : ℕ
-longestRestored = 34 + 4 * longestField
 
 -- ---- what is asked of them; proofs/Tallying.antt proves it
 

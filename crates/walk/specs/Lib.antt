@@ -4,3 +4,4 @@ pub mod Walk  -- a step (`Steps`), steps one after the other, over other cards, 
 pub mod Look  -- a look at a record, with a lent row (`Looks`) or one by value (`LooksAt`)
 pub mod Counting  -- a walk that counts as a listing does, and its last line
 pub mod Demands  -- what is asked of walks and looks
+pub mod inner  -- vocabulary of inner functions, which no contract of a call, demand or stated theorem cites

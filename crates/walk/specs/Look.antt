@@ -32,11 +32,6 @@ abbrev pub uncounted : Outcome → Outcome
 uncounted (accepted k) = accepted 0
 uncounted (refused n) = refused n
 
--- what a look at one record answers and leaves in the row
-pub record ShowsRecord (r old : List ℕ) (v : Verdict) (new : List ℕ) : Type 0 where
-  pub answer : done v ≡ uncounted (recordOf r)
-  pub symbols : new ≡ onAccept (recordOf r) old (lookSymbols r)
-
 -- the record's number is asked first, 1 to N on a card of n bytes; then the length of the row, which has room for m symbols
 unfoldable pub lookAsked : ℕ → ℕ → ℕ → Verdict
 lookAsked n number m = ask (isNumber (recordCount n) number) RecordNumber (ask (eqb m lookSize) Length Passed)

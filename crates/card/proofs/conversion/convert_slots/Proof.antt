@@ -7,7 +7,7 @@ use native.Mathlib.Omega.{arith}
 use lib.ListN.{length, drop}
 use Rattle.card.specs.Record.{sizeOf}
 use Rattle.card.specs.Conversion.{converted}
-use Rattle.card.specs.Leading.{convertedSlots}
+use Rattle.card.specs.inner.Leading.{convertedSlots}
 use Rattle.card.proofs.Slots.{slot-size, slot-room, slot-part}
 use Rattle.card.proofs.Converted.{converted-size, converted-start, converted-on, converted-end}
 use Rattle.card.proofs.conversion.convert_slots.Statement.{statement}

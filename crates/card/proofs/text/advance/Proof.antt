@@ -4,7 +4,7 @@ use mathlib.Core.Path.{sym, ap}
 use Rattle.code.specs.Call.{repair}
 use Rattle.code.specs.declared.Repair.{Repair}
 use Rattle.card.specs.Listing.{counted}
-use Rattle.card.specs.Batch.{further}
+use Rattle.card.specs.inner.Room.{further}
 use Rattle.card.proofs.text.advance.Statement.{statement}
 use Rattle.card.proofs.text.advance.Tie as tie
 

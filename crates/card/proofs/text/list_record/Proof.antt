@@ -3,7 +3,7 @@ use borrow.Author.Needs.{needs}
 use mathlib.Core.Path.{_∙_, ap}
 use Rattle.field.specs.Question.{Outcome}
 use Rattle.card.specs.Listing.{counted}
-use Rattle.card.specs.Batch.{further}
+use Rattle.card.specs.inner.Room.{further}
 use Rattle.card.proofs.Lines.{line-answered}
 use Rattle.card.proofs.text.list_record.Statement.{statement}
 use Rattle.card.proofs.text.list_record.Tie as tie

@@ -39,7 +39,8 @@ use denote.Triple.Table.{entered, cited}
 use denote.Triple.Walked.{says, Stays, stay-none, stay-none-slice, walkOf, goes-none, goes-none-slice, Walks, ends-at, walked, walk-meets}
 use denote.Exit.{yes}
 use denote.Triple.Clauses.{ensured, lasts}
-use Rattle.report.specs.Compare.{choice, Compares, PartFrom}
+use Rattle.report.specs.Compare.{choice, Compares}
+use Rattle.report.specs.inner.Parts.{PartFrom}
 use Rattle.report.specs.declared.compare.Compared.{Compared}
 use Rattle.report.specs.declared.compare.Comparison.{Comparison}
 use Rattle.report.proofs.Comparing.{handed-back}

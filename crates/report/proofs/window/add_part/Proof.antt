@@ -7,7 +7,8 @@ use lib.ListN.{length}
 use Rattle.card.specs.Record.{erasureBytes}
 use Rattle.card.specs.Slots.{recordCount}
 use Rattle.card.proofs.Folding.{over-none, over-on}
-use Rattle.report.specs.Window.{slotAdded, Countable, dayMost}
+use Rattle.report.specs.Window.{slotAdded}
+use Rattle.report.specs.inner.Room.{Countable, dayMost}
 use Rattle.report.proofs.Reports.{slotsAdded, slots-countable, countable-more}
 use Rattle.report.proofs.window.add_part.Statement.{statement}
 use Rattle.report.proofs.window.add_part.Tie as tie

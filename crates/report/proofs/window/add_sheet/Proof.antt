@@ -5,7 +5,8 @@ use native.Mathlib.Omega.{arith}
 use Prim.Native.Nat.{_^_}
 use Rattle.code.specs.Word.{at}
 use Rattle.sheet.specs.Sheet.{pumpAt}
-use Rattle.report.specs.Window.{Most, rowWith, rowOf}
+use Rattle.report.specs.inner.Room.{Most}
+use Rattle.report.specs.Window.{rowWith, rowOf}
 use Rattle.report.specs.declared.row.Row.{Row}
 use Rattle.report.proofs.Reports.{pump-small, row-fits, row-most, part-long, row-read, row-written}
 use Rattle.report.proofs.window.add_sheet.Statement.{statement}

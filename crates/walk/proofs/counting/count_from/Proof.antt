@@ -4,7 +4,7 @@ use mathlib.Core.Path.{_≡_, refl}
 use Prim.Native.Nat.{_-_, _*_, _^_, _≤_}
 use native.Mathlib.Omega.{arith}
 use lib.ListN.{length}
-use Rattle.walk.specs.Counting.{CountsFrom}
+use Rattle.walk.specs.inner.Parts.{CountsFrom}
 use Rattle.walk.proofs.Tallying.{counts-none, counts-within, counts-on, counts-end}
 use Rattle.walk.proofs.counting.count_from.Statement.{statement}
 use Rattle.walk.proofs.counting.count_from.Tie as tie
