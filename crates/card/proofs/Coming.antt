@@ -21,11 +21,11 @@ use Rattle.card.proofs.Bounds.{progress-within}
 
 module _ {A : Type 0} (over : A → List ℕ → A) where
   -- before the first batch
-  pub came-start : (n : ℕ) (s : A) → s ≡ over s [] → Came over (0 * n) s s true
+  abbrev pub came-start : (n : ℕ) (s : A) → s ≡ over s [] → Came over (0 * n) s s true
   came-start n s e = record { bytes = []; content = e; most = omega arith; full = λ t. sym (zero-mul n) }
 
   -- the bytes of one batch
-  pub came-batch : (s u : A) (bytes : List ℕ) (n m : ℕ) → u ≡ over s bytes → length bytes ≡ n → n ≤ m → Came over m s u (eqb n m)
+  abbrev pub came-batch : (s u : A) (bytes : List ℕ) (n m : ℕ) → u ≡ over s bytes → length bytes ≡ n → n ≤ m → Came over m s u (eqb n m)
   came-batch s u bytes n m e l h = record { bytes = bytes; content = e; most = omega arith; full = λ t. l ∙ eqb-true n m t }
 
   -- behind i whole batches, and one more

@@ -38,7 +38,7 @@ module _ (count : ℕ) (a b : List ℕ) (h : count ≤ length a) where
 pub asks-batch : (k : ℕ) (s u : Findings) (bytes : List ℕ) (size n : ℕ) → size ≡ sizeOf k → u ≡ partFound k s bytes → length bytes ≡ n
     → n ≤ batchRecords * size → Asks k (batch k) s u (n % size) (eqb n (batchRecords * size))
 asks-batch k s u bytes size n e f l h =
-    subst (λ (m : ℕ). Asks k (batchRecords * m) s u (n % m) (eqb n (batchRecords * m))) (sym e)
+    subst (λ (m : ℕ). Asks k (batch k) s u (n % m) (eqb n (batchRecords * m))) (sym e)
     (record {
       came = came-batch (partFound k) s u bytes n (batch k) f l (subst (λ (m : ℕ). n ≤ batchRecords * m) e h);
       left = ap (λ (x : ℕ). x % sizeOf k) (sym l);

@@ -10,7 +10,7 @@ restore-batches-requires c κs = search needs
 report-requires : tie.Need-report-requires
 report-requires c κs =
     let x = c .before .before .restore-batches .ensures in
-    counts-sound (x .bytes) _ (x .progress)
+    counts-sound (x .bytes) _ (x .content)
 
 slice-aggregate-say : tie.Need-slice-aggregate-say
 slice-aggregate-say c = search needs
