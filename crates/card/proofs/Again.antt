@@ -22,8 +22,8 @@ use Rattle.code.specs.Call.{maxErasures, restoreAsked, withinOf, withinWritten}
 use Rattle.code.specs.Demands.{Passes, PassesWithin, Nearest}
 use Rattle.code.proofs.Questions.{symbols-holds}
 use Rattle.code.proofs.Lengths.{places-most}
-use Rattle.code.proofs.Filling.{agrees-changes}
-use Rattle.code.proofs.Passing.{passes-within}
+use Rattle.code.proofs.restoring.Filling.{agrees-changes}
+use Rattle.code.proofs.calls.Passing.{passes-within}
 use Rattle.code.proofs.Demands.{never-two, accepts}
 use Rattle.card.specs.declared.RestoredCopy.{RestoredCopy}
 use Rattle.card.specs.Record.{erasureBytes, recordSize, widthOf, erasuresOf, wordOf, allAre, allowedIn, askedIn}

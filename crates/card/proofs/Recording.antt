@@ -10,7 +10,8 @@ use Rattle.field.specs.declared.Question.{Question}
 use Rattle.field.specs.declared.Question.the-variants.{Length}
 use Rattle.field.specs.declared.Verdict.{Verdict}
 use Rattle.field.specs.declared.Verdict.the-variants.{Passed, Refused as RefusedBy}
-use Rattle.code.specs.Word.{places, longest, wordLength}
+use Rattle.code.specs.Word.{places, longest}
+use Rattle.code.specs.inner.Call.{wordLength}
 use Rattle.code.specs.Near.{radius}
 use Rattle.code.specs.Call.{withinOf, withinWritten, repair, RestoresWithin}
 use Rattle.code.specs.declared.Repair.{Repair}

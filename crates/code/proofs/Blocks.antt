@@ -8,10 +8,10 @@ use native.Mathlib.Omega.{arith}
 use lib.Bits.{bitAnd, bitOr, or-add-and, or-lt, and-le-l, and-le-r}
 use lib.ListN.{length}
 use Rattle.field.specs.Sum.{at}
-use Rattle.field.specs.Lanes.{Block}
+use Rattle.field.specs.inner.Lanes.{Block}
 use Rattle.field.proofs.Packing.{lanes-and, lanes-zero, lanes-same}
 use Rattle.field.proofs.Lanewise.{ones, mask}
-use Rattle.code.specs.Block.{Run}
+use Rattle.code.specs.inner.Block.{Run}
 
 -- equal numbers have equal bytes
 pub block-same : (xs ys : List ℕ) (i a b : ℕ) → Block 8 xs i a → Block 8 ys i b → a ≡ b → (j : ℕ) → j < 8 → at xs (i + j) ≡ at ys (i + j)

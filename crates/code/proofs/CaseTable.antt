@@ -26,10 +26,10 @@ use Rattle.code.specs.Call.{written, done, zeroSyndromes, restoreAsked}
 use Rattle.code.specs.Demands.{Data, PassesWithin}
 use Rattle.code.specs.Cases.{Case, encoding, restoring, codeword, Holds, Table}
 use Rattle.code.proofs.Columns.{combine}
-use Rattle.code.specs.Correction.{Lent}
-use Rattle.code.proofs.Filling.{Each, Solution, codeword-solution}
-use Rattle.code.proofs.Extra.{Falling, Beside, within-beside, wrong}
-use Rattle.code.proofs.Passing.{syndromes-zero, encode-passes, given, within-passes, passes-radius}
+use Rattle.code.specs.inner.Correction.{Lent}
+use Rattle.code.proofs.restoring.Filling.{Each, Solution, codeword-solution}
+use Rattle.code.proofs.restoring.Extra.{Falling, Beside, within-beside, wrong}
+use Rattle.code.proofs.calls.Passing.{syndromes-zero, encode-passes, given, within-passes, passes-radius}
 use Rattle.code.proofs.Demands.{never-two, accepts, refuses-seven, refused-unchanged}
 
 and-three : (a b c : Bool) → T (a && (b && c)) → T a × T b × T c

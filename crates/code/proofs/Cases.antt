@@ -3,13 +3,13 @@
 use mathlib.Core.List.{List, [], _∷_, _++_}
 use native.Mathlib.Omega.{arith}
 use lib.Dec.{T, lit<}
-use Rattle.field.specs.Field.{arithmetic}
+use Rattle.field.specs.inner.Operand.{arithmetic}
 use Rattle.code.specs.Word.{sum, at, Codeword}
-use Rattle.code.specs.Place.{column}
+use Rattle.code.specs.inner.Place.{column}
 use Rattle.code.specs.Erasure.{total}
 use Rattle.code.specs.Call.{zeroSyndromes, restoreAsked}
 use Rattle.code.specs.Cases.{Case, starred, fiveErasures, fourSymbols, widthFour, cases, Table}
-use Rattle.code.proofs.DistanceLaw.{Distance}
+use Rattle.code.proofs.distance.DistanceLaw.{Distance}
 use Rattle.code.proofs.Columns.{combine}
 use Rattle.code.proofs.CaseTable.{table?, table-of, codeword-of}
 use Rattle.code.proofs.FiveErasures.{five-hold}

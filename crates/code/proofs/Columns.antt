@@ -15,7 +15,7 @@ use Rattle.field.proofs.Laws.{IsField}
 use Rattle.field.proofs.Below.{below-head, below-tail}
 use Rattle.field.proofs.Sums.{sum-cong, sum-split, sum-zero, sum-change}
 use Rattle.code.specs.Word.{checks, places, items, sum, syndrome}
-use Rattle.code.specs.Place.{column}
+use Rattle.code.specs.inner.Place.{column}
 use Rattle.code.specs.Erasure.{member, distinct, masked}
 use Rattle.code.proofs.Algebra.{add-cancel}
 use Rattle.code.proofs.Members.{distinct-head, distinct-tail}

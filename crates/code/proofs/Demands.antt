@@ -11,13 +11,14 @@ use Rattle.field.specs.declared.Verdict.{Verdict}
 use Rattle.field.proofs.Widths.{field-of}
 use Rattle.field.proofs.Evaluation.{five-cong}
 use Rattle.code.specs.Word.{places, at, syndrome, Codeword, encode, dataOf}
-use Rattle.code.specs.Erasure.{syndromesOf}
-use Rattle.code.specs.Call.{written, done, withinWritten, shown, allZero, zeroSyndromes, encodeOf, encodeWritten, testOf}
+use Rattle.code.specs.Erasure.{syndromesWithout}
+use Rattle.code.specs.Call.{written, done, withinWritten, shown, allZero, zeroSyndromes, encodeOf, encodeWritten, isCodewordOf}
 use Rattle.code.specs.Demands.{Data, EncoderMakes, EncoderMade, ReadBack, TestsCodeword, Radii, NeverTwo, Accepts, RefusesSeven, RefusesFourteen, FewErasures}
-use Rattle.code.specs.Demands.{AsEarlier, LongerReach, ShorterReach, RefusedUnchanged, FewChanged, SameRestored, MethodsAgree, DisplaysPlain, DisplaysZero, SameDisplayed}
-use Rattle.code.proofs.Encoding.{encode-codeword, encode-data, codeword-data, codeword-encode}
-use Rattle.code.proofs.Passing.{encode-passes, read-passes, test-codeword, zero-syndromes, five-zero, given, within-passes}
-use Rattle.code.proofs.Restoring as Restoring
+use Rattle.code.specs.Demands.{AsEarlier, LongerReach, ShorterReach, RefusedUnchanged, FewChanged, SameRestored, MethodsAgree, GivesPlain}
+use Rattle.code.specs.Demands.{GivesZero, SameGiven}
+use Rattle.code.proofs.calls.Encoding.{encode-codeword, encode-data, codeword-data, codeword-encode}
+use Rattle.code.proofs.calls.Passing.{encode-passes, read-passes, test-codeword, zero-syndromes, five-zero, given, within-passes}
+use Rattle.code.proofs.restoring.Restoring as Restoring
 
 -- ---- demand 2
 
@@ -56,7 +57,7 @@ judged false o e i = (
 )
 
 pub tests-codeword : TestsCodeword
-tests-codeword m w p = judged (zeroSyndromes m w) (testOf m w)
+tests-codeword m w p = judged (zeroSyndromes m w) (isCodewordOf m w)
     (ap (λ (v : Verdict). after v (accepted (cond (zeroSyndromes m w) 1 0))) p)
     (test-codeword m w p, λ C. zero-syndromes m w (C .zero-syndromes))
 
@@ -108,20 +109,20 @@ methods-agree m w es reach a b u v A B = (A .answer ∙ sym (B .answer), A .word
 
 -- ---- the display of the syndromes
 
-pub displays-plain : DisplaysPlain
-displays-plain m w p = ap (λ (v : Verdict). shown v (syndromesOf m [] w)) p
+pub gives-plain : GivesPlain
+gives-plain m w p = ap (λ (v : Verdict). shown v (syndromesWithout m [] w)) p
 
-pub displays-zero : DisplaysZero
-displays-zero m w p = (
+pub gives-zero : GivesZero
+gives-zero m w p = (
   λ e.
       let g = given m w [] p in
       record {
         size = g .lent .size;
         symbols = λ i h. g .lent .symbols i h refl;
-        zero-syndromes = five-zero (syndrome m (at w)) (ap allZero (sym (displays-plain m w p) ∙ e));
+        zero-syndromes = five-zero (syndrome m (at w)) (ap allZero (sym (gives-plain m w p) ∙ e));
       },
-  λ C. displays-plain m w p ∙ five-cong _ (λ k. 0) (C .zero-syndromes),
+  λ C. gives-plain m w p ∙ five-cong _ (λ k. 0) (C .zero-syndromes),
 )
 
-pub same-displayed : SameDisplayed
-same-displayed = Restoring.same-displayed
+pub same-given : SameGiven
+same-given = Restoring.same-given

@@ -9,25 +9,26 @@ use lib.Dec.{T, leb, leb→le}
 use lib.ListN.{length, length-drop}
 use lib.Seq.{getD-drop, ext-getD}
 use Rattle.field.specs.Polynomial.{add}
-use Rattle.field.specs.Field.{product, arithmetic}
+use Rattle.field.specs.Field.{product}
+use Rattle.field.specs.inner.Operand.{arithmetic}
 use Rattle.field.specs.Question.{accepted}
 use Rattle.field.proofs.Laws.{IsField}
 use Rattle.field.proofs.Check.{and-left, and-right}
 use Rattle.field.proofs.Widths.{field-of}
 use Rattle.field.proofs.Sums.{sum-cong, sum-add, sum-times, sum-zero}
 use Rattle.code.specs.Word.{checks, at, sum, encode, dataOf}
-use Rattle.code.specs.Place.{column}
+use Rattle.code.specs.inner.Place.{column}
 use Rattle.code.specs.Erasure.{member, total, changes, maskedSyndrome}
 use Rattle.code.specs.Near.{radius, Near}
 use Rattle.code.specs.Call.{zeroSyndromes, restoreAsked}
 use Rattle.code.specs.Demands.{PassesWithin}
 use Rattle.code.specs.Cases.{restoring, refusing, zeros, wordC, word, symbols, _but_is_, fiveErasures, Holds, Table}
 use Rattle.code.proofs.Columns.{combine}
-use Rattle.code.proofs.Filling.{codeword-solution}
-use Rattle.code.proofs.Extra.{within-agrees}
-use Rattle.code.proofs.Encoding.{codeword-encode}
-use Rattle.code.proofs.Passing.{passes-radius}
-use Rattle.code.proofs.Restoring.{G}
+use Rattle.code.proofs.restoring.Filling.{codeword-solution}
+use Rattle.code.proofs.restoring.Extra.{within-agrees}
+use Rattle.code.proofs.calls.Encoding.{codeword-encode}
+use Rattle.code.proofs.calls.Passing.{passes-radius}
+use Rattle.code.proofs.restoring.Restoring.{G}
 use Rattle.code.proofs.Demands.{accepts, refuses-seven, refuses-fourteen, refused-unchanged}
 use Rattle.code.proofs.CaseTable.{passed?, passed-of, codeword?, codeword-of}
 

@@ -5,10 +5,11 @@ use mathlib.Core.Bool.{Bool, true, false, cond}
 use Prim.Native.Nat.{ℕ, _+_, _≤_}
 use native.Mathlib.Omega.{arith}
 use Rattle.field.specs.Question.{isWidth}
-use Rattle.field.specs.Answer.{orderOf}
+use Rattle.field.specs.inner.Operand.{orderOf}
 use Rattle.field.proofs.Ask.{width-yes, width-no, order-is}
 use Rattle.field.proofs.Widths.{order-small}
-use Rattle.code.specs.Word.{places, longest, wordLength}
+use Rattle.code.specs.Word.{places, longest}
+use Rattle.code.specs.inner.Call.{wordLength}
 
 -- from what `order_of` says of the width
 module _ (m q : ℕ) (e : q ≡ orderOf m) where

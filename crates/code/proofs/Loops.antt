@@ -8,7 +8,7 @@ use native.Mathlib.Numerals.{add-one}
 use native.Mathlib.Omega.{arith}
 use borrow.Author.Count.{below-more}
 use lib.ListN.{length, getD, set, take, drop, length-set, length-drop, drop-of-length-le}
-use Rattle.code.specs.Block.{Run}
+use Rattle.code.specs.inner.Block.{Run}
 use lib.Seq.{take-all, take-at, take-suc, take-suc-set, getD-set-same, getD-set-other, ext-getD}
 
 -- ---- copying the list s over the list d of the same length: after i turns d is `take i s ++ drop i d`

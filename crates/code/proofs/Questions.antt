@@ -13,7 +13,7 @@ use lib.ListN.{length, getD, take, drop, drop-of-length-le}
 use lib.Seq.{drop-cons}
 use Rattle.field.specs.Question.{allBelow}
 use Rattle.field.proofs.Ask.{and-true-left, and-true-right}
-use Rattle.code.specs.Block.{Run}
+use Rattle.code.specs.inner.Block.{Run}
 use Rattle.field.proofs.Below.{and-holds}
 pub use Rattle.field.proofs.Below.{allBelow-means, allBelow-holds}
 use Rattle.code.specs.Word.{at}

@@ -10,13 +10,11 @@ use Rattle.field.specs.Question.{Outcome, accepted, refused, refusal, ask, afte
 use Rattle.field.specs.declared.Question.the-variants.{Width, Length, ErasureCount, ErasurePlace, ErasureDistinct, Symbol, Reach, Correctable, Unique, Syndrome}
 use Rattle.field.specs.declared.Verdict.{Verdict}
 use Rattle.field.specs.declared.Verdict.the-variants.{Passed, Refused as RefusedBy}
-use Rattle.code.specs.declared.Syndromes.{Syndromes}
+use Rattle.code.specs.declared.FiveSyndromes.{FiveSyndromes}
 use Rattle.code.specs.declared.Repair.{Repair}
 use Rattle.code.specs.declared.Repair.the-variants.{Restored, Refused as RefusedRepair}
-use Rattle.code.specs.declared.Membership.{Membership}
-use Rattle.code.specs.declared.Membership.the-variants.{Codeword, Other, Refused}
 use Rattle.code.specs.Word.{checks, places, items, encode, dataOf}
-use Rattle.code.specs.Erasure.{distinct, symbolsFrom, changes, syndromesOf}
+use Rattle.code.specs.Erasure.{distinct, symbolsFrom, changes, syndromesWithout}
 use Rattle.code.specs.Near.{radius, Restoration, none, one, several, restoration}
 
 -- a lent slice after the call: written where all questions passed, else as it was
@@ -31,7 +29,7 @@ allZero (x ∷ xs) = eqb x 0 && allZero xs
 
 -- question 9: are the five syndromes zero?
 unfoldable pub zeroSyndromes : ℕ → List ℕ → Bool
-zeroSyndromes m w = allZero (syndromesOf m [] w)
+zeroSyndromes m w = allZero (syndromesWithout m [] w)
 
 -- the number and the value of a verdict, of a call that has no value of its own
 abbrev pub done : Verdict → Outcome
@@ -67,37 +65,31 @@ pub record Encodes (m : ℕ) (ds old : List ℕ) (v : Verdict) (new : List ℕ) 
 -- ---- the codeword test: questions 1, 2 and 7, then 1 for yes and 0 for no
 
 -- the questions, put to a word
-unfoldable pub testAsked : ℕ → List ℕ → Verdict
-testAsked m word = wordAsked m (length word) (ask (allBelow (order m) word) Symbol Passed)
+unfoldable pub isCodewordAsked : ℕ → List ℕ → Verdict
+isCodewordAsked m word = wordAsked m (length word) (ask (allBelow (order m) word) Symbol Passed)
 
 -- what the test answers
-abbrev pub testOf : ℕ → List ℕ → Outcome
-testOf m word = after (testAsked m word) (accepted (cond (zeroSyndromes m word) 1 0))
-
--- the outcome that the test's answer stands for
-abbrev pub membership : Membership → Outcome
-membership Codeword = accepted 1
-membership Other = accepted 0
-membership (Refused q) = refused (refusal q)
+abbrev pub isCodewordOf : ℕ → List ℕ → Outcome
+isCodewordOf m word = after (isCodewordAsked m word) (accepted (cond (zeroSyndromes m word) 1 0))
 
 -- ---- the reader of data: questions 1, 2, 7 and 9
 
 -- the questions, put to a word and to the slice that is to hold its data
-unfoldable pub readAsked : ℕ → List ℕ → List ℕ → Verdict
-readAsked m word ds = wordAsked m (length word) (dataAsked m (length ds) word (ask (zeroSyndromes m word) Syndrome Passed))
+unfoldable pub readDataAsked : ℕ → List ℕ → List ℕ → Verdict
+readDataAsked m word ds = wordAsked m (length word) (dataAsked m (length ds) word (ask (zeroSyndromes m word) Syndrome Passed))
 
 -- what the reader answers
-abbrev pub readOf : ℕ → List ℕ → List ℕ → Outcome
-readOf m word ds = done (readAsked m word ds)
+abbrev pub readDataOf : ℕ → List ℕ → List ℕ → Outcome
+readDataOf m word ds = done (readDataAsked m word ds)
 
 -- the data after the call
-abbrev pub readWritten : ℕ → List ℕ → List ℕ → List ℕ
-readWritten m word ds = written (readAsked m word ds) ds (dataOf word)
+abbrev pub readDataWritten : ℕ → List ℕ → List ℕ → List ℕ
+readDataWritten m word ds = written (readDataAsked m word ds) ds (dataOf word)
 
 -- the call's promise: what the reader answers and leaves in the data
-pub record Reads (m : ℕ) (word old : List ℕ) (v : Verdict) (new : List ℕ) : Type 0 where
-  pub answer : done v ≡ readOf m word old
-  pub symbols : new ≡ readWritten m word old
+pub record ReadsData (m : ℕ) (word old : List ℕ) (v : Verdict) (new : List ℕ) : Type 0 where
+  pub answer : done v ≡ readDataOf m word old
+  pub symbols : new ≡ readDataWritten m word old
 
 -- ---- a word with erasures: questions 1, 2, 3, 5, 6 and 7
 
@@ -125,17 +117,17 @@ shown Passed sums = sums
 shown (RefusedBy q) sums = replicate checks 0
 
 -- what the display answers
-abbrev pub displayOf : ℕ → List ℕ → List ℕ → Outcome
-displayOf m word es = done (restoreAsked m word es)
+abbrev pub syndromesOf : ℕ → List ℕ → List ℕ → Outcome
+syndromesOf m word es = done (restoreAsked m word es)
 
 -- the five numbers beside it: the syndromes without the erasures
-abbrev pub displayed : ℕ → List ℕ → List ℕ → List ℕ
-displayed m word es = shown (restoreAsked m word es) (syndromesOf m es word)
+abbrev pub syndromesGiven : ℕ → List ℕ → List ℕ → List ℕ
+syndromesGiven m word es = shown (restoreAsked m word es) (syndromesWithout m es word)
 
 -- the call's promise: what the display answers and shows
-pub record Displays (m : ℕ) (word es : List ℕ) (r : Syndromes) : Type 0 where
-  pub answer : done (r .verdict) ≡ displayOf m word es
-  pub sums : r .sums ≡ displayed m word es
+pub record GivesSyndromes (m : ℕ) (word es : List ℕ) (r : FiveSyndromes) : Type 0 where
+  pub answer : done (r .verdict) ≡ syndromesOf m word es
+  pub sums : r .sums ≡ syndromesGiven m word es
 
 -- ---- the restorer with a reach: document 02's question about it, then question 8
 

@@ -16,7 +16,8 @@ use Rattle.code.specs.declared.Repair.{Repair}
 use Rattle.code.specs.Word.{checks, five, places, items, at, syndrome, Codeword, dataOf}
 use Rattle.code.specs.Erasure.{member, distinct, symbolsFrom, changes}
 use Rattle.code.specs.Near.{distance, radius, Near, nearby}
-use Rattle.code.specs.Call.{maxErasures, encodeOf, encodeWritten, testAsked, testOf, readOf, readWritten, restoreAsked, displayOf, displayed, withinAsked, withinOf, withinWritten}
+use Rattle.code.specs.Call.{maxErasures, encodeOf, encodeWritten, isCodewordAsked, isCodewordOf, readDataOf, readDataWritten, restoreAsked}
+use Rattle.code.specs.Call.{syndromesOf, syndromesGiven, withinAsked, withinOf, withinWritten}
 use Rattle.code.specs.Call.{written, wordAsked, restoreOf, restoreWritten, repair, RestoresWithin}
 
 -- ---- demand 2
@@ -42,13 +43,13 @@ EncoderMade =
 abbrev pub ReadBack : Type 0
 ReadBack =
     (m : ℕ) → isWidth m ≡ true → (w out : List ℕ) → Codeword m w → length out ≡ items m
-    → (readOf m w out ≡ accepted 0) × (readWritten m w out ≡ dataOf w)
+    → (readDataOf m w out ≡ accepted 0) × (readDataWritten m w out ≡ dataOf w)
 
 -- of a word that passes its questions the codeword test says yes exactly when it is a codeword, and else no
 abbrev pub TestsCodeword : Type 0
 TestsCodeword =
-    (m : ℕ) (w : List ℕ) → testAsked m w ≡ Passed
-    → ((testOf m w ≡ accepted 1) ↔ Codeword m w) × ((testOf m w ≡ accepted 0) ↔ (Codeword m w → ⊥))
+    (m : ℕ) (w : List ℕ) → isCodewordAsked m w ≡ Passed
+    → ((isCodewordOf m w ≡ accepted 1) ↔ Codeword m w) × ((isCodewordOf m w ≡ accepted 0) ↔ (Codeword m w → ⊥))
 
 -- ---- demand 3
 
@@ -64,7 +65,7 @@ abbrev pub Passes : ℕ → List ℕ → List ℕ → Type 0
 Passes m w es = restoreAsked m w es ≡ Passed
 
 -- and with the reach all questions before question 8. The calls without a reach are those with r, so that each statement below is about them
--- too: their reach is `radius m (length es)`, and with it this is Passes (`passes-radius` of proofs/Passing.antt)
+-- too: their reach is `radius m (length es)`, and with it this is Passes (`passes-radius` of proofs/calls/Passing.antt)
 abbrev pub PassesWithin : ℕ → List ℕ → List ℕ → ℕ → Type 0
 PassesWithin m w es reach = withinAsked m w es reach ≡ Passed
 
@@ -198,15 +199,15 @@ MethodsAgree =
 -- ---- the display of the syndromes
 
 -- with no erasures it shows the syndromes of equation (11)
-abbrev pub DisplaysPlain : Type 0
-DisplaysPlain = (m : ℕ) (w : List ℕ) → Passes m w [] → displayed m w [] ≡ five (syndrome m (at w))
+abbrev pub GivesPlain : Type 0
+GivesPlain = (m : ℕ) (w : List ℕ) → Passes m w [] → syndromesGiven m w [] ≡ five (syndrome m (at w))
 
 -- which are zero exactly for a codeword
-abbrev pub DisplaysZero : Type 0
-DisplaysZero = (m : ℕ) (w : List ℕ) → Passes m w [] → (displayed m w [] ≡ replicate checks 0) ↔ Codeword m w
+abbrev pub GivesZero : Type 0
+GivesZero = (m : ℕ) (w : List ℕ) → Passes m w [] → (syndromesGiven m w [] ≡ replicate checks 0) ↔ Codeword m w
 
 -- words of one width and length that agree outside the same erasures get the same answers and the same syndromes
-abbrev pub SameDisplayed : Type 0
-SameDisplayed =
+abbrev pub SameGiven : Type 0
+SameGiven =
     (m : ℕ) (w w′ es es′ : List ℕ) → length w ≡ length w′ → SameErasures es es′ → AgreeOutside es w w′
-    → (displayOf m w es ≡ displayOf m w′ es′) × (displayed m w es ≡ displayed m w′ es′)
+    → (syndromesOf m w es ≡ syndromesOf m w′ es′) × (syndromesGiven m w es ≡ syndromesGiven m w′ es′)

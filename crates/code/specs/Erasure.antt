@@ -46,5 +46,5 @@ abbrev pub maskedSyndrome : ℕ → List ℕ → List ℕ → ℕ → ℕ
 maskedSyndrome m es w k = syndrome m (masked es (at w)) k
 
 -- the five of them
-abbrev pub syndromesOf : ℕ → List ℕ → List ℕ → List ℕ
-syndromesOf m es w = five (maskedSyndrome m es w)
+abbrev pub syndromesWithout : ℕ → List ℕ → List ℕ → List ℕ
+syndromesWithout m es w = five (maskedSyndrome m es w)

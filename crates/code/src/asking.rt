@@ -5,11 +5,11 @@ ghost use mathlib.Core.List.{List};
 ghost use Prim.Native.Nat.{ℕ, _≤_};
 ghost use lib.ListN.{length};
 ghost use Rattle.field.specs.Question.{ask, isWidth, allBelow};
-ghost use Rattle.field.specs.Answer.{orderOf};
+ghost use Rattle.field.specs.inner.Operand.{orderOf};
 ghost use Rattle.field.specs.declared.Question.the-variants.{Symbol};
 ghost use Rattle.field.specs.declared.Verdict.the-variants.{Passed};
 ghost use Rattle.code.specs.Word.{places, longest};
-ghost use Rattle.code.specs.Call.{wordAsked, dataAsked, testAsked, readAsked, erasuresAsked, restoreAsked, withinAsked};
+ghost use Rattle.code.specs.Call.{wordAsked, dataAsked, isCodewordAsked, readDataAsked, erasuresAsked, restoreAsked, withinAsked};
 use crate::codeword::zero_syndromes;
 use crate::max_erasures;
 use crate::question::all_different;
@@ -63,8 +63,8 @@ pub fn ask_slices(width: u8, word: usize, message: usize, symbols: &[u8]) -> Ver
 }
 
 // Questions 1, 2 and 7, put to a word.
-pub fn ask_test(width: u8, word: &[u8]) -> Verdict
-    ensures { λ r. ⌜ r ≡ testAsked width (now (word .entry)) ⌝ }
+pub fn ask_is_codeword(width: u8, word: &[u8]) -> Verdict
+    ensures { λ r. ⌜ r ≡ isCodewordAsked width (now (word .entry)) ⌝ }
 {
     match ask_word(width, word.len()) {
         Verdict::Passed => ask_symbols(width, word),
@@ -73,8 +73,8 @@ pub fn ask_test(width: u8, word: &[u8]) -> Verdict
 }
 
 // Questions 1, 2, 7 and 9.
-pub fn ask_read(width: u8, word: &[u8], message: usize) -> Verdict
-    ensures { λ r. ⌜ ((ds : List ℕ) → message ≡ length ds → r ≡ readAsked width (now (word .entry)) ds) ⌝ }
+pub fn ask_read_data(width: u8, word: &[u8], message: usize) -> Verdict
+    ensures { λ r. ⌜ ((ds : List ℕ) → message ≡ length ds → r ≡ readDataAsked width (now (word .entry)) ds) ⌝ }
 {
     match ask_slices(width, word.len(), message, word) {
         Verdict::Passed => {

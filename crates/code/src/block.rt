@@ -5,7 +5,7 @@ ghost use mathlib.Core.Bool.{true};
 ghost use lib.ListN.{length};
 ghost use Prim.Native.Nat.{ℕ, _+_, _≤_, _<_};
 ghost use Rattle.field.specs.Sum.{at};
-ghost use Rattle.code.specs.Block.{Run};
+ghost use Rattle.code.specs.inner.Block.{Run};
 use field::lanes::eight;
 
 // Have the eight bytes from place i on no digit in common with 256 - q? Then each is below q, for 256 - q and a byte without a common

@@ -9,7 +9,7 @@ ghost use Rattle.code.specs.Word.{checks, places, items, encode as encod
 ghost use Rattle.code.specs.Call.{zeroSyndromes};
 use crate::question::all_zero;
 use crate::slice::copy;
-use crate::syndrome::syndromes;
+use crate::syndrome::word_syndromes;
 use field::parity::parities;
 
 // Writes the codeword of the data: the check symbols, then the data.
@@ -39,6 +39,6 @@ pub fn zero_syndromes(width: u8, word: &[u8]) -> bool
         )
         ⌝ }
 {
-    let s = syndromes(width, word);
+    let s = word_syndromes(width, word);
     all_zero(&s)
 }

@@ -1,9 +1,10 @@
 // The five times extended Reed-Solomon code of document 003: encoder, codeword test, reader of data and restorer. A message is the data of a
 // word.
 ghost use mathlib.Core.Path.{_≡_};
-ghost use Rattle.code.specs.Word.{wordLength};
+ghost use Rattle.code.specs.inner.Call.{wordLength};
 ghost use Rattle.code.specs.Near.{radius};
-ghost use Rattle.code.specs.Call.{Encodes, testOf, membership, Reads, maxErasures, Displays, RestoresWithin, Restores};
+ghost use Rattle.code.specs.Call.{Encodes, isCodewordOf, ReadsData, maxErasures, GivesSyndromes, RestoresWithin, Restores};
+ghost use Rattle.code.specs.inner.Call.{membership};
 
 mod asking;
 mod beside;
@@ -22,10 +23,10 @@ mod solver;
 mod syndrome;
 mod trial;
 
-use asking::ask_read;
+use asking::ask_is_codeword;
+use asking::ask_read_data;
 use asking::ask_restore;
 use asking::ask_slices;
-use asking::ask_test;
 use codeword::write_codeword;
 use codeword::zero_syndromes;
 use field::Question;
@@ -65,10 +66,10 @@ pub fn encode(width: u8, message: &[u8], word: &mut [u8]) -> Verdict
 }
 
 // Is the word a codeword?
-pub fn test(width: u8, word: &[u8]) -> Membership
-    ensures { λ r. ⌜ membership r ≡ testOf width (now (word .entry)) ⌝ }
+pub fn is_codeword(width: u8, word: &[u8]) -> Membership
+    ensures { λ r. ⌜ membership r ≡ isCodewordOf width (now (word .entry)) ⌝ }
 {
-    match ask_test(width, word) {
+    match ask_is_codeword(width, word) {
         Verdict::Passed => {
             if zero_syndromes(width, word) {
                 Membership::Codeword
@@ -81,10 +82,10 @@ pub fn test(width: u8, word: &[u8]) -> Membership
 }
 
 // Reads the data of a codeword.
-pub fn read(width: u8, word: &[u8], message: &mut [u8]) -> Verdict
-    ensures { λ r. ⌜ Reads width (now (word .entry)) (now (message .entry)) r (now (message .exit)) ⌝ }
+pub fn read_data(width: u8, word: &[u8], message: &mut [u8]) -> Verdict
+    ensures { λ r. ⌜ ReadsData width (now (word .entry)) (now (message .entry)) r (now (message .exit)) ⌝ }
 {
-    match ask_read(width, word, message.len()) {
+    match ask_read_data(width, word, message.len()) {
         Verdict::Passed => {
             copy(message, &word[5..]);
             Verdict::Passed
@@ -108,25 +109,25 @@ pub fn max_erasures(width: u8) -> usize
 
 // The five syndromes of a word without its erasures, each 0 where a question was answered no. An enum holds no array, so the verdict stands
 // beside them.
-pub struct Syndromes {
+pub struct FiveSyndromes {
     pub verdict: Verdict,
     pub sums: [u8; 5],
 }
 
 // The syndromes over the places outside the erasures.
-pub fn masked_syndromes(width: u8, word: &[u8], erasures: &[u8]) -> Syndromes
-    ensures { λ r. ⌜ Displays width (now (word .entry)) (now (erasures .entry)) r ⌝ }
+pub fn syndromes(width: u8, word: &[u8], erasures: &[u8]) -> FiveSyndromes
+    ensures { λ r. ⌜ GivesSyndromes width (now (word .entry)) (now (erasures .entry)) r ⌝ }
 {
     match ask_restore(width, word, erasures) {
         Verdict::Passed => {
             let t = erasure_trial(width, word, erasures);
             let sums = t.sums;
-            Syndromes {
+            FiveSyndromes {
                 verdict: Verdict::Passed,
                 sums,
             }
         }
-        Verdict::Refused(q) => Syndromes {
+        Verdict::Refused(q) => FiveSyndromes {
             verdict: Verdict::Refused(q),
             sums: [0; 5],
         },

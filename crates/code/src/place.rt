@@ -5,7 +5,7 @@ ghost use mathlib.Core.Bool.{true};
 ghost use Rattle.field.specs.Field.{order, product};
 ghost use Rattle.field.specs.Question.{isWidth};
 ghost use Rattle.code.specs.Word.{five};
-ghost use Rattle.code.specs.Place.{exponentOf, placeOf, multipleOf, column as columnM};
+ghost use Rattle.code.specs.inner.Place.{exponentOf, placeOf, multipleOf, column as columnM};
 use field::Exponent;
 use field::arithmetic::multiply;
 use field::arithmetic::raise;

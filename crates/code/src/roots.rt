@@ -6,7 +6,7 @@ ghost use lib.ListN.{length};
 ghost use Rattle.field.specs.Field.{order};
 ghost use Rattle.field.specs.Question.{isWidth};
 ghost use Rattle.code.specs.Word.{checks, longest, items};
-ghost use Rattle.code.specs.Scan.{Carried, Scanned, Ratio, TwoRoots, halfWord, entryOf, HalfTrace};
+ghost use Rattle.code.specs.inner.Scan.{Carried, Scanned, Ratio, TwoRoots, halfWord, entryOf, HalfTrace};
 use field::Exponent;
 use field::arithmetic::invert;
 use field::arithmetic::multiply;

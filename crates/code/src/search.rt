@@ -1,8 +1,8 @@
 // The trying method: the erasures and a few extra places are taken as erased, one set of places after the other. No entry point.
 ghost use Prim.Native.Nat.{_+_, _≤_};
 ghost use lib.ListN.{length};
-ghost use Rattle.code.specs.Matrix.{unknowns};
-ghost use Rattle.code.specs.Correction.{placesOf, Ready, NoneFrom, Searched};
+ghost use Rattle.code.specs.inner.Matrix.{unknowns};
+ghost use Rattle.code.specs.inner.Correction.{placesOf, Ready, NoneFrom, Searched};
 use crate::correction::Correction;
 use crate::correction::solve_trial;
 use crate::correction::solved;

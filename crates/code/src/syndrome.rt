@@ -9,7 +9,7 @@ ghost use Rattle.code.specs.Word.{checks, five, places, at, syndrome};
 use field::parity::parities;
 
 // The five syndromes of a word.
-pub fn syndromes(width: u8, word: &[u8]) -> [u8; 5]
+pub fn word_syndromes(width: u8, word: &[u8]) -> [u8; 5]
     requires { ⌜ checks ≤ length (now word) ⌝ }
     ensures { λ r.
         ⌜

@@ -9,11 +9,11 @@ ghost use Rattle.field.specs.Polynomial.{add};
 ghost use Rattle.field.specs.Field.{order, product};
 ghost use Rattle.field.specs.Question.{isWidth, allBelow};
 ghost use Rattle.code.specs.Word.{checks, five, places, longest, at};
-ghost use Rattle.code.specs.Place.{column as columnM};
-ghost use Rattle.code.specs.Erasure.{member, syndromesOf};
+ghost use Rattle.code.specs.inner.Place.{column as columnM};
+ghost use Rattle.code.specs.Erasure.{member, syndromesWithout};
 ghost use Rattle.code.specs.Call.{allZero};
-ghost use Rattle.code.specs.Matrix.{unknowns};
-ghost use Rattle.code.specs.Correction.{fill, Lent, placesOf, Ready, Workable};
+ghost use Rattle.code.specs.inner.Matrix.{unknowns};
+ghost use Rattle.code.specs.inner.Correction.{fill, Lent, placesOf, Ready, Workable};
 use crate::place::Place;
 use crate::place::column;
 use crate::place::exponent_of;
@@ -22,7 +22,7 @@ use crate::question::all_zero;
 use crate::question::contains;
 use crate::slice::copy;
 use crate::solver::UNKNOWNS;
-use crate::syndrome::syndromes;
+use crate::syndrome::word_syndromes;
 use field::arithmetic::multiply;
 use field::arithmetic::ratio_exponent;
 use field::table::powers_from;
@@ -183,13 +183,13 @@ fn masked_sums(width: u8, word: &[u8], places: [u8; UNKNOWNS], count: usize) -> 
         ⌜
         (
         isWidth width ≡ true → Lent width (now (word .entry)) (take count places)
-        → r ≡ syndromesOf width (take count places) (now (word .entry))
+        → r ≡ syndromesWithout width (take count places) (now (word .entry))
         )
         ⌝ }
 {
     let n = word.len();
     let row = filled(copied(word), n, places, count, [0; UNKNOWNS]);
-    syndromes(width, &row[..n])
+    word_syndromes(width, &row[..n])
 }
 
 // The erasures, copied to the front of an array that has room for them.
@@ -216,7 +216,7 @@ pub fn erasure_trial(width: u8, word: &[u8], erasures: &[u8]) -> Trial
     let places = row_of_places(erasures);
     let count = erasures.len();
     if count == 0 {
-        let sums = syndromes(width, word);
+        let sums = word_syndromes(width, word);
         return Trial {
             places,
             count,

@@ -4,9 +4,11 @@
 ghost use mathlib.Core.Path.{_≡_};
 ghost use Prim.Native.Nat.{_<_};
 ghost use lib.ListN.{length};
-ghost use Rattle.field.specs.Answer.{outcome, sumOf, productOf, powerOf, inverseOf};
-ghost use Rattle.code.specs.Call.{displayOf, displayed, withinOf, withinWritten};
-ghost use Rattle.code.specs.Call.{done, membership, repair, encodeOf, encodeWritten, testOf, readOf, readWritten, restoreOf, restoreWritten};
+ghost use Rattle.field.specs.Answer.{sumOf, productOf, powerOf, inverseOf};
+ghost use Rattle.field.specs.inner.Operand.{outcome};
+ghost use Rattle.code.specs.Call.{syndromesOf, syndromesGiven, withinOf, withinWritten};
+ghost use Rattle.code.specs.Call.{done, repair, encodeOf, encodeWritten, isCodewordOf, readDataOf, readDataWritten, restoreOf, restoreWritten};
+ghost use Rattle.code.specs.inner.Call.{membership};
 ghost use Rattle.card.specs.Record.{recordOf, recordWritten, recordWithinOf, recordWithinWritten};
 ghost use Rattle.card.specs.Card.{firstRefused};
 ghost use Rattle.card.specs.Conversion.{toNewOf, toNewWritten, toOldOf, toOldWritten};
@@ -169,18 +171,18 @@ pub extern "C" fn xrs_encode(width: u8, message: &[u8], word: &mut [u8]) -> u32
 // Is the word a codeword?
 #[no_mangle]
 pub extern "C" fn xrs_is_codeword(width: u8, word: &[u8]) -> u32
-    ensures { λ r. ⌜ r ≡ packed (testOf width (now (word .entry))) ⌝ }
+    ensures { λ r. ⌜ r ≡ packed (isCodewordOf width (now (word .entry))) ⌝ }
 {
-    pack_membership(code::test(width, word))
+    pack_membership(code::is_codeword(width, word))
 }
 
 // Writes the data of the codeword into the message.
 #[no_mangle]
 pub extern "C" fn xrs_read_data(width: u8, word: &[u8], message: &mut [u8]) -> u32
-    ensures answer { λ r. ⌜ r ≡ packed (readOf width (now (word .entry)) (now (message .entry))) ⌝ }
-    ensures written { λ r. ⌜ now (message .exit) ≡ readWritten width (now (word .entry)) (now (message .entry)) ⌝ }
+    ensures answer { λ r. ⌜ r ≡ packed (readDataOf width (now (word .entry)) (now (message .entry))) ⌝ }
+    ensures written { λ r. ⌜ now (message .exit) ≡ readDataWritten width (now (word .entry)) (now (message .entry)) ⌝ }
 {
-    pack_verdict(code::read(width, word, message))
+    pack_verdict(code::read_data(width, word, message))
 }
 
 // The syndromes of the word without its erasures, in the bytes above the refusal's.
@@ -189,11 +191,11 @@ pub extern "C" fn xrs_syndromes(width: u8, word: &[u8], erasures: &[u8]) -> u64
     ensures { λ r.
         ⌜
         r
-        ≡ packedBytes (packed (displayOf width (now (word .entry)) (now (erasures .entry))))
-        (displayed width (now (word .entry)) (now (erasures .entry)))
+        ≡ packedBytes (packed (syndromesOf width (now (word .entry)) (now (erasures .entry))))
+        (syndromesGiven width (now (word .entry)) (now (erasures .entry)))
         ⌝ }
 {
-    let s = code::masked_syndromes(width, word, erasures);
+    let s = code::syndromes(width, word, erasures);
     let verdict = s.verdict;
     let sums = s.sums;
     pack_bytes(pack_verdict(verdict), sums)

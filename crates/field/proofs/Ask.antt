@@ -10,7 +10,8 @@ use lib.Pow.{pow-pos}
 use borrow.Author.Tests.{lt-ltb, le-ltb, ltb-true, eq-eqb, ne-eqb}
 use Rattle.field.specs.Field.{order}
 use Rattle.field.specs.Question.{Outcome, refused, refusal, ask, after, isWidth, allBelow}
-use Rattle.field.specs.Answer.{Operand, operands, orderOf}
+use Rattle.field.specs.Answer.{operands}
+use Rattle.field.specs.inner.Operand.{Operand, orderOf}
 use Rattle.field.specs.declared.Question.{Question}
 use Rattle.field.specs.declared.Question.the-variants.{Width, Symbol, Nonzero}
 use Rattle.field.specs.declared.Verdict.{Verdict}

@@ -6,7 +6,7 @@ use native.Mathlib.Nat.{not-suc-le-zero, le-of-suc-le-suc, add-zero}
 use native.Mathlib.Decide.{decLt}
 use native.Mathlib.Omega.{arith}
 use Rattle.field.specs.Sum.{at}
-use Rattle.field.specs.Lanes.{lanes, Block}
+use Rattle.field.specs.inner.Lanes.{lanes, Block}
 use Rattle.field.proofs.Packing.{lanes-cong, lanes-lt, lanes-split}
 
 -- a number of n lanes is below 256^n

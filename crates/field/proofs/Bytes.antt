@@ -14,8 +14,8 @@ use borrow.Author.Tests.{ne-eqb}
 use Rattle.field.specs.Polynomial.{add}
 use Rattle.field.specs.Field.{order, product, power, inverse, α}
 use Rattle.field.specs.Question.{isWidth}
-use Rattle.field.specs.Answer.{Operand}
-use Rattle.field.specs.Bytes.{widthFor, symbolFor, multiplied, raised, inverted, shifted, unitFor, Small}
+use Rattle.field.specs.inner.Operand.{Operand}
+use Rattle.field.specs.inner.Bytes.{widthFor, symbolFor, multiplied, raised, inverted, shifted, unitFor, Small}
 use Rattle.field.proofs.Laws.{IsField}
 use Rattle.field.proofs.Widths.{fieldAt, Width.seven}
 

@@ -11,8 +11,8 @@ use lib.Seq.{drop-cons, drop-length}
 use Rattle.field.specs.Polynomial.{add}
 use Rattle.field.specs.Field.{order, product, power, α}
 use Rattle.field.specs.Question.{isWidth, allBelow}
-use Rattle.field.specs.Bytes.{widthFor, symbolFor}
-use Rattle.field.specs.Sum.{at, sum, five, weighted, sumsFor}
+use Rattle.field.specs.inner.Bytes.{widthFor, symbolFor, sumsFor}
+use Rattle.field.specs.Sum.{at, sum, five, weighted}
 use Rattle.field.proofs.Laws.{IsField}
 use Rattle.field.proofs.Widths.{field-of}
 use Rattle.field.proofs.Bytes.{width-own, width-for, symbol-lt}

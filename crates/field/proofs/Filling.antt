@@ -7,7 +7,7 @@ use native.Mathlib.Omega.{arith}
 use lib.ListN.{length, set, length-set}
 use lib.Seq.{getD-set-same, getD-set-other}
 use Rattle.field.specs.Sum.{at}
-use Rattle.field.specs.Lanes.{lanes, Block}
+use Rattle.field.specs.inner.Lanes.{lanes, Block}
 use Rattle.field.proofs.Below.{past-end}
 
 -- what holds of the first i numbers holds of one more that is put in

@@ -5,11 +5,12 @@ use native.Mathlib.Nat.{mul-zero}
 use native.Mathlib.Omega.{arith}
 use lib.Pow.{high, low}
 use Rattle.field.specs.Polynomial.{add}
-use Rattle.field.specs.Field.{product, power, α, arithmetic}
+use Rattle.field.specs.Field.{product, power, α}
+use Rattle.field.specs.inner.Operand.{arithmetic}
 use Rattle.field.proofs.Widths.{doubles, doubles-power}
 use Rattle.field.specs.Sum.{sum, weighted}
 use Rattle.field.proofs.Sums.{sum-cong, sum-split, sum-add}
-use Rattle.field.specs.Lanes.{lanes, Below, Times}
+use Rattle.field.specs.inner.Lanes.{lanes, Below, Times}
 use Rattle.field.proofs.Packing.{lanes-cong, lanes-lt, lanes-add, lanes-split}
 use Rattle.field.proofs.Lanewise.{F}
 

@@ -9,11 +9,12 @@ use lib.Bits.{bitAnd, and-mask}
 use lib.Pow.{pow-pos, shr-le}
 use lib.Dec.{T, eqb, ltb, eqb→eq, ltb→lt}
 use Rattle.field.specs.Polynomial.{add}
-use Rattle.field.specs.Field.{product, power, α, arithmetic}
+use Rattle.field.specs.Field.{product, power, α}
+use Rattle.field.specs.inner.Operand.{arithmetic}
 use Rattle.field.proofs.Laws.{IsField}
 use Rattle.field.proofs.Widths.{Width.seven, fieldAt, doubles, doubles-power}
 use Rattle.field.proofs.Check.{and-left, and-right, all, all-at}
-use Rattle.field.specs.Lanes.{lanes, Below, Times}
+use Rattle.field.specs.inner.Lanes.{lanes, Below, Times}
 use Rattle.field.proofs.Packing.{lanes-cong, lanes-lt, lanes-times, lanes-over, lanes-add, lanes-and}
 
 pub F : IsField 7

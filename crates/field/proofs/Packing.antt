@@ -7,7 +7,7 @@ use native.Mathlib.Omega.{arith}
 use lib.Bits.{bitAnd, bitXor, and-block, xor-block, xor-shr, xor-mod}
 use lib.Pow.{pow-add}
 use Rattle.field.specs.Polynomial.{add}
-use Rattle.field.specs.Lanes.{lanes, lane, Below, eight}
+use Rattle.field.specs.inner.Lanes.{lanes, lane, Below, eight}
 
 abbrev tail : (ℕ → ℕ) → ℕ → ℕ
 tail f j = f (suc j)

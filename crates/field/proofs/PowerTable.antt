@@ -8,7 +8,8 @@ use native.Mathlib.Nat.{zero-add, le-of-suc-le-suc, not-suc-le-zero, zero-mul, o
 use native.Mathlib.Omega.{arith}
 use lib.Dec.{T, eqb, eqb→eq, lit<}
 use lib.ListN.{length, getD}
-use Rattle.field.specs.Field.{order, double, product, power, α, arithmetic}
+use Rattle.field.specs.Field.{order, double, product, power, α}
+use Rattle.field.specs.inner.Operand.{arithmetic}
 use Rattle.field.proofs.Ring.{double-lt, product-assoc, product-comm, product-one-l, product-one-r}
 use Rattle.field.proofs.Powers.{one-lt, power-zero, power-suc, power-lt, double-product}
 use Rattle.field.proofs.Widths.{fieldAt, Width.seven}

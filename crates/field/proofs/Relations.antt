@@ -12,10 +12,11 @@ use lib.Dec.{lit<}
 use lib.ListN.{length, set, length-set}
 use lib.Seq.{getD-set-same, getD-set-other}
 use Rattle.field.specs.Polynomial.{add}
-use Rattle.field.specs.Field.{product, power, α, arithmetic}
+use Rattle.field.specs.Field.{product, power, α}
+use Rattle.field.specs.inner.Operand.{arithmetic}
 use Rattle.field.proofs.Widths.{doubles, doubles-power}
 use Rattle.field.specs.Sum.{at, sum}
-use Rattle.field.specs.Folds.{Additive, powers, Seventh, Eighth, total}
+use Rattle.field.specs.inner.Folds.{Additive, powers, Seventh, Eighth, total}
 use Rattle.field.proofs.Sums.{sum-suc, sum-cong}
 use Rattle.field.proofs.Lanewise.{F}
 use Rattle.field.proofs.Folding.{power-apply}

@@ -6,11 +6,12 @@ use native.Mathlib.Nat.{mod-eq-of-lt}
 use native.Mathlib.Omega.{arith}
 use lib.Dec.{T, eqb, eqb→eq}
 use Rattle.field.specs.Polynomial.{add}
-use Rattle.field.specs.Field.{product, power, α, arithmetic}
+use Rattle.field.specs.Field.{product, power, α}
+use Rattle.field.specs.inner.Operand.{arithmetic}
 use Rattle.field.proofs.Widths.{doubles, doubles-power}
 use Rattle.field.proofs.Check.{all, all-at}
 use Rattle.field.specs.Sum.{at, sum}
-use Rattle.field.specs.Lanes.{lanes, lane, Below, Times, eight, Multiples, named}
+use Rattle.field.specs.inner.Lanes.{lanes, lane, Below, Times, eight, Multiples, named}
 use Rattle.field.proofs.Sums.{sum-cong, sum-times, sum-lt}
 use Rattle.field.proofs.Packing.{lanes-cong, lanes-times, lanes-add, lane-lanes, eight-cong}
 use Rattle.field.proofs.Lanewise.{F}

@@ -6,7 +6,8 @@ use native.Mathlib.Omega.{arith}
 use lib.Bits.{bitAnd}
 use lib.Dec.{T, eqb, leb, eqb→eq, eqb-refl, le→leb, T-not}
 use Rattle.field.specs.Polynomial.{add}
-use Rattle.field.specs.Field.{order, polynomial, product, power, α, arithmetic}
+use Rattle.field.specs.Field.{order, polynomial, product, power, α}
+use Rattle.field.specs.inner.Operand.{arithmetic}
 use Rattle.field.specs.Question.{isWidth}
 use Rattle.field.proofs.Widths.{Width, Width.three, Width.four, Width.five, Width.seven, width-of, field-of, doubles, doubles-power}
 use Rattle.field.proofs.Check.{or-right, and-both, all, all-at}

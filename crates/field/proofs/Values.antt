@@ -10,8 +10,8 @@ use lib.ListN.{length}
 use Rattle.field.specs.Polynomial.{add}
 use Rattle.field.specs.Field.{product, power, α}
 use Rattle.field.specs.Sum.{at, weighted}
-use Rattle.field.specs.Lanes.{lanes, Below, Block}
-use Rattle.field.specs.Folds.{Additive, Small, total, half, single, pair, quad, octet, Folded, Halved, Packed}
+use Rattle.field.specs.inner.Lanes.{lanes, Below, Block}
+use Rattle.field.specs.inner.Folds.{Additive, Small, total, half, single, pair, quad, octet, Folded, Halved, Packed}
 use Rattle.field.proofs.Sums.{sum-suc, sum-cong, sum-split, sum-scale, sum-lt}
 use Rattle.field.proofs.Below.{past-end}
 use Rattle.field.proofs.Lanewise.{F}

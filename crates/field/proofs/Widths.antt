@@ -7,7 +7,8 @@ use Prim.Native.Nat.{ℕ, zero, suc, _-_, _%_, _<_, _≤_}
 use native.Mathlib.Omega.{arith}
 use lib.Dec.{T, eqb, leb, ltb, eqb→eq, leb→le, ltb→lt, T-not}
 use borrow.Author.Tests.{eqb-true}
-use Rattle.field.specs.Field.{order, double, power, α, arithmetic}
+use Rattle.field.specs.Field.{order, double, power, α}
+use Rattle.field.specs.inner.Operand.{arithmetic}
 use Rattle.field.specs.Question.{isWidth}
 use Rattle.field.proofs.Powers.{power-zero, power-suc, power-lt, double-product}
 use Rattle.field.proofs.Laws.{Generates, IsField, isField, CubeInjective, cubes}

@@ -1,22 +1,14 @@
 -- What the four calls of the field answer on every input. Assumes nothing.
-use mathlib.Core.Path.{_≡_}
-use mathlib.Core.Bool.{true, not, cond}
+use mathlib.Core.Bool.{not}
 use mathlib.Core.List.{List, [], _∷_}
-use Prim.Native.Nat.{ℕ, _<_}
+use Prim.Native.Nat.{ℕ}
 use lib.Dec.{eqb}
 use Rattle.field.specs.Polynomial.{add}
 use Rattle.field.specs.Field.{order, product, power, inverse}
-use Rattle.field.specs.Question.{Outcome, accepted, refused, refusal, ask, after, isWidth, allBelow}
+use Rattle.field.specs.Question.{Outcome, accepted, ask, after, isWidth, allBelow}
 use Rattle.field.specs.declared.Question.the-variants.{Width, Symbol, Nonzero}
 use Rattle.field.specs.declared.Verdict.{Verdict}
 use Rattle.field.specs.declared.Verdict.the-variants.{Passed}
-use Rattle.field.specs.declared.Answer.{Answer}
-use Rattle.field.specs.declared.Answer.the-variants.{Value, Refused}
-
--- the number and the value of each case of the answer
-abbrev pub outcome : Answer → Outcome
-outcome (Value x) = accepted x
-outcome (Refused q) = refused (refusal q)
 
 -- questions 1 and 7, put to the operands
 unfoldable pub operands : ℕ → List ℕ → Verdict
@@ -34,12 +26,3 @@ powerOf m a e = after (operands m (a ∷ [])) (accepted (power m a e))
 -- question 10 comes last
 abbrev pub inverseOf : ℕ → ℕ → Outcome
 inverseOf m a = after (operands m (a ∷ [])) (after (ask (not (eqb a 0)) Nonzero Passed) (accepted (inverse m a)))
-
--- a symbol at a width of the field: what a call below the questions needs to be right
-pub record Operand (m a : ℕ) : Type 0 where
-  pub width : isWidth m ≡ true
-  pub symbol : a < order m
-
--- q, or 0 where the width is none of the field's
-abbrev pub orderOf : ℕ → ℕ
-orderOf m = cond (isWidth m) (order m) 0

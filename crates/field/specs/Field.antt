@@ -3,7 +3,7 @@
 use mathlib.Core.Bool.{cond}
 use Prim.Native.Nat.{ℕ, zero, suc, _-_, _*_, _%_, _^_}
 use lib.Dec.{ltb, eqb}
-use Rattle.field.specs.Polynomial.{add, carryless, digits, digitsFrom}
+use Rattle.field.specs.Polynomial.{add, carryless, digits}
 
 -- q, the number of symbols
 abbrev pub order : ℕ → ℕ
@@ -42,8 +42,3 @@ abbrev pub α : ℕ
 -- inverse: the power q-2
 unfoldable pub inverse : ℕ → ℕ → ℕ
 inverse m a = power m a (order m - 2)
-
--- `unfolding arithmetic` opens every definition above, for a fact that is computed
-unfoldable pub arithmetic : ℕ
-unfolding add carryless digits digitsFrom polynomial reduce double remainder product power inverse
-arithmetic = zero

@@ -2,10 +2,9 @@
 -- Assumes nothing.
 use mathlib.Core.List.{List, [], _∷_}
 use Prim.Native.Nat.{ℕ, zero, suc, _*_}
-use lib.ListN.{length, getD}
+use lib.ListN.{getD}
 use Rattle.field.specs.Polynomial.{add}
 use Rattle.field.specs.Field.{product, power, α}
-use Rattle.field.specs.Bytes.{widthFor, symbolFor}
 
 -- the symbol at place p of the word w
 abbrev pub at : List ℕ → ℕ → ℕ
@@ -23,7 +22,3 @@ five f = f 0 ∷ f 1 ∷ f 2 ∷ f 3 ∷ f 4 ∷ []
 -- the field sum over i below n of α^(k·i) times c_i
 abbrev pub weighted : ℕ → ℕ → (ℕ → ℕ) → ℕ → ℕ
 weighted m n c k = sum n (λ i. product m (power m α (k * i)) (c i))
-
--- the five weighted sums of any bytes: those of the symbols that they stand for, at the width that the byte m stands for
-unfoldable pub sumsFor : ℕ → List ℕ → List ℕ
-sumsFor m xs = five (weighted (widthFor m) (length xs) (λ i. symbolFor m (at xs i)))

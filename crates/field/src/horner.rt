@@ -4,8 +4,8 @@ ghost use mathlib.Core.Path.{_≡_};
 ghost use Prim.Native.Nat.{ℕ, _<_};
 ghost use Rattle.field.specs.Polynomial.{add};
 ghost use Rattle.field.specs.Field.{order, product, power, α};
-ghost use Rattle.field.specs.Bytes.{widthFor, symbolFor};
-ghost use Rattle.field.specs.Sum.{five, sumsFor, at};
+ghost use Rattle.field.specs.inner.Bytes.{widthFor, symbolFor, sumsFor};
+ghost use Rattle.field.specs.Sum.{five, at};
 use crate::arithmetic::symbol_of;
 use crate::shift::shift;
 

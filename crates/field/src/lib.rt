@@ -2,7 +2,8 @@
 ghost use mathlib.Core.Path.{_≡_};
 ghost use mathlib.Core.List.{_∷_, []};
 ghost use Rattle.field.specs.Question.{refusal};
-ghost use Rattle.field.specs.Answer.{operands, outcome, sumOf, productOf, powerOf, inverseOf};
+ghost use Rattle.field.specs.Answer.{operands, sumOf, productOf, powerOf, inverseOf};
+ghost use Rattle.field.specs.inner.Operand.{outcome};
 
 pub mod arithmetic;
 mod folds;

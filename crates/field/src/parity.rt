@@ -1,7 +1,7 @@
 // The five weighted sums of a list of symbols, by Horner's rule; where 127 symbols of width 7 are given, by folds of numbers that hold eight
 // symbols each. No entry point.
 ghost use mathlib.Core.Path.{_≡_};
-ghost use Rattle.field.specs.Sum.{sumsFor};
+ghost use Rattle.field.specs.inner.Bytes.{sumsFor};
 use crate::folds::by_folds;
 use crate::horner::one_by_one;
 

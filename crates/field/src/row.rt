@@ -4,7 +4,7 @@ ghost use mathlib.Core.Path.{_≡_};
 ghost use Prim.Native.Nat.{_+_, _*_, _%_, _<_};
 ghost use Rattle.field.specs.Polynomial.{add};
 ghost use Rattle.field.specs.Sum.{at};
-ghost use Rattle.field.specs.Lanes.{lanes, lane, Below, eight, Multiples, named};
+ghost use Rattle.field.specs.inner.Lanes.{lanes, lane, Below, eight, Multiples, named};
 use crate::lanes::byte;
 use crate::lanes::shift;
 

@@ -4,8 +4,8 @@
 ghost use mathlib.Core.Path.{_≡_};
 ghost use Prim.Native.Nat.{_+_, _^_, _≤_};
 ghost use Rattle.field.specs.Field.{order, polynomial, product as productM, power as powerM, α};
-ghost use Rattle.field.specs.Answer.{Operand};
-ghost use Rattle.field.specs.Bytes.{shifted};
+ghost use Rattle.field.specs.inner.Operand.{Operand};
+ghost use Rattle.field.specs.inner.Bytes.{shifted};
 
 // a times the power k of α, where the digits that come back stay below x^width.
 fn wrap(width: u8, middle: u8, a: u8, k: u8) -> u8

@@ -11,15 +11,15 @@ use lib.ListN.{length, take, drop}
 use lib.Seq.{drop-drop}
 use Rattle.field.specs.Field.{order}
 use Rattle.field.specs.Question.{Outcome, accepted, refused, refusal, ask, after, isWidth, allBelow}
-use Rattle.field.specs.Answer.{orderOf}
+use Rattle.field.specs.inner.Operand.{orderOf}
 use Rattle.field.specs.declared.Question.{Question}
 use Rattle.field.specs.declared.Question.the-variants.{Width, Length, Symbol, Syndrome, SheetWidth, Date, Unused}
 use Rattle.field.specs.declared.Verdict.{Verdict}
 use Rattle.field.specs.declared.Verdict.the-variants.{Passed, Refused}
 use Rattle.field.proofs.Ask.{width-yes, width-no, order-is}
 use Rattle.code.specs.Word.{checks, places}
-use Rattle.code.specs.Call.{allZero, zeroSyndromes, done, testAsked, testOf}
-use Rattle.code.proofs.Answers.{test-width, test-size, test-symbols}
+use Rattle.code.specs.Call.{allZero, zeroSyndromes, done, isCodewordAsked, isCodewordOf}
+use Rattle.code.proofs.calls.Answers.{test-width, test-size, test-symbols}
 use Rattle.code.proofs.Loops.{part-drop}
 use Rattle.sheet.specs.Sheet.{sheetWidth, sheetSize, isDated, symbolsOf, unusedSymbols}
 use Rattle.sheet.specs.Call.{sheetAsked, contentAsked, writeSheetAsked, readSheetAsked}
@@ -106,8 +106,8 @@ after-accepted Passed o x e = refl
 after-accepted (Refused q) o x e = let y : _≡_ {A = ℕ} 0 1 = cc in absurd (omega arith)
 
 -- a word that the codeword test judges has the length of the width
-pub tested-long : (m : ℕ) (w : List ℕ) (x : ℕ) → accepted x ≡ testOf m w → length w ≡ places m
-tested-long m w x e = test-size m w _ refl (after-accepted (testAsked m w) _ x e)
+pub tested-long : (m : ℕ) (w : List ℕ) (x : ℕ) → accepted x ≡ isCodewordOf m w → length w ≡ places m
+tested-long m w x e = test-size m w _ refl (after-accepted (isCodewordAsked m w) _ x e)
 
 module _ (m k : ℕ) (w : List ℕ) where
   pub read-no-width : (q : ℕ) → q ≡ orderOf m → q ≡ 0 → refused (refusal Width) ≡ done (readSheetAsked m w k)
@@ -124,8 +124,8 @@ module _ (m k : ℕ) (w : List ℕ) where
 
   -- the codeword test was put to the word
   module _ (h : k ≡ sheetSize) where
-    pub read-refused : (q : Question) → refused (refusal q) ≡ testOf m w → refused (refusal q) ≡ done (readSheetAsked m w k)
-    unfolding testAsked readSheetAsked
+    pub read-refused : (q : Question) → refused (refusal q) ≡ isCodewordOf m w → refused (refusal q) ≡ done (readSheetAsked m w k)
+    unfolding isCodewordAsked readSheetAsked
     read-refused q e = simp (eq-eqb k sheetSize h) (go (isWidth m) (eqb (length w) (places m)) (allBelow (order m) w) e)
       where
         o : Outcome
@@ -141,11 +141,11 @@ module _ (m k : ℕ) (w : List ℕ) where
         go true true false p = p
         go true true true p = let y : _≡_ {A = ℕ} 0 1 = cc in absurd (omega arith)
 
-    module _ (x : ℕ) (e : accepted x ≡ testOf m w) where
+    module _ (x : ℕ) (e : accepted x ≡ isCodewordOf m w) where
       asked-first : ask (zeroSyndromes m w) Syndrome (contentAsked m w) ≡ readSheetAsked m w k
       unfolding readSheetAsked
       asked-first =
-          let p = after-accepted (testAsked m w) _ x e in
+          let p = after-accepted (isCodewordAsked m w) _ x e in
           simp (
             test-width m w _ refl p,
             eq-eqb (length w) (places m) (test-size m w _ refl p),
@@ -154,16 +154,16 @@ module _ (m k : ℕ) (w : List ℕ) where
           )
 
       tested : accepted x ≡ accepted (cond (zeroSyndromes m w) 1 0)
-      tested = e ∙ ap (λ (v : Verdict). after v (accepted (cond (zeroSyndromes m w) 1 0))) (after-accepted (testAsked m w) _ x e)
+      tested = e ∙ ap (λ (v : Verdict). after v (accepted (cond (zeroSyndromes m w) 1 0))) (after-accepted (isCodewordAsked m w) _ x e)
 
-    pub read-other : accepted 0 ≡ testOf m w → refused (refusal Syndrome) ≡ done (readSheetAsked m w k)
+    pub read-other : accepted 0 ≡ isCodewordOf m w → refused (refusal Syndrome) ≡ done (readSheetAsked m w k)
     read-other e = go (zeroSyndromes m w) (tested 0 e) ∙ ap done (asked-first 0 e)
       where
         go : (z : Bool) → accepted 0 ≡ accepted (cond z 1 0) → refused (refusal Syndrome) ≡ done (ask z Syndrome (contentAsked m w))
         go true p = let y : _≡_ {A = ℕ} 0 1 = cc in absurd (omega arith)
         go false p = refl
 
-    pub read-content : accepted 1 ≡ testOf m w → (u : Verdict) → u ≡ contentAsked m w → done u ≡ done (readSheetAsked m w k)
+    pub read-content : accepted 1 ≡ isCodewordOf m w → (u : Verdict) → u ≡ contentAsked m w → done u ≡ done (readSheetAsked m w k)
     read-content e u f = ap done (f ∙ go (zeroSyndromes m w) (tested 1 e) ∙ asked-first 1 e)
       where
         go : (z : Bool) → accepted 1 ≡ accepted (cond z 1 0) → contentAsked m w ≡ ask z Syndrome (contentAsked m w)

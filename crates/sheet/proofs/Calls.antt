@@ -10,7 +10,7 @@ use Rattle.field.specs.declared.Verdict.{Verdict}
 use Rattle.field.specs.declared.Verdict.the-variants.{Passed, Refused}
 use Rattle.code.specs.Word.{checks}
 use Rattle.code.specs.Call.{written, done, encodeAsked, Encodes}
-use Rattle.code.proofs.Passing.{encode-passes}
+use Rattle.code.proofs.calls.Passing.{encode-passes}
 use Rattle.sheet.specs.Sheet.{sheetWidth, sheetSize, sheetData, sheetWord, symbolsOf}
 use Rattle.sheet.specs.Call.{writeSheetAsked, WritesSheet, readSheetAsked, ReadsSheet}
 use Rattle.sheet.specs.Demands.{Writable}

@@ -17,9 +17,9 @@ use Rattle.code.specs.Word.{checks, places, items, at, Codeword, encode, dataOf
 use Rattle.code.specs.Call.{allZero, zeroSyndromes}
 use Rattle.code.specs.Demands.{Data}
 use Rattle.code.proofs.Questions.{allBelow-means, allBelow-holds, allZero-below}
-use Rattle.code.proofs.Passing.{syndromes-zero, zero-syndromes}
+use Rattle.code.proofs.calls.Passing.{syndromes-zero, zero-syndromes}
 use Rattle.field.proofs.Widths.{field-of}
-use Rattle.code.proofs.Encoding.{encode-codeword, codeword-encode}
+use Rattle.code.proofs.calls.Encoding.{encode-codeword, codeword-encode}
 use Rattle.sheet.specs.Sheet.{sheetWidth, sheetSize, unusedSize, isDated, sheetData, sheetWord, symbolsOf, unusedSymbols}
 use Rattle.sheet.specs.Call.{writeSheetAsked, contentAsked, readSheetAsked}
 use Rattle.sheet.specs.Demands.{SheetSymbols, DaySheet, Writable, Readable}

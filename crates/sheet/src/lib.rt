@@ -130,7 +130,7 @@ fn ask_read(width: u8, word: &[u8], n: usize) -> Verdict
     if n != SHEET {
         return Verdict::Refused(Question::Length);
     }
-    match code::test(width, word) {
+    match code::is_codeword(width, word) {
         Membership::Codeword => ask_content(width, word),
         Membership::Other => Verdict::Refused(Question::Syndrome),
         Membership::Refused(q) => Verdict::Refused(q),

@@ -55,7 +55,7 @@ fn encode(name: &[u8], width: u8, message: &[u8]) {
 }
 
 fn test(name: &[u8], width: u8, word: &[u8]) {
-    match code::test(width, word) {
+    match code::is_codeword(width, word) {
         Membership::Codeword => show(name, 0, 1, b""),
         Membership::Other => show(name, 0, 0, b""),
         Membership::Refused(q) => show(name, field::refusal_number(q), 0, b""),
@@ -64,7 +64,7 @@ fn test(name: &[u8], width: u8, word: &[u8]) {
 
 fn read(name: &[u8], width: u8, word: &[u8]) {
     let mut message = [200u8; 7];
-    let v = code::read(width, word, &mut message);
+    let v = code::read_data(width, word, &mut message);
     show_verdict(name, v, &message);
 }
 
@@ -206,7 +206,7 @@ fn width_four() {
     show_verdict(b"encode at width 4", v, &word);
     test(b"test at width 4", 4, &four);
     let mut message = [200u8; 15];
-    let u = code::read(4, &four, &mut message);
+    let u = code::read_data(4, &four, &mut message);
     show_verdict(b"read at width 4", u, &message);
     restore_four(b"width 4", four, b"");
     restore_four(b"width 4, mark 20", four, &[20]);

@@ -8,7 +8,7 @@ use Rattle.exports.proofs.xrs_syndromes.Tie as tie
 returns : tie.Need-returns
 returns c =
     let v = c .before .pack-verdict in
-    let d = c .before .before .before .masked-syndromes .ensures in
+    let d = c .before .before .before .syndromes .ensures in
     c .pack-bytes .ensures ∙ ap₂ packedBytes (v .ensures ∙ ap packed (d .answer)) (d .sums)
 
 pub xrs-syndromes-spec : {M : Type 1} → statement M

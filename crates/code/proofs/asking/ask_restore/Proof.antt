@@ -5,7 +5,7 @@ use native.Mathlib.Omega.{arith}
 use Rattle.field.specs.declared.Verdict.the-variants.{Passed}
 use Rattle.field.proofs.Widths.{order-small}
 use Rattle.code.specs.Call.{restoreAsked}
-use Rattle.code.proofs.Answers.{word-width, word-size, word-on, word-stop}
+use Rattle.code.proofs.calls.Answers.{word-width, word-size, word-on, word-stop}
 use Rattle.code.proofs.asking.ask_restore.Statement.{statement}
 use Rattle.code.proofs.asking.ask_restore.Tie as tie
 

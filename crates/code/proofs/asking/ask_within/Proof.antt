@@ -4,7 +4,7 @@ use mathlib.Core.Path.{_≡_, sym, _∙_}
 use native.Mathlib.Omega.{arith}
 use Rattle.field.specs.declared.Verdict.the-variants.{Passed}
 use Rattle.code.specs.Demands.{Passes}
-use Rattle.code.proofs.Passing.{within-stop, passes-within, longer-refused}
+use Rattle.code.proofs.calls.Passing.{within-stop, passes-within, longer-refused}
 use Rattle.code.proofs.asking.ask_within.Statement.{statement}
 use Rattle.code.proofs.asking.ask_within.Tie as tie
 

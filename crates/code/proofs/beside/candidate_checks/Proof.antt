@@ -5,11 +5,11 @@ use mathlib.Core.List.{List, [], _∷_}
 use Prim.Native.Nat.{ℕ}
 use lib.ListN.{length, getD, take}
 use Rattle.code.specs.Word.{at}
-use Rattle.code.specs.Matrix.{unknowns}
-use Rattle.code.specs.Correction.{placesOf}
-use Rattle.code.specs.Beside.{Tell}
-use Rattle.code.proofs.BesideWays.{take-one, take-two}
-use Rattle.code.proofs.CheckPlaces.{rows-check, rows-one, rows-two}
+use Rattle.code.specs.inner.Matrix.{unknowns}
+use Rattle.code.specs.inner.Correction.{placesOf}
+use Rattle.code.specs.inner.Beside.{Tell}
+use Rattle.code.proofs.finding.BesideWays.{take-one, take-two}
+use Rattle.code.proofs.finding.CheckPlaces.{rows-check, rows-one, rows-two}
 use Rattle.code.proofs.beside.candidate_checks.Statement.{statement}
 use Rattle.code.proofs.beside.candidate_checks.Tie as tie
 

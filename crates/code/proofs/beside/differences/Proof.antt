@@ -3,7 +3,7 @@ use borrow.Author.Needs.{needs}
 use mathlib.Core.Path.{_≡_}
 use lib.ListN.{length}
 use Rattle.field.proofs.Widths.{field-of}
-use Rattle.code.proofs.CheckPlaces.{differences-row}
+use Rattle.code.proofs.finding.CheckPlaces.{differences-row}
 use Rattle.code.proofs.beside.differences.Statement.{statement}
 use Rattle.code.proofs.beside.differences.Tie as tie
 

@@ -6,7 +6,7 @@ use Rattle.field.specs.Polynomial.{add}
 use Rattle.field.specs.Field.{product}
 use Rattle.field.proofs.Widths.{field-of}
 use Rattle.field.proofs.Bytes.{xor-add}
-use Rattle.code.proofs.Locating.{column-point}
+use Rattle.code.proofs.finding.Locating.{column-point}
 use Rattle.code.proofs.beside.eliminated.Statement.{statement}
 use Rattle.code.proofs.beside.eliminated.Tie as tie
 

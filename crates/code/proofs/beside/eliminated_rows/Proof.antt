@@ -5,9 +5,9 @@ use mathlib.Core.List.{[], _∷_}
 use Prim.Native.Nat.{ℕ}
 use native.Mathlib.Omega.{arith}
 use lib.ListN.{length, getD, take}
-use Rattle.code.specs.Matrix.{unknowns}
-use Rattle.code.specs.Correction.{placesOf}
-use Rattle.code.proofs.BesideWays.{take-one, take-two, eliminated-single, eliminated-double}
+use Rattle.code.specs.inner.Matrix.{unknowns}
+use Rattle.code.specs.inner.Correction.{placesOf}
+use Rattle.code.proofs.finding.BesideWays.{take-one, take-two, eliminated-single, eliminated-double}
 use Rattle.code.proofs.beside.eliminated_rows.Statement.{statement}
 use Rattle.code.proofs.beside.eliminated_rows.Tie as tie
 

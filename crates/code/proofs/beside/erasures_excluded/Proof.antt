@@ -5,8 +5,8 @@ use mathlib.Core.Path.{sym, _∙_}
 use mathlib.Core.Bool.{false≢true}
 use native.Mathlib.Omega.{arith}
 use Rattle.field.proofs.Widths.{field-of}
-use Rattle.code.specs.Correction.{placesOf}
-use Rattle.code.proofs.CheckPlaces.{none-alone}
+use Rattle.code.specs.inner.Correction.{placesOf}
+use Rattle.code.proofs.finding.CheckPlaces.{none-alone}
 use Rattle.code.proofs.beside.erasures_excluded.Statement.{statement}
 use Rattle.code.proofs.beside.erasures_excluded.Tie as tie
 

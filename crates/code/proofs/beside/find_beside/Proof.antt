@@ -4,10 +4,10 @@ use Prim.Native.Nat.{zero-le}
 use native.Mathlib.Nat.{le-refl}
 use Rattle.field.proofs.Widths.{field-of}
 use Rattle.code.specs.Word.{at}
-use Rattle.code.specs.Correction.{Ready, placesOf}
-use Rattle.code.specs.Beside.{Eliminated, NoneOutside}
-use Rattle.code.proofs.Trying.{sums-at, searched-nothing, searched-found, searched-last}
-use Rattle.code.proofs.BesideErasures.{none-beside}
+use Rattle.code.specs.inner.Correction.{Ready, placesOf}
+use Rattle.code.specs.inner.Beside.{Eliminated, NoneOutside}
+use Rattle.code.proofs.restoring.Trying.{sums-at, searched-nothing, searched-found, searched-last}
+use Rattle.code.proofs.finding.BesideErasures.{none-beside}
 use Rattle.code.proofs.beside.find_beside.Statement.{statement}
 use Rattle.code.proofs.beside.find_beside.Tie as tie
 

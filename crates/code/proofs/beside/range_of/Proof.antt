@@ -5,7 +5,7 @@ use mathlib.Core.List.{List}
 use Prim.Native.Nat.{ℕ, _+_, _-_, _≤_}
 use native.Mathlib.Omega.{arith}
 use Rattle.code.specs.Word.{at}
-use Rattle.code.specs.Beside.{NoneOutside, Tell}
+use Rattle.code.specs.inner.Beside.{NoneOutside, Tell}
 use Rattle.code.proofs.beside.range_of.Statement.{statement}
 use Rattle.code.proofs.beside.range_of.Tie as tie
 

@@ -2,10 +2,10 @@
 use borrow.Author.Needs.{needs}
 use Prim.Native.Nat.{_-_}
 use native.Mathlib.Nat.{le-refl}
-use Rattle.code.specs.Correction.{Ready, placesOf, NoneBeside}
+use Rattle.code.specs.inner.Correction.{Ready, placesOf, NoneBeside}
 use Rattle.code.proofs.Loops.{Sought, sought-start, sought-on}
-use Rattle.code.proofs.Trying.{searched-none, searched-nothing, searched-found}
-use Rattle.code.proofs.CheckPlaces.{range-tried}
+use Rattle.code.proofs.restoring.Trying.{searched-none, searched-nothing, searched-found}
+use Rattle.code.proofs.finding.CheckPlaces.{range-tried}
 use Rattle.code.proofs.beside.try_checks.Statement.{statement}
 use Rattle.code.proofs.beside.try_checks.Tie as tie
 

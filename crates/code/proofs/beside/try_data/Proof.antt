@@ -8,10 +8,10 @@ use native.Mathlib.Omega.{arith}
 use lib.ListN.{length, getD, take}
 use Rattle.field.specs.Question.{allBelow}
 use Rattle.code.specs.Word.{checks}
-use Rattle.code.specs.Matrix.{unknowns}
-use Rattle.code.specs.Correction.{placesOf}
-use Rattle.code.specs.Beside.{Only}
-use Rattle.code.proofs.BesideWays.{take-one, take-two, eliminated-one, only-one, below-one}
+use Rattle.code.specs.inner.Matrix.{unknowns}
+use Rattle.code.specs.inner.Correction.{placesOf}
+use Rattle.code.specs.inner.Beside.{Only}
+use Rattle.code.proofs.finding.BesideWays.{take-one, take-two, eliminated-one, only-one, below-one}
 use Rattle.code.proofs.beside.try_data.Statement.{statement}
 use Rattle.code.proofs.beside.try_data.Tie as tie
 

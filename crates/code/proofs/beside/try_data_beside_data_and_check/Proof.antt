@@ -2,9 +2,9 @@
 use borrow.Author.Needs.{needs}
 use Prim.Native.Nat.{_+_}
 use native.Mathlib.Omega.{arith}
-use Rattle.code.specs.Correction.{placesOf}
-use Rattle.code.proofs.Trying.{sums-lt}
-use Rattle.code.proofs.BesideWays.{eliminated-data}
+use Rattle.code.specs.inner.Correction.{placesOf}
+use Rattle.code.proofs.restoring.Trying.{sums-lt}
+use Rattle.code.proofs.finding.BesideWays.{eliminated-data}
 use Rattle.code.proofs.beside.try_data_beside_data_and_check.Statement.{statement}
 use Rattle.code.proofs.beside.try_data_beside_data_and_check.Tie as tie
 

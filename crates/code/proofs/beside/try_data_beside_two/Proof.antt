@@ -6,9 +6,9 @@ use mathlib.Core.List.{List, [], _∷_}
 use Prim.Native.Nat.{ℕ}
 use Rattle.field.specs.Question.{allBelow}
 use Rattle.code.specs.Word.{checks}
-use Rattle.code.specs.Correction.{placesOf}
-use Rattle.code.specs.Beside.{Arranged, same, swapped, Only}
-use Rattle.code.proofs.BesideWays.{eliminated-two, only-one, only-two, only-swap, below-one, below-two}
+use Rattle.code.specs.inner.Correction.{placesOf}
+use Rattle.code.specs.inner.Beside.{Arranged, same, swapped, Only}
+use Rattle.code.proofs.finding.BesideWays.{eliminated-two, only-one, only-two, only-swap, below-one, below-two}
 use Rattle.code.proofs.beside.try_data_beside_two.Statement.{statement}
 use Rattle.code.proofs.beside.try_data_beside_two.Tie as tie
 

@@ -3,8 +3,8 @@ use borrow.Author.Needs.{needs}
 use mathlib.Core.Path.{refl, sym, _∙_}
 use native.Mathlib.Nat.{le-refl}
 use native.Mathlib.Omega.{arith}
-use Rattle.code.specs.Correction.{NoneAt}
-use Rattle.code.proofs.Trying.{searched-outside, searched-listed, searched-last, searched-place}
+use Rattle.code.specs.inner.Correction.{NoneAt}
+use Rattle.code.proofs.restoring.Trying.{searched-outside, searched-listed, searched-last, searched-place}
 use Rattle.code.proofs.beside.try_place.Statement.{statement}
 use Rattle.code.proofs.beside.try_place.Tie as tie
 

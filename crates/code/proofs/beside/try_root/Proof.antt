@@ -2,8 +2,8 @@
 use borrow.Author.Needs.{needs}
 use mathlib.Core.Path.{ap}
 use native.Mathlib.Omega.{arith}
-use Rattle.code.specs.Correction.{placesOf}
-use Rattle.code.proofs.BesideWays.{root-out, root-place}
+use Rattle.code.specs.inner.Correction.{placesOf}
+use Rattle.code.proofs.finding.BesideWays.{root-out, root-place}
 use Rattle.code.proofs.beside.try_root.Statement.{statement}
 use Rattle.code.proofs.beside.try_root.Tie as tie
 

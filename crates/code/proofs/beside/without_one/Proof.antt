@@ -2,7 +2,7 @@
 use borrow.Author.Needs.{needs}
 use mathlib.Core.Path.{refl}
 use native.Mathlib.Omega.{arith}
-use Rattle.code.proofs.Trying.{sums-lt}
+use Rattle.code.proofs.restoring.Trying.{sums-lt}
 use Rattle.code.proofs.beside.without_one.Statement.{statement}
 use Rattle.code.proofs.beside.without_one.Tie as tie
 

@@ -5,10 +5,10 @@ use mathlib.Core.List.{List}
 use Prim.Native.Nat.{ℕ}
 use native.Mathlib.Omega.{arith}
 use Rattle.code.specs.Word.{five, at}
-use Rattle.code.specs.Locate.{point}
-use Rattle.code.specs.Beside.{eliminate}
-use Rattle.code.proofs.Trying.{sums-lt}
-use Rattle.code.proofs.CheckPlaces.{first-lt}
+use Rattle.code.specs.inner.Locate.{point}
+use Rattle.code.specs.inner.Beside.{eliminate}
+use Rattle.code.proofs.restoring.Trying.{sums-lt}
+use Rattle.code.proofs.finding.CheckPlaces.{first-lt}
 use Rattle.code.proofs.beside.without_two.Statement.{statement}
 use Rattle.code.proofs.beside.without_two.Tie as tie
 

@@ -5,7 +5,7 @@ use Prim.Native.Nat.{_-_, _<_}
 use Rattle.code.proofs.Blocks.{pass-block}
 use lib.ListN.{length}
 use Rattle.field.specs.Sum.{at}
-use Rattle.code.specs.Block.{Run}
+use Rattle.code.specs.inner.Block.{Run}
 use Rattle.code.proofs.block.pass_below.Statement.{statement}
 use Rattle.code.proofs.block.pass_below.Tie as tie
 

@@ -4,7 +4,7 @@ use mathlib.Core.Path.{_≡_}
 use native.Mathlib.Omega.{arith}
 use Prim.Native.Nat.{_-_, _≤_, _<_}
 use lib.ListN.{length, getD}
-use Rattle.code.proofs.Writing.{Written, written-start, written-size, written-below, written-fits, written-on, written-end}
+use Rattle.code.proofs.restoring.Writing.{Written, written-start, written-size, written-below, written-fits, written-on, written-end}
 use Rattle.code.proofs.correction.apply_correction.Statement.{statement}
 use Rattle.code.proofs.correction.apply_correction.Tie as tie
 

@@ -1,7 +1,7 @@
 -- `code::correction::change_at` meets its contract. Assumes nothing.
 use borrow.Author.Needs.{needs}
 use Rattle.code.specs.Erasure.{member}
-use Rattle.code.proofs.Repairing.{change-same, change-erased, change-here}
+use Rattle.code.proofs.restoring.Repairing.{change-same, change-erased, change-here}
 use Rattle.code.proofs.correction.change_at.Statement.{statement}
 use Rattle.code.proofs.correction.change_at.Tie as tie
 

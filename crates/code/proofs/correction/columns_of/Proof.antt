@@ -4,9 +4,9 @@ use mathlib.Core.Path.{_≡_, subst}
 use Prim.Native.Nat.{ℕ, _-_, _≤_}
 use native.Mathlib.Omega.{arith}
 use lib.ListN.{length, take}
-use Rattle.code.specs.Matrix.{unknowns}
-use Rattle.code.specs.Correction.{SystemColumns}
-use Rattle.code.proofs.Correcting.{columns-start, columns-on}
+use Rattle.code.specs.inner.Matrix.{unknowns}
+use Rattle.code.specs.inner.Correction.{SystemColumns}
+use Rattle.code.proofs.restoring.Correcting.{columns-start, columns-on}
 use Rattle.code.proofs.correction.columns_of.Statement.{statement}
 use Rattle.code.proofs.correction.columns_of.Tie as tie
 

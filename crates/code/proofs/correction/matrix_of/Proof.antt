@@ -7,8 +7,8 @@ use native.Mathlib.Omega.{arith}
 use lib.ListN.{length, take}
 use lib.Seq.{length-take-le}
 use Rattle.code.specs.Word.{at}
-use Rattle.code.specs.Correction.{SystemRow}
-use Rattle.code.proofs.Correcting.{each-row, system-row}
+use Rattle.code.specs.inner.Correction.{SystemRow}
+use Rattle.code.proofs.restoring.Correcting.{each-row, system-row}
 use mir.Syntax.{w8}
 use Rattle.code.proofs.correction.matrix_of.Statement.{statement}
 use Rattle.code.proofs.correction.matrix_of.Tie as tie

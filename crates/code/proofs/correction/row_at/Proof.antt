@@ -4,8 +4,8 @@ use mathlib.Core.Path.{_≡_, ap}
 use mathlib.Core.List.{List, [], _∷_, _++_}
 use Prim.Native.Nat.{ℕ}
 use lib.ListN.{length}
-use Rattle.code.specs.Matrix.{unknowns}
-use Rattle.code.proofs.RowLaws.{column-entries}
+use Rattle.code.specs.inner.Matrix.{unknowns}
+use Rattle.code.proofs.solving.RowLaws.{column-entries}
 use Rattle.code.proofs.correction.row_at.Statement.{statement}
 use Rattle.code.proofs.correction.row_at.Tie as tie
 

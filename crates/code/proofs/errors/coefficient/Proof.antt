@@ -3,7 +3,7 @@ use borrow.Author.Needs.{needs}
 use mathlib.Core.Path.{ap₂, _∙_}
 use Prim.Native.Nat.{ℕ, _<_}
 use Rattle.field.specs.Polynomial.{add}
-use Rattle.field.specs.Answer.{Operand}
+use Rattle.field.specs.inner.Operand.{Operand}
 use Rattle.field.proofs.Bytes.{xor-add, multiplied-product}
 use Rattle.code.specs.Word.{checks, at}
 use Rattle.code.proofs.errors.coefficient.Statement.{statement}

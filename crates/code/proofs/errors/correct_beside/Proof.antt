@@ -2,7 +2,7 @@
 use borrow.Author.Needs.{needs}
 use mathlib.Core.Path.{_∙_}
 use native.Mathlib.Omega.{arith}
-use Rattle.code.proofs.PlainWays.{beside-over, beside-found}
+use Rattle.code.proofs.finding.PlainWays.{beside-over, beside-found}
 use Rattle.code.proofs.errors.correct_beside.Statement.{statement}
 use Rattle.code.proofs.errors.correct_beside.Tie as tie
 

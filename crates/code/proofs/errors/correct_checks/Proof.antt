@@ -2,7 +2,7 @@
 use borrow.Author.Needs.{needs}
 use mathlib.Core.Path.{_∙_}
 use native.Mathlib.Omega.{arith}
-use Rattle.code.proofs.PlainWays.{checks-over, checks-found}
+use Rattle.code.proofs.finding.PlainWays.{checks-over, checks-found}
 use Rattle.code.proofs.errors.correct_checks.Statement.{statement}
 use Rattle.code.proofs.errors.correct_checks.Tie as tie
 

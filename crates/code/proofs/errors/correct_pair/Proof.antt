@@ -1,11 +1,11 @@
 -- `code::errors::correct_pair` meets its contract. Assumes nothing.
 use borrow.Author.Needs.{needs}
-use Rattle.code.specs.Correction.{Ready}
+use Rattle.code.specs.inner.Correction.{Ready}
 use Rattle.code.specs.Word.{checks, places, at}
 use Prim.Native.Nat.{_≤_, _<_}
-use Rattle.code.specs.Locate.{PairValues}
-use Rattle.code.proofs.Trying.{sums-lt}
-use Rattle.code.proofs.PlainWays.{pair-found, pair-out}
+use Rattle.code.specs.inner.Locate.{PairValues}
+use Rattle.code.proofs.restoring.Trying.{sums-lt}
+use Rattle.code.proofs.finding.PlainWays.{pair-found, pair-out}
 use Rattle.code.proofs.errors.correct_pair.Statement.{statement}
 use Rattle.code.proofs.errors.correct_pair.Tie as tie
 

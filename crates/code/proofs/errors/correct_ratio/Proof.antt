@@ -5,8 +5,8 @@ use Prim.Native.Nat.{ℕ, _<_}
 use native.Mathlib.Omega.{arith}
 use Rattle.field.specs.Field.{order}
 use Rattle.field.proofs.Widths.{field-of}
-use Rattle.code.proofs.Trying.{sums-lt}
-use Rattle.code.proofs.PlainWays.{ratio-zero, ratio-out, ratio-beside}
+use Rattle.code.proofs.restoring.Trying.{sums-lt}
+use Rattle.code.proofs.finding.PlainWays.{ratio-zero, ratio-out, ratio-beside}
 use Rattle.code.proofs.errors.correct_ratio.Statement.{statement}
 use Rattle.code.proofs.errors.correct_ratio.Tie as tie
 

@@ -4,10 +4,10 @@ use mathlib.Core.Path.{_≡_, sym, ap, _∙_}
 use Prim.Native.Nat.{ℕ}
 use native.Mathlib.Omega.{arith}
 use Rattle.code.specs.Word.{items, at}
-use Rattle.code.specs.Correction.{Ready}
-use Rattle.code.proofs.Trying.{sums-lt}
-use Rattle.code.proofs.Locator.{leading, middle, constant}
-use Rattle.code.proofs.PlainWays.{roots-zero, roots-unsorted, roots-out, roots-pair}
+use Rattle.code.specs.inner.Correction.{Ready}
+use Rattle.code.proofs.restoring.Trying.{sums-lt}
+use Rattle.code.proofs.finding.Locator.{leading, middle, constant}
+use Rattle.code.proofs.finding.PlainWays.{roots-zero, roots-unsorted, roots-out, roots-pair}
 use Rattle.code.proofs.errors.correct_roots.Statement.{statement}
 use Rattle.code.proofs.errors.correct_roots.Tie as tie
 

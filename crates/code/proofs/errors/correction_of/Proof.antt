@@ -3,7 +3,7 @@ use borrow.Author.Needs.{needs}
 use mathlib.Core.Path.{refl, ap₂, _∙_}
 use Rattle.field.specs.Polynomial.{add}
 use Rattle.field.proofs.Bytes.{xor-add}
-use Rattle.code.proofs.PlainWays.{correction-adds}
+use Rattle.code.proofs.finding.PlainWays.{correction-adds}
 use Rattle.code.proofs.errors.correction_of.Statement.{statement}
 use Rattle.code.proofs.errors.correction_of.Tie as tie
 

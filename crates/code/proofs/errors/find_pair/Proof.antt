@@ -1,8 +1,8 @@
 -- `code::errors::find_pair` meets its contract. Assumes nothing.
 use borrow.Author.Needs.{needs}
 use native.Mathlib.Nat.{le-refl}
-use Rattle.code.proofs.Trying.{searched-nothing, searched-found, searched-last}
-use Rattle.code.proofs.PlainWays.{plain-none}
+use Rattle.code.proofs.restoring.Trying.{searched-nothing, searched-found, searched-last}
+use Rattle.code.proofs.finding.PlainWays.{plain-none}
 use Rattle.code.proofs.errors.find_pair.Statement.{statement}
 use Rattle.code.proofs.errors.find_pair.Tie as tie
 

@@ -2,8 +2,8 @@
 use borrow.Author.Needs.{needs}
 use native.Mathlib.Nat.{le-refl}
 use native.Mathlib.Omega.{arith}
-use Rattle.code.proofs.Trying.{searched-nothing, searched-found, searched-last}
-use Rattle.code.proofs.PlainWays.{plain-none}
+use Rattle.code.proofs.restoring.Trying.{searched-nothing, searched-found, searched-last}
+use Rattle.code.proofs.finding.PlainWays.{plain-none}
 use Rattle.code.proofs.errors.find_single.Statement.{statement}
 use Rattle.code.proofs.errors.find_single.Tie as tie
 

@@ -1,8 +1,8 @@
 -- `code::errors::nonzeros` meets its contract. Assumes nothing.
 use borrow.Author.Needs.{needs}
 use native.Mathlib.Omega.{arith}
-use Rattle.code.specs.Locate.{full}
-use Rattle.code.proofs.Finding.{lists-none}
+use Rattle.code.specs.inner.Locate.{full}
+use Rattle.code.proofs.finding.Finding.{lists-none}
 use Rattle.code.proofs.errors.nonzeros.Statement.{statement}
 use Rattle.code.proofs.errors.nonzeros.Tie as tie
 

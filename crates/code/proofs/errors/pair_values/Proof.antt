@@ -3,13 +3,13 @@ use borrow.Author.Needs.{needs}
 use Prim.Native.Nat.{ℕ, _<_}
 use native.Mathlib.Omega.{arith}
 use mathlib.Core.Path.{_∙_}
-use Rattle.field.specs.Answer.{Operand}
+use Rattle.field.specs.inner.Operand.{Operand}
 use Rattle.field.proofs.Widths.{field-of}
 use Rattle.field.proofs.Ask.{operand-of}
 use Rattle.field.proofs.Bytes.{xor-add}
 use Rattle.code.specs.Word.{checks, at}
 use Rattle.code.proofs.Columns.{column-lt}
-use Rattle.code.proofs.PlainWays.{pair-values}
+use Rattle.code.proofs.finding.PlainWays.{pair-values}
 use Rattle.code.proofs.errors.pair_values.Statement.{statement}
 use Rattle.code.proofs.errors.pair_values.Tie as tie
 

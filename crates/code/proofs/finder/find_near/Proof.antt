@@ -5,8 +5,8 @@ use mathlib.Core.List.{List, []}
 use Prim.Native.Nat.{ℕ}
 use native.Mathlib.Omega.{arith}
 use lib.ListN.{take}
-use Rattle.code.specs.Correction.{placesOf, Searched, NoneWithin}
-use Rattle.code.proofs.BesideWays.{cubes-beside, near-zero, near-same}
+use Rattle.code.specs.inner.Correction.{placesOf, Searched, NoneWithin}
+use Rattle.code.proofs.finding.BesideWays.{cubes-beside, near-zero, near-same}
 use Rattle.code.proofs.finder.find_near.Statement.{statement}
 use Rattle.code.proofs.finder.find_near.Tie as tie
 

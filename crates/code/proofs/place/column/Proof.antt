@@ -9,7 +9,7 @@ use Rattle.field.specs.Field.{power, α}
 use Rattle.field.proofs.Widths.{field-of}
 use Rattle.field.proofs.Bytes.{raised-power}
 use Rattle.field.specs.declared.Exponent.{Exponent}
-use Rattle.code.specs.Place.{multipleOf, column}
+use Rattle.code.specs.inner.Place.{multipleOf, column}
 use Rattle.code.proofs.Columns.{column-unit, column-none, column-power}
 use Rattle.code.proofs.place.column.Statement.{statement}
 use Rattle.code.proofs.place.column.Tie as tie

@@ -5,7 +5,7 @@ use Prim.Native.Nat.{ℕ, _-_, _*_}
 use native.Mathlib.Omega.{arith}
 use Rattle.field.specs.Field.{power, α}
 use Rattle.field.specs.declared.Exponent.{Exponent}
-use Rattle.code.specs.Place.{column}
+use Rattle.code.specs.inner.Place.{column}
 use Rattle.code.proofs.Columns.{column-power}
 use Rattle.code.proofs.place.point.Statement.{statement}
 use Rattle.code.proofs.place.point.Tie as tie

@@ -7,8 +7,8 @@ use Rattle.field.specs.declared.Exponent.{Exponent}
 use Rattle.field.proofs.Widths.{field-of}
 use Rattle.field.proofs.Evaluation.{five-of}
 use Rattle.code.specs.Word.{five}
-use Rattle.code.specs.Place.{column}
-use Rattle.code.proofs.Times.{powers-column, times-one}
+use Rattle.code.specs.inner.Place.{column}
+use Rattle.code.proofs.finding.Times.{powers-column, times-one}
 use Rattle.code.proofs.place.whole_column.Statement.{statement}
 use Rattle.code.proofs.place.whole_column.Tie as tie
 

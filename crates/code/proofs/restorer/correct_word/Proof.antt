@@ -10,9 +10,9 @@ use Rattle.field.specs.Question.{allBelow}
 use Rattle.code.specs.declared.solver.Solutions.the-variants.{None, One, Several}
 use Rattle.code.specs.Near.{radius}
 use Rattle.code.specs.Demands.{Passes}
-use Rattle.code.specs.Correction.{placesOf, Ready, Workable, NoneWithin, Searched}
-use Rattle.code.proofs.Passing.{given, within-passes}
-use Rattle.code.proofs.Repairing.{workable, restores-clean, restores-found, restores-none, restores-several}
+use Rattle.code.specs.inner.Correction.{placesOf, Ready, Workable, NoneWithin, Searched}
+use Rattle.code.proofs.calls.Passing.{given, within-passes}
+use Rattle.code.proofs.restoring.Repairing.{workable, restores-clean, restores-found, restores-none, restores-several}
 use Rattle.code.proofs.restorer.correct_word.Statement.{statement}
 use Rattle.code.proofs.restorer.correct_word.Tie as tie
 

@@ -2,7 +2,7 @@
 use borrow.Author.Needs.{needs}
 use mathlib.Core.Path.{_≡_, refl, sym, _∙_}
 use Rattle.field.specs.declared.Verdict.the-variants.{Passed}
-use Rattle.code.proofs.Repairing.{restores-refused}
+use Rattle.code.proofs.restoring.Repairing.{restores-refused}
 use Rattle.code.proofs.restorer.restore_with.Statement.{statement}
 use Rattle.code.proofs.restorer.restore_with.Tie as tie
 

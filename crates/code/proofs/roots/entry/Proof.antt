@@ -2,7 +2,7 @@
 use borrow.Author.Needs.{needs}
 use mathlib.Core.Path.{refl}
 use native.Mathlib.Omega.{arith}
-use Rattle.code.specs.Scan.{entryOf}
+use Rattle.code.specs.inner.Scan.{entryOf}
 use Rattle.code.proofs.roots.entry.Statement.{statement}
 use Rattle.code.proofs.roots.entry.Tie as tie
 

@@ -2,7 +2,7 @@
 use borrow.Author.Needs.{needs}
 use native.Mathlib.Omega.{arith}
 use Rattle.field.proofs.Bytes.{ratio-own}
-use Rattle.code.proofs.Scanning.{ratio-scanned}
+use Rattle.code.proofs.finding.Scanning.{ratio-scanned}
 use Rattle.code.proofs.roots.first_root.Statement.{statement}
 use Rattle.code.proofs.roots.first_root.Tie as tie
 

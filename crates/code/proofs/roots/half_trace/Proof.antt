@@ -3,8 +3,8 @@ use borrow.Author.Needs.{needs}
 use mathlib.Core.Path.{_≡_, refl, ap, _∙_}
 use Prim.Native.Nat.{ℕ, _/_, _%_, _<_}
 use native.Mathlib.Omega.{arith}
-use Rattle.code.specs.Scan.{entryOf}
-use Rattle.code.proofs.Quadratic.{half-right}
+use Rattle.code.specs.inner.Scan.{entryOf}
+use Rattle.code.proofs.finding.Quadratic.{half-right}
 use Rattle.code.proofs.roots.half_trace.Statement.{statement}
 use Rattle.code.proofs.roots.half_trace.Tie as tie
 

@@ -3,7 +3,7 @@ use mathlib.Core.Path.{sym, ap}
 use mathlib.Core.Logic.{_≢_}
 use Prim.Native.Nat.{ℕ, suc, _≤_}
 use native.Mathlib.Omega.{arith}
-use Rattle.code.specs.Scan.{halfWord, halfWords}
+use Rattle.code.specs.inner.Scan.{halfWord, halfWords}
 use Rattle.code.proofs.roots.half_words.Statement.{statement}
 use Rattle.code.proofs.roots.half_words.Tie as tie
 

@@ -2,7 +2,7 @@
 use borrow.Author.Needs.{needs}
 use mathlib.Core.Path.{sym, _∙_}
 use Rattle.field.proofs.Bytes.{xor-add, ratio-own}
-use Rattle.code.proofs.Quadratic.{halved-roots}
+use Rattle.code.proofs.finding.Quadratic.{halved-roots}
 use Rattle.code.proofs.roots.halved_roots.Statement.{statement}
 use Rattle.code.proofs.roots.halved_roots.Tie as tie
 

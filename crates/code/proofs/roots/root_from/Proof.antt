@@ -6,8 +6,8 @@ use Prim.Native.Nat.{ℕ, _-_, _≤_}
 use native.Mathlib.Omega.{arith}
 use Rattle.field.specs.Question.{isWidth}
 use Rattle.field.proofs.Bytes.{xor-add}
-use Rattle.code.specs.Scan.{Carried}
-use Rattle.code.proofs.Scanning.{Scanning, scanning-start, scanning-on, scanning-found, scanning-end}
+use Rattle.code.specs.inner.Scan.{Carried}
+use Rattle.code.proofs.finding.Scanning.{Scanning, scanning-start, scanning-on, scanning-found, scanning-end}
 use Rattle.code.proofs.roots.root_from.Statement.{statement}
 use Rattle.code.proofs.roots.root_from.Tie as tie
 

@@ -2,9 +2,9 @@
 use borrow.Author.Needs.{needs}
 use native.Mathlib.Omega.{arith}
 use Rattle.field.proofs.Widths.{field-of}
-use Rattle.code.proofs.Scanning.{carried-on}
-use Rattle.code.proofs.Finding.{carried-start}
-use Rattle.code.proofs.Quadratic.{scan-low, scan-high}
+use Rattle.code.proofs.finding.Scanning.{carried-on}
+use Rattle.code.proofs.finding.Finding.{carried-start}
+use Rattle.code.proofs.finding.Quadratic.{scan-low, scan-high}
 use Rattle.code.proofs.roots.scanned_roots.Statement.{statement}
 use Rattle.code.proofs.roots.scanned_roots.Tie as tie
 

@@ -5,7 +5,7 @@ use Prim.Native.Nat.{ℕ, _<_}
 use native.Mathlib.Omega.{arith}
 use Rattle.field.specs.Field.{order}
 use Rattle.code.specs.Word.{items}
-use Rattle.code.specs.Scan.{Factored}
+use Rattle.code.specs.inner.Scan.{Factored}
 use Rattle.code.proofs.roots.two_roots.Statement.{statement}
 use Rattle.code.proofs.roots.two_roots.Tie as tie
 

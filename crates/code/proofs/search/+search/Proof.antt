@@ -12,10 +12,10 @@ use native.Mathlib.Omega.{arith}
 use borrow.Author.Tests.{not-true}
 use lib.ListN.{length}
 use Rattle.code.specs.Erasure.{member}
-use Rattle.code.specs.Correction.{Ready, placesOf, NoneFrom, Searched}
+use Rattle.code.specs.inner.Correction.{Ready, placesOf, NoneFrom, Searched}
 use Rattle.code.proofs.Loops.{Sought, sought-start, sought-on}
 use Rattle.code.proofs.Questions.{both-ways}
-use Rattle.code.proofs.Trying.{searched-nothing, searched-none, searched-found, searched-place, none-from, none-exact}
+use Rattle.code.proofs.restoring.Trying.{searched-nothing, searched-none, searched-found, searched-place, none-from, none-exact}
 use Rattle.code.proofs.correction.solve_trial.Reads as solve-trial
 use Rattle.code.proofs.correction.solved.Reads as solved
 use Rattle.code.proofs.trial.listed.Reads as listed

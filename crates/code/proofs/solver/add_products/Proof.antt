@@ -6,9 +6,9 @@ use mathlib.Core.Path.{_≡_, sym, _∙_}
 use lib.ListN.{length, getD}
 use Rattle.field.specs.Polynomial.{add}
 use Rattle.field.specs.Field.{product}
-use Rattle.field.specs.Answer.{Operand}
-use Rattle.code.specs.Matrix.{columns, Operands}
-use Rattle.code.proofs.RowLaws.{length-rowAdd, getD-rowAdd}
+use Rattle.field.specs.inner.Operand.{Operand}
+use Rattle.code.specs.inner.Matrix.{columns, Operands}
+use Rattle.code.proofs.solving.RowLaws.{length-rowAdd, getD-rowAdd}
 use Rattle.code.proofs.Loops.{Filled, filled-start, filled-on, filled-end}
 use Rattle.code.proofs.solver.add_products.Statement.{statement}
 use Rattle.code.proofs.solver.add_products.Tie as tie

@@ -6,8 +6,8 @@ use mathlib.Core.Path.{_≡_, sym, ap, _∙_}
 use Prim.Native.Nat.{ℕ}
 use Rattle.field.proofs.Scaling.{multiples-own, multiple-row}
 use Rattle.code.specs.Word.{at}
-use Rattle.code.specs.Matrix.{rowAdd}
-use Rattle.code.proofs.RowLaws.{below-order, eight-rowAdd}
+use Rattle.code.specs.inner.Matrix.{rowAdd}
+use Rattle.code.proofs.solving.RowLaws.{below-order, eight-rowAdd}
 use Rattle.code.proofs.solver.add_times.Statement.{statement}
 use Rattle.code.proofs.solver.add_times.Tie as tie
 

@@ -3,9 +3,9 @@ use borrow.Author.Needs.{needs}
 use Rattle.field.proofs.Scaling.{multiples-own}
 use native.Mathlib.Omega.{arith}
 use Prim.Native.Nat.{_-_}
-use Rattle.code.specs.Matrix.{rows}
+use Rattle.code.specs.inner.Matrix.{rows}
 use Rattle.code.proofs.Loops.{filled-start}
-use Rattle.code.proofs.SolverSteps.{Clearing, clearing-on, clearing-end}
+use Rattle.code.proofs.solving.SolverSteps.{Clearing, clearing-on, clearing-end}
 use Rattle.code.proofs.solver.clear_column.Statement.{statement}
 use Rattle.code.proofs.solver.clear_column.Tie as tie
 

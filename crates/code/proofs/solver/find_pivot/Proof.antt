@@ -2,8 +2,8 @@
 use borrow.Author.Needs.{needs}
 use native.Mathlib.Omega.{arith}
 use Prim.Native.Nat.{_-_}
-use Rattle.code.specs.Matrix.{rows}
-use Rattle.code.proofs.SolverSteps.{Seeking, seeking-start, seeking-on, seeking-found, seeking-end}
+use Rattle.code.specs.inner.Matrix.{rows}
+use Rattle.code.proofs.solving.SolverSteps.{Seeking, seeking-start, seeking-on, seeking-found, seeking-end}
 use Rattle.code.proofs.solver.find_pivot.Statement.{statement}
 use Rattle.code.proofs.solver.find_pivot.Tie as tie
 

@@ -4,8 +4,8 @@ use native.Mathlib.Omega.{arith}
 use Prim.Native.Nat.{ℕ, _-_}
 use mathlib.Core.Path.{_≡_, refl}
 use lib.ListN.{length}
-use Rattle.code.specs.Matrix.{unknowns, entry, rows}
-use Rattle.code.proofs.RowLaws.{length-column, getD-column}
+use Rattle.code.specs.inner.Matrix.{unknowns, entry, rows}
+use Rattle.code.proofs.solving.RowLaws.{length-column, getD-column}
 use Rattle.code.proofs.Loops.{Filled, filled-start, filled-on, filled-end}
 use Rattle.code.proofs.solver.first_column.Statement.{statement}
 use Rattle.code.proofs.solver.first_column.Tie as tie

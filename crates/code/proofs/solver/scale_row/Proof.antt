@@ -4,7 +4,7 @@ use borrow.Kind.Array.{eInt, good-length}
 use mir.Syntax.{w8}
 use mathlib.Core.Path.{_∙_}
 use Rattle.field.proofs.Widths.{field-of}
-use Rattle.code.proofs.RowLaws.{zero-rowAdd}
+use Rattle.code.proofs.solving.RowLaws.{zero-rowAdd}
 use Rattle.code.proofs.solver.scale_row.Statement.{statement}
 use Rattle.code.proofs.solver.scale_row.Tie as tie
 

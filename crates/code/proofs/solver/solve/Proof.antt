@@ -5,7 +5,7 @@ use native.Mathlib.Omega.{arith}
 use mathlib.Core.Path.{refl}
 use mathlib.Core.Logic.{⊎-elim}
 use Prim.Native.Nat.{_-_}
-use Rattle.code.proofs.SolverSteps.{Solving, solving-start, solving-on, solving-past, solved-one, solved-none, solved-several}
+use Rattle.code.proofs.solving.SolverSteps.{Solving, solving-start, solving-on, solving-past, solved-one, solved-none, solved-several}
 use Rattle.code.proofs.solver.solve.Statement.{statement}
 use Rattle.code.proofs.solver.solve.Tie as tie
 

@@ -4,7 +4,7 @@ use mathlib.Core.Path.{_≡_, sym, ap, _∙_, subst}
 use Prim.Native.Nat.{ℕ, _<_}
 use Rattle.field.specs.Field.{order, product}
 use Rattle.code.specs.Word.{five}
-use Rattle.code.specs.Place.{column}
+use Rattle.code.specs.inner.Place.{column}
 use Rattle.code.proofs.trial.column_times.Statement.{statement}
 use Rattle.code.proofs.trial.column_times.Tie as tie
 

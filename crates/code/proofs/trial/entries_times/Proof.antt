@@ -2,7 +2,7 @@
 use borrow.Author.Needs.{needs}
 use Rattle.field.specs.Field.{product}
 use Rattle.field.proofs.Evaluation.{five-of}
-use Rattle.code.specs.Place.{column}
+use Rattle.code.specs.inner.Place.{column}
 use Rattle.code.proofs.trial.entries_times.Statement.{statement}
 use Rattle.code.proofs.trial.entries_times.Tie as tie
 

@@ -6,16 +6,16 @@ use mathlib.Core.List.{List}
 use Prim.Native.Nat.{ℕ}
 use lib.ListN.{length}
 use Rattle.field.specs.Question.{allBelow}
-use Rattle.code.specs.Correction.{Lent}
-use Rattle.code.proofs.Repairing.{plain-sums}
+use Rattle.code.specs.inner.Correction.{Lent}
+use Rattle.code.proofs.restoring.Repairing.{plain-sums}
 use Rattle.code.proofs.trial.erasure_trial.Statement.{statement}
 use Rattle.code.proofs.trial.erasure_trial.Tie as tie
 
 row-of-places-requires : tie.Need-row-of-places-requires
 row-of-places-requires c κs = search needs
 
-syndromes-requires : tie.Need-syndromes-requires
-syndromes-requires c κs = search needs
+word-syndromes-requires : tie.Need-word-syndromes-requires
+word-syndromes-requires c κs = search needs
 
 returns : tie.Need-returns
 returns c =
@@ -28,7 +28,7 @@ returns c =
           record {
             width = v;
             lent = L;
-            sums = plain-sums (a .width) v (a .word .now) _ L (ap length e ∙ c .before .if1 .taken) _ (c .syndromes .ensures v);
+            sums = plain-sums (a .width) v (a .word .now) _ L (ap length e ∙ c .before .if1 .taken) _ (c .word-syndromes .ensures v);
           }),
     )
 
@@ -53,4 +53,4 @@ returns-2 c =
 pub erasure-trial-spec : {M : Type 1} → statement M
 erasure-trial-spec =
     tie.close
-    (tie.spec row-of-places-requires syndromes-requires returns masked-sums-requires returns-2)
+    (tie.spec row-of-places-requires word-syndromes-requires returns masked-sums-requires returns-2)

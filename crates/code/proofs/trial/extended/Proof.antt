@@ -1,7 +1,7 @@
 -- `code::trial::extended` meets its contract. Assumes nothing.
 use borrow.Author.Needs.{needs}
 use mathlib.Core.Path.{refl}
-use Rattle.code.proofs.Trying.{extended-symbol, extended-ready}
+use Rattle.code.proofs.restoring.Trying.{extended-symbol, extended-ready}
 use Rattle.code.proofs.trial.extended.Statement.{statement}
 use Rattle.code.proofs.trial.extended.Tie as tie
 

@@ -3,7 +3,7 @@ use borrow.Author.Needs.{needs}
 use mathlib.Core.Path.{_≡_, refl}
 use native.Mathlib.Omega.{arith}
 use lib.ListN.{length, take, length-set}
-use Rattle.code.proofs.Repairing.{Put, put-start, put-on, put-end, place-below}
+use Rattle.code.proofs.restoring.Repairing.{Put, put-start, put-on, put-end, place-below}
 use Rattle.code.proofs.trial.filled.Statement.{statement}
 use Rattle.code.proofs.trial.filled.Tie as tie
 

@@ -9,7 +9,7 @@ use Rattle.field.specs.Field.{product}
 use Rattle.field.proofs.Bytes.{xor-add}
 use Rattle.field.proofs.Evaluation.{five-at, five-of}
 use Rattle.code.specs.Word.{checks, at}
-use Rattle.code.specs.Place.{column}
+use Rattle.code.specs.inner.Place.{column}
 use Rattle.code.proofs.trial.masked.Statement.{statement}
 use Rattle.code.proofs.trial.masked.Tie as tie
 

@@ -6,7 +6,7 @@ use Prim.Native.Nat.{ℕ}
 use native.Mathlib.Omega.{arith}
 use lib.ListN.{length, take}
 use lib.Seq.{length-take-le}
-use Rattle.code.proofs.Repairing.{filled-word, filled-size, masked-sums, zero-values}
+use Rattle.code.proofs.restoring.Repairing.{filled-word, filled-size, masked-sums, zero-values}
 use Rattle.code.proofs.trial.masked_sums.Statement.{statement}
 use Rattle.code.proofs.trial.masked_sums.Tie as tie
 
@@ -26,11 +26,11 @@ filled-requires c κs = search needs
 array-share-prefix-row : tie.Need-array-share-prefix-row
 array-share-prefix-row c = search needs
 
-slice-aggregate-syndromes : tie.Need-slice-aggregate-syndromes
-slice-aggregate-syndromes c = size (c .before)
+slice-aggregate-word-syndromes : tie.Need-slice-aggregate-word-syndromes
+slice-aggregate-word-syndromes c = size (c .before)
 
-syndromes-requires : tie.Need-syndromes-requires
-syndromes-requires c κs = omega (arith, size (c .before), start (c .before) .pre)
+word-syndromes-requires : tie.Need-word-syndromes-requires
+word-syndromes-requires c κs = omega (arith, size (c .before), start (c .before) .pre)
 
 returns : tie.Need-returns
 returns c = λ v W.
@@ -41,7 +41,7 @@ returns c = λ v W.
     let same : length zs ≡ length (take (a .count) (a .places)) = length-take-le (a .count) (0 ∷ 0 ∷ 0 ∷ 0 ∷ 0 ∷ []) (omega (arith, start s .pre))
     ∙ sym (length-take-le (a .count) (a .places) (omega (arith, start s .pre))) in
     masked-sums (a .width) v (a .word .now) (take (a .count) (a .places)) zs _ W same (zero-values (a .count))
-    (filled-word _ _ _ _ _ (s .before .copied .ensures) (s .filled .ensures)) (c .syndromes .result) (c .syndromes .ensures v))
+    (filled-word _ _ _ _ _ (s .before .copied .ensures) (s .filled .ensures)) (c .word-syndromes .result) (c .word-syndromes .ensures v))
 
 pub masked-sums-spec : {M : Type 1} → statement M
 masked-sums-spec =
@@ -50,6 +50,6 @@ masked-sums-spec =
     copied-requires
     filled-requires
     array-share-prefix-row
-    slice-aggregate-syndromes
-    syndromes-requires
+    slice-aggregate-word-syndromes
+    word-syndromes-requires
     returns)

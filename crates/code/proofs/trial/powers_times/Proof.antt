@@ -4,7 +4,7 @@ use mathlib.Core.Path.{ap, _∙_}
 use native.Mathlib.Omega.{arith}
 use Rattle.field.specs.declared.Exponent.{Exponent}
 use Rattle.field.proofs.Bytes.{ratio-own}
-use Rattle.code.proofs.Times.{powers-times}
+use Rattle.code.proofs.finding.Times.{powers-times}
 use Rattle.code.proofs.trial.powers_times.Statement.{statement}
 use Rattle.code.proofs.trial.powers_times.Tie as tie
 

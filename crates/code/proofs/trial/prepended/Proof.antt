@@ -5,7 +5,7 @@ use mathlib.Core.List.{_∷_}
 use Prim.Native.Nat.{ℕ, _+_, _-_, _≤_}
 use native.Mathlib.Omega.{arith}
 use lib.ListN.{length, take, length-set}
-use Rattle.code.specs.Matrix.{unknowns}
+use Rattle.code.specs.inner.Matrix.{unknowns}
 use Rattle.code.proofs.Loops.{prepend-on}
 use Rattle.code.proofs.trial.prepended.Statement.{statement}
 use Rattle.code.proofs.trial.prepended.Tie as tie

@@ -4,7 +4,7 @@ use mathlib.Core.Path.{refl, sym, ap, _∙_}
 use Prim.Native.Nat.{ℕ, _-_, _%_}
 use native.Mathlib.Omega.{arith}
 use Rattle.field.specs.Field.{order, power, inverse}
-use Rattle.field.specs.Bytes.{Small}
+use Rattle.field.specs.inner.Bytes.{Small}
 use Rattle.field.proofs.Bytes.{width-own, width-large, small-width, raised-at, inverted-at, operand-low, unit-own}
 use Rattle.field.proofs.Steps.{inverse-exponent, zero-power-ne}
 use Rattle.field.proofs.Widths.{fieldAt, Width.seven}

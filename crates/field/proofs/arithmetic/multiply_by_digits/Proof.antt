@@ -8,7 +8,7 @@ use native.Mathlib.Omega.{arith}
 use lib.Pow.{pow-pos}
 use Rattle.field.specs.Polynomial.{add}
 use Rattle.field.specs.Field.{order, double, product}
-use Rattle.field.specs.Bytes.{multiplied, Small}
+use Rattle.field.specs.inner.Bytes.{multiplied, Small}
 use Rattle.field.proofs.Polynomial.{add-zero-l}
 use Rattle.field.proofs.Ring.{double-lt}
 use Rattle.field.proofs.Widths.{field-of}

@@ -4,8 +4,8 @@ use native.Mathlib.Omega.{arith}
 use mathlib.Core.Path.{sym, ap, _∙_, subst}
 use Prim.Native.Nat.{ℕ, _%_}
 use Rattle.field.specs.Field.{power}
-use Rattle.field.specs.Answer.{Operand}
-use Rattle.field.specs.Bytes.{Small}
+use Rattle.field.specs.inner.Operand.{Operand}
+use Rattle.field.specs.inner.Bytes.{Small}
 use Rattle.field.proofs.Bytes.{width-own, width-large, small-width, operand-low, raised-at}
 use Rattle.field.proofs.arithmetic.raise.Statement.{statement}
 use Rattle.field.proofs.arithmetic.raise.Tie as tie

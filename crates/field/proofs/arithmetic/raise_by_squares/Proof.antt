@@ -5,7 +5,7 @@ use mathlib.Core.Logic.{⊎-elim}
 use Prim.Native.Nat.{ℕ, _/_}
 use native.Mathlib.Omega.{arith}
 use Rattle.field.specs.Field.{product, power}
-use Rattle.field.specs.Answer.{Operand}
+use Rattle.field.specs.inner.Operand.{Operand}
 use Rattle.field.proofs.Widths.{field-of}
 use Rattle.field.proofs.Ask.{operand-of}
 use Rattle.field.proofs.Bytes.{multiplied-product}

@@ -6,7 +6,7 @@ use Prim.Native.Nat.{ℕ, suc, _-_, _≤_}
 use native.Mathlib.Omega.{arith}
 use lib.ListN.{length}
 use Rattle.field.specs.Polynomial.{add}
-use Rattle.field.specs.Folds.{Additive, Eighth, total}
+use Rattle.field.specs.inner.Folds.{Additive, Eighth, total}
 use Rattle.field.proofs.Relations.{fold-eighth, keep-eight}
 use Rattle.field.proofs.folds.by_eighths.Statement.{statement}
 use Rattle.field.proofs.folds.by_eighths.Tie as tie

@@ -2,7 +2,7 @@
 use borrow.Author.Needs.{needs}
 use Prim.Native.Nat.{_%_}
 use Rattle.field.specs.Sum.{weighted, at}
-use Rattle.field.specs.Folds.{Seventh, Eighth}
+use Rattle.field.specs.inner.Folds.{Seventh, Eighth}
 use Rattle.field.proofs.Evaluation.{five-of}
 use Rattle.field.proofs.Relations.{conjugates, cubes}
 use Rattle.field.proofs.Values.{sum-of-packed}

@@ -6,7 +6,7 @@ use Prim.Native.Nat.{ℕ, suc, _-_, _≤_}
 use native.Mathlib.Omega.{arith}
 use lib.ListN.{length}
 use Rattle.field.specs.Polynomial.{add}
-use Rattle.field.specs.Folds.{Additive, Seventh, total}
+use Rattle.field.specs.inner.Folds.{Additive, Seventh, total}
 use Rattle.field.proofs.Relations.{fold-seventh, keep-seven}
 use Rattle.field.proofs.folds.by_sevenths.Statement.{statement}
 use Rattle.field.proofs.folds.by_sevenths.Tie as tie

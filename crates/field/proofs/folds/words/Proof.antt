@@ -6,7 +6,7 @@ use native.Mathlib.Omega.{arith}
 use lib.ListN.{length}
 use lib.Seq.{getD-set-other}
 use Rattle.field.specs.Sum.{at}
-use Rattle.field.specs.Lanes.{Block}
+use Rattle.field.specs.inner.Lanes.{Block}
 use Rattle.field.proofs.Filling.{set-more, last-number, all-sixteen}
 use Rattle.field.proofs.folds.words.Statement.{statement}
 use Rattle.field.proofs.folds.words.Tie as tie

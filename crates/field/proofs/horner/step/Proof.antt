@@ -6,7 +6,7 @@ use lib.Dec.{lit<}
 use Rattle.field.specs.Polynomial.{add}
 use Rattle.field.specs.Field.{product, power, α}
 use Rattle.field.proofs.Bytes.{xor-add, shifted-symbol}
-use Rattle.field.specs.Bytes.{widthFor, symbolFor}
+use Rattle.field.specs.inner.Bytes.{widthFor, symbolFor}
 use Rattle.field.specs.Sum.{at}
 use Rattle.field.proofs.Evaluation.{five-of, first-shift}
 use Rattle.field.proofs.horner.step.Statement.{statement}

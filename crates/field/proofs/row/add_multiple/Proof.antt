@@ -4,7 +4,7 @@ use mathlib.Core.Path.{ap, ap₂, _∙_}
 use Prim.Native.Nat.{ℕ}
 use Rattle.field.specs.Polynomial.{add}
 use Rattle.field.specs.Sum.{at}
-use Rattle.field.specs.Lanes.{lane}
+use Rattle.field.specs.inner.Lanes.{lane}
 use Rattle.field.proofs.Bytes.{xor-add}
 use Rattle.field.proofs.Packing.{lane-lanes, lane-add, eight-cong}
 use Rattle.field.proofs.row.add_multiple.Statement.{statement}

@@ -1,6 +1,6 @@
 -- `field::row::packed` meets its contract. Assumes nothing.
 use borrow.Author.Needs.{needs}
-use Rattle.field.specs.Lanes.{lanes}
+use Rattle.field.specs.inner.Lanes.{lanes}
 use Rattle.field.proofs.Packing.{below-eight}
 use Rattle.field.proofs.row.packed.Statement.{statement}
 use Rattle.field.proofs.row.packed.Tie as tie

@@ -3,7 +3,7 @@ use borrow.Author.Needs.{needs}
 use mathlib.Core.Path.{_≡_, _∙_}
 use Prim.Native.Nat.{ℕ, _/_, _%_}
 use native.Mathlib.Omega.{arith}
-use Rattle.field.specs.Lanes.{lane}
+use Rattle.field.specs.inner.Lanes.{lane}
 use Rattle.field.proofs.Packing.{eight-of}
 use Rattle.field.proofs.row.unpacked.Statement.{statement}
 use Rattle.field.proofs.row.unpacked.Tie as tie

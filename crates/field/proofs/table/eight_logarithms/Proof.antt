@@ -7,8 +7,8 @@ use Prim.Native.Nat.{ℕ, suc, _+_, _*_, _/_, _%_, _^_, _≤_, _<_}
 use native.Mathlib.Omega.{arith}
 use lib.Dec.{T, eqb, ltb, eqb→eq, ltb→lt, lit<}
 use lib.ListN.{getD}
-use Rattle.field.specs.Field.{arithmetic}
-use Rattle.field.specs.Bytes.{unitFor, Logarithms}
+use Rattle.field.specs.inner.Operand.{arithmetic}
+use Rattle.field.specs.inner.Bytes.{unitFor, Logarithms}
 use Rattle.field.proofs.Check.{and-left, and-right, all, all-at}
 use Rattle.field.proofs.Widths.{doubles, doubles-power}
 use Rattle.field.proofs.table.eight_logarithms.Statement.{statement}

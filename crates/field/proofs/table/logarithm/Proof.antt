@@ -3,7 +3,7 @@ use borrow.Author.Needs.{needs}
 use mathlib.Core.Path.{_≡_, ap, _∙_}
 use Prim.Native.Nat.{ℕ, _+_, _*_, _/_, _%_}
 use native.Mathlib.Omega.{arith}
-use Rattle.field.specs.Bytes.{unitFor}
+use Rattle.field.specs.inner.Bytes.{unitFor}
 use Rattle.field.proofs.Bytes.{unit-low}
 use Rattle.field.proofs.table.logarithm.Statement.{statement}
 use Rattle.field.proofs.table.logarithm.Tie as tie
