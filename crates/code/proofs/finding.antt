@@ -10,5 +10,6 @@ pub mod Adding  -- what is added at a few places makes a codeword
 pub mod PlainWays  -- the ways out of the search without erasures
 pub mod Ratios  -- erased places eliminated from the sums, and the ratio of what is left
 pub mod BesideErasures  -- a codeword within one place beside erasures: its place is named
+pub mod Cubes  -- where the distance is 5, cubing is one to one: `cubes-five`
 pub mod BesideWays  -- the ways out of the search beside erasures
 pub mod CheckPlaces  -- the check places that come into question beside erasures

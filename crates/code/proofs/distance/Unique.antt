@@ -53,7 +53,7 @@ outside-triangle false x y z h l = omega arith
 
 -- ---- codewords
 
-nonzero-le : (x : ℕ) → nonzero x ≤ 1
+pub nonzero-le : (x : ℕ) → nonzero x ≤ 1
 nonzero-le zero = zero-le
 nonzero-le (suc x) = le-refl 1
 

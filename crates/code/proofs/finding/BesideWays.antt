@@ -13,17 +13,19 @@ use Rattle.field.specs.Polynomial.{add}
 use Rattle.field.specs.Field.{product, power, α}
 use Rattle.field.specs.Question.{isWidth, allBelow}
 use Rattle.field.proofs.Laws.{IsField}
-use Rattle.field.proofs.Widths.{field-of, cubes-of}
+use Rattle.field.proofs.Widths.{field-of}
 use Rattle.field.proofs.Evaluation.{five-at}
 use Rattle.code.specs.declared.correction.Correction.{Correction}
 use Rattle.code.specs.Word.{checks, places, items, five, at}
 use Rattle.code.specs.Erasure.{member}
-use Rattle.code.specs.Near.{radius}
+use Rattle.code.specs.Near.{distance, radius}
 use Rattle.code.specs.inner.Matrix.{unknowns}
 use Rattle.code.specs.inner.Correction.{Lent, NoneAt, NoneBeside, Searched, NoneWithin}
 use Rattle.code.proofs.Algebra.{add-of-eq, power-times}
 use Rattle.code.proofs.Members.{below-cons}
 use Rattle.code.proofs.distance.Points.{one-injective, two-injective}
+use Rattle.code.proofs.distance.DistanceLaw.{Distance}
+use Rattle.code.proofs.finding.Cubes.{cubes-five}
 use Rattle.code.proofs.restoring.Extra.{within-agrees}
 use Rattle.code.proofs.restoring.Trying.{searched-none, searched-last}
 use Rattle.code.specs.declared.solver.Solutions.the-variants.{None}
@@ -238,9 +240,9 @@ below-two p q h l = below-cons p (q ∷ []) checks h (below-one q l)
 
 -- ---- reach
 
--- one extra place beside two erasures is allowed where the width is odd, and there cubing is one to one
-pub cubes-beside : (m : ℕ) → isWidth m ≡ true → 1 ≤ radius m 2 → Injective m 3
-cubes-beside m w h = cubes-of m w (omega arith)
+-- one extra place beside two erasures is allowed where the distance is 5 alone, and there cubing is one to one
+pub cubes-beside : (m : ℕ) → isWidth m ≡ true → Distance m (distance m) → 1 ≤ radius m 2 → Injective m 3
+cubes-beside m w D h = let e : distance m ≡ 5 = omega arith in cubes-five (field-of m w) (subst (Distance m) e D)
 
 pub near-same : (m : ℕ) (w es : List ℕ) (r r′ : ℕ) (x : Correction) → r′ ≡ r → Searched m w es r (NoneWithin m w es r) x
     → Searched m w es r′ (NoneWithin m w es r′) x

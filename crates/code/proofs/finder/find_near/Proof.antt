@@ -6,6 +6,7 @@ use Prim.Native.Nat.{ℕ}
 use native.Mathlib.Omega.{arith}
 use lib.ListN.{take}
 use Rattle.code.specs.inner.Correction.{placesOf, Searched, NoneWithin}
+use Rattle.code.proofs.distance.DistanceLaw.{distance-of}
 use Rattle.code.proofs.finding.BesideWays.{cubes-beside, near-zero, near-same}
 use Rattle.code.proofs.finder.find_near.Statement.{statement}
 use Rattle.code.proofs.finder.find_near.Tie as tie
@@ -38,7 +39,7 @@ returns-2 c =
     let one : a .reach ≡ 1 = omega (arith, s .pre, t2 .if2 .taken, t2 .before .if1 .left) in (
       c .find-beside .ensures .0,
       λ R. near-same (a .width) (a .word .now) (placesOf (a .t)) 1 (a .reach) _ one
-          (c .find-beside .ensures .1 R (λ e. cubes-beside (a .width) (R .width) (omega (arith, s .pre .1, one)))),
+          (c .find-beside .ensures .1 R (λ e. cubes-beside (a .width) (R .width) (distance-of (a .width) (R .width)) (omega (arith, s .pre .1, one)))),
     )
 
 find-single-requires : tie.Need-find-single-requires
