@@ -6,7 +6,7 @@ ghost use lib.ListN.{length};
 ghost use Rattle.field.specs.Field.{order};
 ghost use Rattle.field.specs.Question.{isWidth};
 ghost use Rattle.code.specs.Word.{checks, longest, items};
-ghost use Rattle.code.specs.inner.Scan.{Carried, Scanned, Ratio, TwoRoots, halfWord, entryOf, HalfTrace};
+ghost use Rattle.code.specs.inner.Scan.{Carried, Scanned, LinearRatio, TwoRoots, halfWord, entryOf, HalfTrace};
 use field::Exponent;
 use field::arithmetic::invert;
 use field::arithmetic::multiply;
@@ -53,7 +53,7 @@ fn root_from(width: u8, from: Exponent, square: u8, linear: u8, constant: u8, n:
 
 // Is there just one root among the powers of α at width 7, for the function is linear and its terms are symbols other than 0?
 fn has_ratio(width: u8, square: u8, linear: u8, constant: u8, n: u16) -> bool
-    ensures { λ r. ⌜ (r ≡ true → Ratio width square linear constant n) ⌝ }
+    ensures { λ r. ⌜ (r ≡ true → LinearRatio width square linear constant n) ⌝ }
 {
     if width != 7 {
         return false;

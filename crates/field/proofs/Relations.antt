@@ -16,7 +16,7 @@ use Rattle.field.specs.Field.{product, power, α}
 use Rattle.field.specs.inner.Operand.{arithmetic}
 use Rattle.field.proofs.Widths.{doubles, doubles-power}
 use Rattle.field.specs.Sum.{at, sum}
-use Rattle.field.specs.inner.Folds.{Additive, powers, Seventh, Eighth, total}
+use Rattle.field.specs.inner.Folds.{Additive, powers, Seventh, Eighth, valueTotal}
 use Rattle.field.proofs.Sums.{sum-suc, sum-cong}
 use Rattle.field.proofs.Lanewise.{F}
 use Rattle.field.proofs.Folding.{power-apply}
@@ -86,12 +86,12 @@ Within n [] = Unit {0}
 Within n (b ∷ bs) = (b < n) × Within n bs
 
 module _ (v : ℕ → ℕ) (additive : Additive v) (d : ℕ) where
-  total-before : (n p y : ℕ) (ws : List ℕ) → n ≤ p → total v d n (set ws p y) ≡ total v d n ws
+  total-before : (n p y : ℕ) (ws : List ℕ) → n ≤ p → valueTotal v d n (set ws p y) ≡ valueTotal v d n ws
   total-before n p y ws h =
       sum-cong n _ _ (λ i l. ap (λ (z : ℕ). term d i (v z)) (getD-set-other ws p i y 0 (λ e. omega arith)))
 
   total-added : (n p x : ℕ) (ws : List ℕ) → p < n → p < length ws
-      → total v d n (set ws p (add (at ws p) x)) ≡ add (total v d n ws) (term d p (v x))
+      → valueTotal v d n (set ws p (add (at ws p) x)) ≡ add (valueTotal v d n ws) (term d p (v x))
   unfolding sum
   total-added zero p x ws h l = absurd (not-suc-le-zero h)
   total-added (suc n) p x ws h l = go (ℕ-discrete n p) (λ q. total-added n p x ws q l)
@@ -105,14 +105,14 @@ module _ (v : ℕ → ℕ) (additive : Additive v) (d : ℕ) where
           ∙ ap (term d n) (additive (at ws n) x) ∙ F .product-add _ _ _
           ∙ ap (λ (z : ℕ). add (term d n (v (at ws n))) (term d z (v x))) e
 
-      go : Dec (n ≡ p) → (p < n → total v d n (set ws p y) ≡ add (total v d n ws) (term d p (v x)))
-          → total v d (suc n) (set ws p y) ≡ add (total v d (suc n) ws) (term d p (v x))
+      go : Dec (n ≡ p) → (p < n → valueTotal v d n (set ws p y) ≡ add (valueTotal v d n ws) (term d p (v x)))
+          → valueTotal v d (suc n) (set ws p y) ≡ add (valueTotal v d (suc n) ws) (term d p (v x))
       go (yes e) g = ap₂ add (total-before n p y ws (omega arith)) (here e) ∙ sym (F .add-assoc _ _ _)
       go (no e) g =
           ap₂ add (g (omega (arith, e))) (ap (λ (z : ℕ). term d n (v z)) (getD-set-other ws p n y 0 e))
-          ∙ F .add-assoc _ _ _ ∙ ap (add (total v d n ws)) (F .add-comm _ _) ∙ sym (F .add-assoc _ _ _)
+          ∙ F .add-assoc _ _ _ ∙ ap (add (valueTotal v d n ws)) (F .add-comm _ _) ∙ sym (F .add-assoc _ _ _)
 
-  total-puts : (n t x : ℕ) (bs ws : List ℕ) → Within (n - t) bs → n ≤ length ws → total v d n (puts t x bs ws) ≡ terms (total v d n ws) d t (v x) bs
+  total-puts : (n t x : ℕ) (bs ws : List ℕ) → Within (n - t) bs → n ≤ length ws → valueTotal v d n (puts t x bs ws) ≡ terms (valueTotal v d n ws) d t (v x) bs
   unfolding puts terms
   total-puts n t x [] ws h l = refl
   total-puts n t x (b ∷ bs) ws h l =
@@ -121,10 +121,10 @@ module _ (v : ℕ → ℕ) (additive : Additive v) (d : ℕ) where
 
   -- THE LAW: the last number goes to the places of the relation
   pub fold-top : (a t : ℕ) (bs ws : List ℕ) → power 7 α (d * a) ≡ powers d bs → Within a bs → t + a < length ws
-      → total v d (t + a) (puts t (at ws (t + a)) bs ws) ≡ total v d (suc (t + a)) ws
+      → valueTotal v d (t + a) (puts t (at ws (t + a)) bs ws) ≡ valueTotal v d (suc (t + a)) ws
   fold-top a t bs ws r h l =
       total-puts (t + a) t (at ws (t + a)) bs ws (subst (λ (n : ℕ). Within n bs) size h) (omega arith)
-      ∙ relation (total v d (t + a) ws) d a t (v (at ws (t + a))) bs r
+      ∙ relation (valueTotal v d (t + a) ws) d a t (v (at ws (t + a))) bs r
       ∙ sym (sum-suc (t + a) (λ i. term d i (v (at ws i))))
     where
       size : a ≡ t + a - t
@@ -132,14 +132,14 @@ module _ (v : ℕ → ℕ) (additive : Additive v) (d : ℕ) where
 
   -- as the code has it: by two places, and by three
   pub fold-seventh : (k p q : ℕ) (ws : List ℕ) → p + 7 ≡ k → q + 4 ≡ k → k < length ws → Seventh d
-      → total v d k (put q (at ws k) (put p (at ws k) ws)) ≡ total v d (suc k) ws
+      → valueTotal v d k (put q (at ws k) (put p (at ws k) ws)) ≡ valueTotal v d (suc k) ws
   unfolding puts
   fold-seventh k p q ws hp hq l r =
-      ap (λ (z : ℕ). total v d k (put q (at ws k) (put z (at ws k) ws))) e0
-      ∙ ap (λ (z : ℕ). total v d k (put z (at ws k) (put (p + 0) (at ws k) ws))) e3
-      ∙ ap (λ (z : ℕ). total v d z (put (p + 3) (at ws z) (put (p + 0) (at ws z) ws))) (sym hp)
+      ap (λ (z : ℕ). valueTotal v d k (put q (at ws k) (put z (at ws k) ws))) e0
+      ∙ ap (λ (z : ℕ). valueTotal v d k (put z (at ws k) (put (p + 0) (at ws k) ws))) e3
+      ∙ ap (λ (z : ℕ). valueTotal v d z (put (p + 3) (at ws z) (put (p + 0) (at ws z) ws))) (sym hp)
       ∙ fold-top 7 p (3 ∷ 0 ∷ []) ws r (lit< tt, (lit< tt, tt)) (omega (arith, hp, l))
-      ∙ ap (λ (z : ℕ). total v d (suc z) ws) hp
+      ∙ ap (λ (z : ℕ). valueTotal v d (suc z) ws) hp
     where
       e0 : p ≡ p + 0
       e0 = omega arith
@@ -148,15 +148,15 @@ module _ (v : ℕ → ℕ) (additive : Additive v) (d : ℕ) where
       e3 = omega (arith, hp, hq)
 
   pub fold-eighth : (k p q s : ℕ) (ws : List ℕ) → p + 8 ≡ k → q + 4 ≡ k → s + 1 ≡ k → k < length ws → Eighth d
-      → total v d k (put s (at ws k) (put q (at ws k) (put p (at ws k) ws))) ≡ total v d (suc k) ws
+      → valueTotal v d k (put s (at ws k) (put q (at ws k) (put p (at ws k) ws))) ≡ valueTotal v d (suc k) ws
   unfolding puts
   fold-eighth k p q s ws hp hq hs l r =
-      ap (λ (z : ℕ). total v d k (put s (at ws k) (put q (at ws k) (put z (at ws k) ws)))) e0
-      ∙ ap (λ (z : ℕ). total v d k (put s (at ws k) (put z (at ws k) (put (p + 0) (at ws k) ws)))) e4
-      ∙ ap (λ (z : ℕ). total v d k (put z (at ws k) (put (p + 4) (at ws k) (put (p + 0) (at ws k) ws)))) e7
-      ∙ ap (λ (z : ℕ). total v d z (put (p + 7) (at ws z) (put (p + 4) (at ws z) (put (p + 0) (at ws z) ws)))) (sym hp)
+      ap (λ (z : ℕ). valueTotal v d k (put s (at ws k) (put q (at ws k) (put z (at ws k) ws)))) e0
+      ∙ ap (λ (z : ℕ). valueTotal v d k (put s (at ws k) (put z (at ws k) (put (p + 0) (at ws k) ws)))) e4
+      ∙ ap (λ (z : ℕ). valueTotal v d k (put z (at ws k) (put (p + 4) (at ws k) (put (p + 0) (at ws k) ws)))) e7
+      ∙ ap (λ (z : ℕ). valueTotal v d z (put (p + 7) (at ws z) (put (p + 4) (at ws z) (put (p + 0) (at ws z) ws)))) (sym hp)
       ∙ fold-top 8 p (7 ∷ 4 ∷ 0 ∷ []) ws r (lit< tt, (lit< tt, (lit< tt, tt))) (omega (arith, hp, l))
-      ∙ ap (λ (z : ℕ). total v d (suc z) ws) hp
+      ∙ ap (λ (z : ℕ). valueTotal v d (suc z) ws) hp
     where
       e0 : p ≡ p + 0
       e0 = omega arith
@@ -173,14 +173,14 @@ module _ (v : ℕ → ℕ) (additive : Additive v) (d : ℕ) where
 
   -- the numbers that are left, and a 0
   pub keep-seven : (ws : List ℕ)
-      → total v d 8 (at ws 0 ∷ at ws 1 ∷ at ws 2 ∷ at ws 3 ∷ at ws 4 ∷ at ws 5 ∷ at ws 6 ∷ 0 ∷ []) ≡ total v d 7 ws
+      → valueTotal v d 8 (at ws 0 ∷ at ws 1 ∷ at ws 2 ∷ at ws 3 ∷ at ws 4 ∷ at ws 5 ∷ at ws 6 ∷ 0 ∷ []) ≡ valueTotal v d 7 ws
   keep-seven ws =
       sum-suc 7 (λ i. term d i (v (at (at ws 0 ∷ at ws 1 ∷ at ws 2 ∷ at ws 3 ∷ at ws 4 ∷ at ws 5 ∷ at ws 6 ∷ 0 ∷ []) i)))
       ∙ ap₂ add (sum-cong 7 _ _ (λ i l. ap (λ (z : ℕ). term d i (v z)) (first-seven ws 0 i l))) (ap (term d 7) zero-value ∙ F .product-zero _)
       ∙ F .add-zero _
 
   pub keep-eight : (ws : List ℕ)
-      → total v d 8 (at ws 0 ∷ at ws 1 ∷ at ws 2 ∷ at ws 3 ∷ at ws 4 ∷ at ws 5 ∷ at ws 6 ∷ at ws 7 ∷ []) ≡ total v d 8 ws
+      → valueTotal v d 8 (at ws 0 ∷ at ws 1 ∷ at ws 2 ∷ at ws 3 ∷ at ws 4 ∷ at ws 5 ∷ at ws 6 ∷ at ws 7 ∷ []) ≡ valueTotal v d 8 ws
   keep-eight ws =
       sum-suc 7 (λ i. term d i (v (at (at ws 0 ∷ at ws 1 ∷ at ws 2 ∷ at ws 3 ∷ at ws 4 ∷ at ws 5 ∷ at ws 6 ∷ at ws 7 ∷ []) i)))
       ∙ ap (λ (y : ℕ). add y (term d 7 (v (at ws 7)))) (sum-cong 7 _ _ (λ i l. ap (λ (z : ℕ). term d i (v z)) (first-seven ws (at ws 7) i l)))

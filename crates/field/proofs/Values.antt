@@ -11,7 +11,7 @@ use Rattle.field.specs.Polynomial.{add}
 use Rattle.field.specs.Field.{product, power, α}
 use Rattle.field.specs.Sum.{at, weighted}
 use Rattle.field.specs.inner.Lanes.{lanes, Below, Block}
-use Rattle.field.specs.inner.Folds.{Additive, Small, total, half, single, pair, quad, octet, Folded, Halved, Packed}
+use Rattle.field.specs.inner.Folds.{Additive, SmallValues, valueTotal, half, single, pair, quad, octet, Folded, Halved, Packed}
 use Rattle.field.proofs.Sums.{sum-suc, sum-cong, sum-split, sum-scale, sum-lt}
 use Rattle.field.proofs.Below.{past-end}
 use Rattle.field.proofs.Lanewise.{F}
@@ -84,8 +84,8 @@ values-eight e = values-half 4 32 e (quad e) refl (values-half 2 16 e (pair e) r
 
 -- ---- numbers taken as twice as many halves
 pub total-halves : (v : ℕ → ℕ) (p d n : ℕ) (ws us : List ℕ)
-    → ((i : ℕ) → i < n → (at us (2 * i) ≡ at ws i % p) × (at us (2 * i + 1) ≡ at ws i / p)) → Small v
-    → total v d (2 * n) us ≡ total (half p d v) (2 * d) n ws
+    → ((i : ℕ) → i < n → (at us (2 * i) ≡ at ws i % p) × (at us (2 * i + 1) ≡ at ws i / p)) → SmallValues v
+    → valueTotal v d (2 * n) us ≡ valueTotal (half p d v) (2 * d) n ws
 total-halves v p d n ws us h small =
     sym (segments 2 n (λ i. v (at us i)) d)
     ∙ sum-cong n _ _ (λ i l. ap (product 7 (power 7 α (2 * d * i))) (two i l))
@@ -104,10 +104,10 @@ total-halves v p d n ws us h small =
 
 -- ---- the chain of folds and halvings
 
-small-half : (p d : ℕ) (v : ℕ → ℕ) → Small v → Small (half p d v)
+small-half : (p d : ℕ) (v : ℕ → ℕ) → SmallValues v → SmallValues (half p d v)
 small-half p d v s x = F .add-lt _ _ (s _) (F .product-lt _ _)
 
-small-single : Small single
+small-single : SmallValues single
 small-single x = mod-lt x (omega arith)
 
 module _ (R : ℕ → Type 0) (w r1 s1 r2 s2 r3 s3 r4 : List ℕ) (a : ℕ) where
@@ -119,8 +119,8 @@ module _ (R : ℕ → Type 0) (w r1 s1 r2 s2 r3 s3 r4 : List ℕ) (a : ℕ) wher
     held = q;
     same = λ e p8 p4 p2 p1.
         f4 single e additive-single p1 ∙ h3 single e small-single
-        ∙ f3 (pair e) (2 * e) (additive-pair e) p2 ∙ h2 (pair e) (2 * e) (small-pair e) ∙ ap (λ (d : ℕ). total (quad e) d 8 r2) (twice e)
-        ∙ f2 (quad e) (4 * e) (additive-quad e) p4 ∙ h1 (quad e) (4 * e) (small-quad e) ∙ ap (λ (d : ℕ). total (octet e) d 8 r1) (again e)
+        ∙ f3 (pair e) (2 * e) (additive-pair e) p2 ∙ h2 (pair e) (2 * e) (small-pair e) ∙ ap (λ (d : ℕ). valueTotal (quad e) d 8 r2) (twice e)
+        ∙ f2 (quad e) (4 * e) (additive-quad e) p4 ∙ h1 (quad e) (4 * e) (small-quad e) ∙ ap (λ (d : ℕ). valueTotal (octet e) d 8 r1) (again e)
         ∙ f1 (octet e) (8 * e) (additive-octet e) p8;
   }
     where
@@ -130,17 +130,17 @@ module _ (R : ℕ → Type 0) (w r1 s1 r2 s2 r3 s3 r4 : List ℕ) (a : ℕ) wher
       again : (e : ℕ) → 2 * (4 * e) ≡ 8 * e
       again e = omega arith
 
-      small-pair : (e : ℕ) → Small (pair e)
+      small-pair : (e : ℕ) → SmallValues (pair e)
       small-pair e = small-half 256 e single small-single
 
-      small-quad : (e : ℕ) → Small (quad e)
+      small-quad : (e : ℕ) → SmallValues (quad e)
       small-quad e = small-half 65536 (2 * e) (pair e) (small-pair e)
 
 -- ---- the sum over the symbols, from their numbers
 
 module _ (cs : List ℕ) (size : length cs ≡ 127) where
   octets : (ws : List ℕ) → ((i : ℕ) → i < 16 → Block 8 cs (8 * i) (at ws i)) → (e : ℕ)
-      → total (octet e) (8 * e) 16 ws ≡ weighted 7 127 (λ i. at cs i % 128) e
+      → valueTotal (octet e) (8 * e) 16 ws ≡ weighted 7 127 (λ i. at cs i % 128) e
   octets ws h e =
       sum-cong 16 _ _ (λ i l. ap (product 7 (power 7 α (8 * e * i)))
       (ap (octet e) (h i l .held) ∙ values-eight e (λ j. at cs (8 * i + j)) (h i l .bytes)))

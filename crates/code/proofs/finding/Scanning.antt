@@ -15,7 +15,7 @@ use Rattle.field.proofs.Laws.{IsField}
 use Rattle.field.proofs.Widths.{field-of}
 use Rattle.field.proofs.Bytes.{shifted-product}
 use Rattle.code.proofs.Algebra.{add-of-eq}
-use Rattle.code.specs.inner.Scan.{valueAt, Carried, Scanned, Ratio}
+use Rattle.code.specs.inner.Scan.{valueAt, Carried, Scanned, LinearRatio}
 
 pub record Scanning (m a b c from at d e : ℕ) : Type 0 where
   pub carried : Carried m a b at d e
@@ -105,7 +105,7 @@ module _ (m : ℕ) (w : isWidth m ≡ true) where
           in
           omega arith
 
-pub ratio-scanned : {m a b d x c n e : ℕ} → Ratio m d x c n → e < 127 → (x % 128 ≢ 0 → c % 128 ≢ 0 → product 7 (power 7 α e) (x % 128) ≡ c % 128)
+pub ratio-scanned : {m a b d x c n e : ℕ} → LinearRatio m d x c n → e < 127 → (x % 128 ≢ 0 → c % 128 ≢ 0 → product 7 (power 7 α e) (x % 128) ≡ c % 128)
     → Carried m a b 0 d x → Scanned m a b c 0 n (record { at = record { 0 = e }; square = 0; linear = c })
 ratio-scanned {m} {a} {b} {d} {x} {c} {n} {e} R h r C =
     subst (λ (k : ℕ). Scanned k a b c 0 n (record { at = record { 0 = e }; square = 0; linear = c })) (sym (R .width))

@@ -25,7 +25,7 @@ pub record Scanned (m a b c from n : ℕ) (r : Scan) : Type 0 where
   pub root : r .at .0 < n → valueAt m a b c (r .at .0) ≡ 0
 
 -- at width 7 all the 127 powers of α are searched for the root of a linear function, whose terms are not 0
-pub record Ratio (m square linear constant n : ℕ) : Type 0 where
+pub record LinearRatio (m square linear constant n : ℕ) : Type 0 where
   pub width : m ≡ 7
   pub all : n ≡ 127
   pub plain : square ≡ 0

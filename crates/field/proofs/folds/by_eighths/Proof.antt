@@ -6,14 +6,14 @@ use Prim.Native.Nat.{ℕ, suc, _-_, _≤_}
 use native.Mathlib.Omega.{arith}
 use lib.ListN.{length}
 use Rattle.field.specs.Polynomial.{add}
-use Rattle.field.specs.inner.Folds.{Additive, Eighth, total}
+use Rattle.field.specs.inner.Folds.{Additive, Eighth, valueTotal}
 use Rattle.field.proofs.Relations.{fold-eighth, keep-eight}
 use Rattle.field.proofs.folds.by_eighths.Statement.{statement}
 use Rattle.field.proofs.folds.by_eighths.Tie as tie
 
 abbrev Inv-loop : tie.InvT-loop
 Inv-loop out₀ k₀ out k =
-    (8 ≤ k) × (k ≤ 16) × (length out ≡ 16) × ((v : ℕ → ℕ) (d : ℕ) → Additive v → Eighth d → total v d k out ≡ total v d 16 out₀)
+    (8 ≤ k) × (k ≤ 16) × (length out ≡ 16) × ((v : ℕ → ℕ) (d : ℕ) → Additive v → Eighth d → valueTotal v d k out ≡ valueTotal v d 16 out₀)
 
 abbrev μ-loop : tie.MeasureT-loop
 μ-loop out₀ k₀ out k = k
@@ -99,7 +99,7 @@ loop-again c =
       search needs,
       search needs,
       λ v d a r. fold-eighth v a d (k - 1) (k - 1 - 8) (k - 1 - 4) (k - 1 - 1) out (omega arith) (omega arith) (omega arith) (omega (arith, size)) r
-          ∙ ap (λ (n : ℕ). total v d n out) next ∙ l .loop .inv .3 v d a r,
+          ∙ ap (λ (n : ℕ). valueTotal v d n out) next ∙ l .loop .inv .3 v d a r,
     )
 
 array-read-t28 : tie.Need-array-read-t28 Inv-loop μ-loop
@@ -131,7 +131,7 @@ returns c = λ v d a r.
     (let l = c .before in
     let out = l .loop .out in
     let z : l .loop .k ≡ 8 = omega arith in
-    keep-eight v a d out ∙ ap (λ (n : ℕ). total v d n out) (sym z) ∙ l .loop .inv .3 v d a r)
+    keep-eight v a d out ∙ ap (λ (n : ℕ). valueTotal v d n out) (sym z) ∙ l .loop .inv .3 v d a r)
 
 pub by-eighths-spec : {M : Type 1} → statement M
 by-eighths-spec =

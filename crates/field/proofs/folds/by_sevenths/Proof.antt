@@ -6,14 +6,14 @@ use Prim.Native.Nat.{ℕ, suc, _-_, _≤_}
 use native.Mathlib.Omega.{arith}
 use lib.ListN.{length}
 use Rattle.field.specs.Polynomial.{add}
-use Rattle.field.specs.inner.Folds.{Additive, Seventh, total}
+use Rattle.field.specs.inner.Folds.{Additive, Seventh, valueTotal}
 use Rattle.field.proofs.Relations.{fold-seventh, keep-seven}
 use Rattle.field.proofs.folds.by_sevenths.Statement.{statement}
 use Rattle.field.proofs.folds.by_sevenths.Tie as tie
 
 abbrev Inv-loop : tie.InvT-loop
 Inv-loop out₀ k₀ out k =
-    (7 ≤ k) × (k ≤ 16) × (length out ≡ 16) × ((v : ℕ → ℕ) (d : ℕ) → Additive v → Seventh d → total v d k out ≡ total v d 16 out₀)
+    (7 ≤ k) × (k ≤ 16) × (length out ≡ 16) × ((v : ℕ → ℕ) (d : ℕ) → Additive v → Seventh d → valueTotal v d k out ≡ valueTotal v d 16 out₀)
 
 abbrev μ-loop : tie.MeasureT-loop
 μ-loop out₀ k₀ out k = k
@@ -81,7 +81,7 @@ loop-again c =
       search needs,
       search needs,
       λ v d a r. fold-seventh v a d (k - 1) (k - 1 - 7) (k - 1 - 4) out (omega arith) (omega arith) (omega (arith, size)) r
-          ∙ ap (λ (n : ℕ). total v d n out) next ∙ l .loop .inv .3 v d a r,
+          ∙ ap (λ (n : ℕ). valueTotal v d n out) next ∙ l .loop .inv .3 v d a r,
     )
 
 array-read-t24 : tie.Need-array-read-t24 Inv-loop μ-loop
@@ -110,7 +110,7 @@ returns c = λ v d a r.
     (let l = c .before in
     let out = l .loop .out in
     let z : l .loop .k ≡ 7 = omega arith in
-    keep-seven v a d out ∙ ap (λ (n : ℕ). total v d n out) (sym z) ∙ l .loop .inv .3 v d a r)
+    keep-seven v a d out ∙ ap (λ (n : ℕ). valueTotal v d n out) (sym z) ∙ l .loop .inv .3 v d a r)
 
 pub by-sevenths-spec : {M : Type 1} → statement M
 by-sevenths-spec =
