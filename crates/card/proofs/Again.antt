@@ -74,10 +74,10 @@ all-zeros zero = refl
 all-zeros (suc n) = all-zeros n
 
 module _ (m : ℕ) (h : isWidth m ≡ true) (c : List ℕ) (C : Codeword m c) where
-  clear-size : length (clearRecord m c) ≡ recordSize
+  pub clear-size : length (clearRecord m c) ≡ recordSize
   clear-size = simp (length-append, length-replicate) (omega (arith, places-most m h, C .size))
 
-  clear-word : wordOf (clearRecord m c) ≡ c
+  pub clear-word : wordOf (clearRecord m c) ≡ c
   clear-word = take-at c (replicate (longest - length c) 0) (places m) (C .size)
 
   clear-tail : tailOf (clearRecord m c) ≡ replicate (longest - length c) 0
@@ -103,23 +103,23 @@ module _ (m : ℕ) (h : isWidth m ≡ true) (c : List ℕ) (C : Codeword m c) wh
         × (withinWritten m (wordOf (clearRecord m c)) [] reach ≡ c)
     clear-restored = rw clear-word (codeword-restored m h c C reach l)
 
-    clear-accepted : recordWithinOf (clearRecord m c) reach ≡ accepted 0
+    pub clear-accepted : recordWithinOf (clearRecord m c) reach ≡ accepted 0
     unfolding recordWithinOf
     clear-accepted = rw clear-asked (clear-restored .0)
 
-    clear-stays : recordWithinWritten (clearRecord m c) reach ≡ clearRecord m c
+    pub clear-stays : recordWithinWritten (clearRecord m c) reach ≡ clearRecord m c
     unfolding recordWithinWritten
     clear-stays = rw clear-accepted (ap (clearRecord m) (clear-restored .1))
 
 -- ---- an accepted record, and a refused one
 
-accepted-means : (v : Verdict) (o : Outcome) (k : ℕ) → after v o ≡ accepted k → (v ≡ Passed) × (o ≡ accepted k)
+pub accepted-means : (v : Verdict) (o : Outcome) (k : ℕ) → after v o ≡ accepted k → (v ≡ Passed) × (o ≡ accepted k)
 accepted-means Passed o k e = (refl, e)
 accepted-means (Refused q) o k e = let z : _≡_ {A = ℕ} 0 1 = cc in absurd (omega arith)
 
 module _ (r : List ℕ) (reach k : ℕ) (e : recordWithinOf r reach ≡ accepted k) where
   -- the word that restoring finds
-  found : List ℕ
+  abbrev found : List ℕ
   found = withinWritten (widthOf r) (wordOf r) (erasuresOf r) reach
 
   means : (recordAsked r ≡ Passed) × (withinOf (widthOf r) (wordOf r) (erasuresOf r) reach ≡ accepted k)
@@ -130,11 +130,10 @@ module _ (r : List ℕ) (reach k : ℕ) (e : recordWithinOf r reach ≡ accepted
   accepted-asked = asked r (means .0)
 
   found-codeword : Codeword (widthOf r) found
-  unfolding found
   found-codeword = accepts (widthOf r) (wordOf r) (erasuresOf r) reach k found .0 (means .1, refl) .1 .near .codeword
 
-  written-clear : recordWithinWritten r reach ≡ clearRecord (widthOf r) found
-  unfolding recordWithinWritten found
+  pub written-clear : recordWithinWritten r reach ≡ clearRecord (widthOf r) found
+  unfolding recordWithinWritten
   written-clear = ap (λ (o : Outcome). onAccept o r (clearRecord (widthOf r) found)) e
 
   accepted-size : length (recordWithinWritten r reach) ≡ length r

@@ -12,12 +12,12 @@ use Rattle.field.specs.Question.{Outcome, accepted, refused, isWidth}
 use Rattle.field.specs.declared.Question.the-variants.{Width}
 use Rattle.field.specs.declared.Verdict.the-variants.{Refused as RefusedBy}
 use Rattle.field.proofs.Ask.{and-true-left, and-true-right}
-use Rattle.code.specs.declared.Repair.the-variants.{Refused}
 use Rattle.card.specs.Record.{sizeOf, erasureBytes, recordSize, widthOf, allAre, askedIn, reachOf, recordOf, recordWritten}
+use Rattle.card.specs.Record.{recordWithinOf, recordWithinWritten, reachUpTo, recordUpTo, recordWrittenUpTo}
 use Rattle.card.specs.Slots.{blankIn, isBlank}
 use Rattle.card.specs.Card.{isAccepted, passes, fine}
 use Rattle.card.proofs.Layouts.{width-no}
-use Rattle.card.proofs.Recording.{restores-refused, longest-reach}
+use Rattle.card.proofs.Recording.{restores-refused}
 
 -- ---- the test
 
@@ -81,10 +81,16 @@ blank-asked k slot h =
     width-no k slot size (ap isWidth (blank-width slot (omega arith) all))
 
 -- restoring it as a record gives 1, as it did before there were blank slots, and changes no byte
-pub blank-refused : (slot : List ℕ) → isBlank slot ≡ true → (recordOf slot ≡ refused 1) × (recordWritten slot ≡ slot)
-blank-refused slot h =
-    let r = reachOf slot in
-    let R =
-    longest-reach slot r refl (Refused Width) slot
-    (restores-refused slot r (RefusedBy Width) Width (blank-asked erasureBytes slot h) refl slot refl) in
-    (sym (R .answer), sym (R .content))
+module _ (slot : List ℕ) (h : isBlank slot ≡ true) where
+  pub blank-within : (reach : ℕ) → (recordWithinOf slot reach ≡ refused 1) × (recordWithinWritten slot reach ≡ slot)
+  blank-within reach =
+      let R = restores-refused slot reach (RefusedBy Width) Width (blank-asked erasureBytes slot h) refl slot refl in
+      (sym (R .answer), sym (R .content))
+
+  pub blank-refused : (recordOf slot ≡ refused 1) × (recordWritten slot ≡ slot)
+  unfolding recordOf recordWritten
+  blank-refused = blank-within (reachOf slot)
+
+  pub blank-up-to : (n : ℕ) → (recordUpTo n slot ≡ refused 1) × (recordWrittenUpTo n slot ≡ slot)
+  unfolding recordUpTo recordWrittenUpTo
+  blank-up-to n = blank-within (reachUpTo n slot)

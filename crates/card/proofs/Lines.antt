@@ -13,7 +13,7 @@ use Rattle.card.specs.declared.Progress.{Progress}
 use Rattle.card.specs.declared.text.Listed.{Listed}
 use Rattle.card.specs.Record.{erasureBytes, recordSize, recordOf}
 use Rattle.card.specs.Slots.{recordCount, recordAt, isBlank, overFirst, overSlots}
-use Rattle.card.specs.Listing.{lineText, refusalOf, changesOf, recordLine, blankLine, slotLine, counted, slotCounted, slotFurther}
+use Rattle.card.specs.Listing.{lineText, refusalOf, changesOf, recordLine, blankLine, slotLine, counted, slotFurther}
 use Rattle.card.specs.Listing.{Told, slotTold, untold, partLines, partProgress, totalLine, moreLine, mostRecords, start, listing}
 use Rattle.card.specs.inner.Room.{further}
 use Rattle.card.specs.Batch.{ListsSlots}
@@ -36,12 +36,12 @@ piece-some batch bytes i e h = rw e (simp (length-take, length-drop) (omega arit
 module _ (slot : List ℕ) (b : Bool) (e : b ≡ isBlank slot) (done : Listed) {next : Listed} {old new : List ℕ} where
   pub lists-blank : b ≡ true
       → ListsSlots (done .used) (blankLine (done .progress .next)) (further (done .progress) (done .progress .totals)) old next new
-      → ListsSlots (done .used) (slotLine (done .progress .next) slot) (further (done .progress) (slotCounted (done .progress .totals) slot)) old next new
+      → ListsSlots (done .used) (slotLine (done .progress .next) slot) (slotFurther (done .progress) slot) old next new
   lists-blank t l = let f : isBlank slot ≡ true = sym e ∙ t in rw f l
 
   pub lists-record : b ≡ false
       → ListsSlots (done .used) (recordLine (done .progress .next) slot) (further (done .progress) (counted (done .progress .totals) (recordOf slot))) old next new
-      → ListsSlots (done .used) (slotLine (done .progress .next) slot) (further (done .progress) (slotCounted (done .progress .totals) slot)) old next new
+      → ListsSlots (done .used) (slotLine (done .progress .next) slot) (slotFurther (done .progress) slot) old next new
   lists-record t l = let f : isBlank slot ≡ false = sym e ∙ t in rw f l
 
 -- with a slot more

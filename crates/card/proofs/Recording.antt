@@ -1,7 +1,7 @@
 -- The restored record. Assumes nothing.
 use mathlib.Core.Path.{_≡_, refl, sym, ap, ap₂, _∙_, subst₂}
 use mathlib.Core.List.{List, _∷_, _++_}
-use Prim.Native.Nat.{ℕ, _+_, _-_}
+use Prim.Native.Nat.{ℕ, _+_, _-_, min}
 use native.Mathlib.Omega.{arith}
 use lib.ListN.{length, take, drop, replicate, take-append-drop, length-drop}
 use lib.Seq.{drop-at, drop-drop, length-take-le}
@@ -19,8 +19,9 @@ use Rattle.code.specs.declared.Repair.the-variants.{Restored, Refused}
 use Rattle.code.proofs.Lengths.{places-most}
 use Rattle.code.proofs.Demands.{accepts, refused-unchanged}
 use Rattle.card.specs.Record.{erasureBytes, recordSize, widthOf, countOf, wordOf, erasuresOf, recordAsked, clearRecord, onAccept, RestoresCopy}
-use Rattle.card.specs.inner.Parts.{headerSize, tailOf, noCopy}
+use Rattle.card.specs.inner.Parts.{headerSize, tailOf, noCopy, RestoresRecordUpTo}
 use Rattle.card.specs.Record.{recordWithinOf, recordWithinWritten, RestoresRecordWithin, reachOf, recordOf, recordWritten, RestoresRecord, copyWritten}
+use Rattle.card.specs.Record.{reachUpTo, recordUpTo, recordWrittenUpTo}
 use Rattle.card.specs.declared.RestoredCopy.{RestoredCopy}
 use Rattle.card.proofs.Layouts.{Asked, asked, all-replicate, length-no, word-part, erasures-part}
 
@@ -111,18 +112,20 @@ module _ (r : List ℕ) (P : recordAsked r ≡ Passed) (reach : ℕ) (x : Repair
         long : length (tailOf r) ≡ longest - length c
         long = length-drop (headerSize + places (widthOf r)) r ∙ omega (arith, A .size, size, places-most (widthOf r) (A .width))
 
--- ---- who names no reach
+-- ---- who names a longest reach
 
-pub longest-reach : (r : List ℕ) (reach : ℕ) → reach ≡ reachOf r → (x : Repair) (new : List ℕ) → RestoresRecordWithin r reach x new
-    → RestoresRecord r x new
-unfolding recordOf recordWritten
-longest-reach r reach e x new R =
+pub restores-up-to : (n : ℕ) (r : List ℕ) (reach : ℕ) → reach ≡ reachUpTo n r → (x : Repair) (new : List ℕ) → RestoresRecordWithin r reach x new
+    → RestoresRecordUpTo n r x new
+unfolding recordUpTo recordWrittenUpTo
+restores-up-to n r reach e x new R =
     record { answer = R .answer ∙ ap (recordWithinOf r) e; content = R .content ∙ ap (recordWithinWritten r) e }
 
 -- the reach by the number of erasures
-pub reach-counted : (r : List ℕ) → Asked r → (k : ℕ) → k ≡ radius (widthOf r) (countOf r) → k ≡ reachOf r
-reach-counted r A k h =
-    h ∙ ap (radius (widthOf r)) (sym (length-take-le (countOf r) (drop 2 r) (omega (arith, A .few, A .size, length-drop 2 r))))
+pub reach-counted : (n : ℕ) (r : List ℕ) → Asked r → (k : ℕ) → k ≡ min n (radius (widthOf r) (countOf r)) → k ≡ reachUpTo n r
+reach-counted n r A k h =
+    h
+    ∙ ap (λ (s : ℕ). min n (radius (widthOf r) s))
+    (sym (length-take-le (countOf r) (drop 2 r) (omega (arith, A .few, A .size, length-drop 2 r))))
 
 -- ---- a record of another length
 

@@ -1,13 +1,10 @@
 -- Listing a card in batches, into a buffer. Assumes nothing.
 use mathlib.Core.Path.{_≡_}
-use mathlib.Core.Bool.{Bool}
 use mathlib.Core.List.{List}
 use Prim.Native.Nat.{ℕ, _*_, _^_}
 use Rattle.card.specs.declared.Progress.{Progress}
 use Rattle.card.specs.declared.text.Listed.{Listed}
 use Rattle.card.specs.Record.{recordSize}
-use Rattle.card.specs.Slots.{Came}
-use Rattle.card.specs.Listing.{partProgress}
 use Rattle.card.specs.Placed.{Writes}
 
 -- a batch has at most so many slots
@@ -26,7 +23,3 @@ mostBatches = 2 ^ 46
 pub record ListsSlots (used : ℕ) (xs : List ℕ) (s : Progress) (old : List ℕ) (r : Listed) (new : List ℕ) : Type 0 where
   pub text : Writes old used xs new (r .used)
   pub progress : r .progress ≡ s
-
--- the listing has come from s to u over some bytes, n of them at most, and just n where the card may go on
-abbrev pub Continues : ℕ → Progress → Progress → Bool → Type 0
-Continues n s u going = Came partProgress n s u going

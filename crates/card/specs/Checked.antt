@@ -6,10 +6,8 @@ use Prim.Native.Nat.{ℕ, _+_, _*_}
 use lib.ListN.{length}
 use Rattle.field.specs.Question.{Outcome, accepted, refused}
 use Rattle.card.specs.Record.{recordSize, recordOf}
-use Rattle.card.specs.Slots.{overSlots, Came}
-use Rattle.card.specs.Card.{Check, noBad, bad, Search, passed, named, sought, searched, firstRefused}
+use Rattle.card.specs.Card.{Check, noBad, bad, Search, passed, named, searched, firstRefused}
 use Rattle.card.specs.Placed.{Writes}
-use Rattle.card.specs.Batch.{batchSize}
 use Rattle.card.specs.Listing.{bytesOf}
 use Rattle.card.specs.Words.{refusalLine}
 use Rattle.card.specs.declared.checked.Found.{Found}
@@ -63,21 +61,3 @@ orElse noBad next = next
 abbrev pub FirstInParts : Type 0
 FirstInParts =
     (a b : List ℕ) (j : ℕ) → length a ≡ j * recordSize → firstRefused (a ++ b) ≡ orElse (firstRefused a) (behind j (firstRefused b))
-
--- ---- for a program that reads batch after batch
-
--- one batch was searched, where so many slots stand before it
-pub record FindsBatch (before : ℕ) (old : List ℕ) (r : Found) (going : Bool) (new : List ℕ) : Type 0 where
-  pub end : Search
-  pub came : Came (overSlots sought) batchSize (passed before) end going
-  pub found : Finds end old r new
-
--- some bytes were searched, from the card's first slot on
-pub record FindsSome (old : List ℕ) (r : Found) (new : List ℕ) : Type 0 where
-  pub bytes : List ℕ
-  pub found : Finds (searched 0 bytes) old r new
-
--- and what is written says so
-pub record Says (old : List ℕ) (used : ℕ) (new : List ℕ) : Type 0 where
-  pub bytes : List ℕ
-  pub text : Writes old 0 (checkText bytes) new used

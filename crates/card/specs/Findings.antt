@@ -12,7 +12,7 @@ use Rattle.field.specs.declared.Verdict.{Verdict}
 use Rattle.field.specs.declared.Verdict.the-variants.{Passed}
 use Rattle.card.specs.declared.parts.Findings.{Findings}
 use Rattle.card.specs.Record.{sizeOf, erasureBytes}
-use Rattle.card.specs.Slots.{slotIn, slotCount, overWhole, Came}
+use Rattle.card.specs.Slots.{slotIn, slotCount, overWhole}
 use Rattle.card.specs.Conversion.{oldErasureBytes, convertedCard, blankOr, atMostFour, toNewAsked, toOldAsked}
 use Rattle.card.specs.Leading.{answers, slotPasses, verdictAt}
 
@@ -86,11 +86,3 @@ ToNewInParts = VerdictIs oldErasureBytes erasureBytes toNewAsked × ConvertsInPa
 
 abbrev pub ToOldInParts : Type 0
 ToOldInParts = VerdictIs erasureBytes oldErasureBytes toOldAsked × ConvertsInParts erasureBytes oldErasureBytes toOldAsked
-
--- ---- reading
-
--- the questions have come from s to u over some bytes, n of them at most, and just n where the card may go on; behind their slots so many are
--- left
-pub record Asks (k n : ℕ) (s u : Findings) (rest : ℕ) (going : Bool) : Type 0 where
-  pub came : Came (partFound k) n s u going
-  pub left : rest ≡ length (came .bytes) % sizeOf k

@@ -9,7 +9,7 @@ use lib.ListN.{length, take, getD}
 use Rattle.field.specs.Question.{Outcome, accepted, refused}
 use Rattle.card.specs.declared.Totals.{Totals}
 use Rattle.card.specs.declared.Progress.{Progress}
-use Rattle.card.specs.Record.{recordSize, recordOf}
+use Rattle.card.specs.Record.{recordSize, recordOf, recordUpTo}
 use Rattle.card.specs.Slots.{isBlank, overSlots}
 
 -- the bytes of a text in ASCII
@@ -68,19 +68,27 @@ abbrev pub counted : Totals → Outcome → Totals
 counted t (accepted k) = record { accepted = t .accepted + 1; refused = t .refused; changed = t .changed + k }
 counted t (refused n) = record { accepted = t .accepted; refused = t .refused + 1; changed = t .changed }
 
--- the totals with one more slot: a blank one enters none of them
-abbrev pub slotCounted : Totals → List ℕ → Totals
-slotCounted t slot = cond (isBlank slot) t (counted t (recordOf slot))
+-- the totals with one more slot, whose record gets the outcome that f tells: a blank one enters none of them
+abbrev pub slotCounted : (List ℕ → Outcome) → Totals → List ℕ → Totals
+slotCounted f t slot = cond (isBlank slot) t (counted t (f slot))
 
 -- one slot further: the next number, and the totals
+abbrev pub furtherBy : (List ℕ → Outcome) → Progress → List ℕ → Progress
+furtherBy f s slot = record { next = s .next + 1; totals = slotCounted f (s .totals) slot }
+
+-- by what restoring the record answers
 abbrev pub slotFurther : Progress → List ℕ → Progress
-slotFurther s slot = record { next = s .next + 1; totals = slotCounted (s .totals) slot }
+slotFurther s slot = furtherBy recordOf s slot
 
 -- ---- part by part
 
 -- how far the listing has come behind a part, where it has come to s before it
 abbrev pub partProgress : Progress → List ℕ → Progress
 partProgress s part = overSlots slotFurther s part
+
+-- the same where each record is restored up to the reach n
+abbrev pub progressUpTo : ℕ → Progress → List ℕ → Progress
+progressUpTo n s part = overSlots (furtherBy (recordUpTo n)) s part
 
 -- some text, and how far the listing has come with it
 pub record Told : Type 0 where

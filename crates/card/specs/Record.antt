@@ -140,6 +140,32 @@ pub record RestoresRecord (old : List ℕ) (r : Repair) (new : List ℕ) : Type 
   pub answer : repair r ≡ recordOf old
   pub content : new ≡ recordWritten old
 
+-- ---- who names a longest reach n gets n or r, whichever is shorter; proofs/Reaches.antt proves what is stated here
+
+abbrev pub reachUpTo : ℕ → List ℕ → ℕ
+reachUpTo n r = min n (reachOf r)
+
+-- what restoring the record up to n answers
+unfoldable pub recordUpTo : ℕ → List ℕ → Outcome
+recordUpTo n r = recordWithinOf r (reachUpTo n r)
+
+-- the record after the call
+unfoldable pub recordWrittenUpTo : ℕ → List ℕ → List ℕ
+recordWrittenUpTo n r = recordWithinWritten r (reachUpTo n r)
+
+-- up to n the record is restored as with its own r, or it is refused and stays as it was
+pub record SameOrStays (n : ℕ) (r : List ℕ) : Type 0 where
+  pub same : (k : ℕ) → recordUpTo n r ≡ accepted k → (recordOf r ≡ accepted k) × (recordWrittenUpTo n r ≡ recordWritten r)
+  pub stays : (k : ℕ) → recordUpTo n r ≡ refused k → recordWrittenUpTo n r ≡ r
+
+-- a shorter reach restores no record otherwise
+abbrev pub NotOtherwise : Type 0
+NotOtherwise = (n : ℕ) (r : List ℕ) → SameOrStays n r
+
+-- up to two every record gets its own r
+abbrev pub UpToTwo : Type 0
+UpToTwo = (r : List ℕ) → (recordUpTo mostChanges r ≡ recordOf r) × (recordWrittenUpTo mostChanges r ≡ recordWritten r)
+
 -- ---- a record restored in a copy
 
 -- the copy: the record after the call, and zeros where it is refused

@@ -5,9 +5,10 @@ ghost use mathlib.Core.List.{_∷_, _++_};
 ghost use Prim.Native.Nat.{_+_, _-_, _≤_, min};
 ghost use lib.ListN.{length, take, drop, replicate};
 ghost use Rattle.field.specs.declared.Verdict.the-variants.{Passed};
+ghost use Rattle.code.specs.Near.{radius};
 ghost use Rattle.code.specs.Call.{maxErasures, repair};
 ghost use Rattle.card.specs.Record.{sizeOf, erasureBytes, recordSize, allAre, recordAsked, recordOf, RestoresRecordWithin, RestoresRecord};
-ghost use Rattle.card.specs.inner.Parts.{headerSize, noCopy};
+ghost use Rattle.card.specs.inner.Parts.{headerSize, noCopy, RestoresRecordUpTo};
 ghost use Rattle.card.specs.Record.{RestoresCopy};
 ghost use Rattle.card.specs.inner.Leading.{recordPasses};
 ghost use Rattle.card.specs.Leading.{verdictAt};
@@ -30,6 +31,9 @@ pub const OLD_ERASURE_BYTES: usize = 4;
 pub const HEADER: usize = 2 + ERASURE_BYTES;
 
 pub const RECORD: usize = HEADER + 132;
+
+// No record has a longer reach: that of an odd width without erasures.
+pub const LONGEST_REACH: u8 = 2;
 
 // The number of bytes of a record. No entry point: it requires an edition of at most five erasure bytes.
 pub fn size_of(k: usize) -> usize
@@ -130,8 +134,8 @@ fn erasure_row(bytes: &[u8]) -> [u8; ERASURE_BYTES]
     [bytes[2], bytes[3], bytes[4], bytes[5], bytes[6]]
 }
 
-// No erasures: the header of a restored record.
-fn clear_header(bytes: &mut [u8], width: u8)
+// No erasures: the header of a restored record. No entry point: it requires room for a header.
+pub fn clear_header(bytes: &mut [u8], width: u8)
     requires { ⌜ headerSize ≤ length (now bytes) ⌝ }
     ensures { λ r. ⌜ now (bytes .exit) ≡ (width ∷ 0 ∷ replicate erasureBytes 255) ++ drop headerSize (now (bytes .entry)) ⌝ }
 {
@@ -168,17 +172,32 @@ pub fn restore_record_within(bytes: &mut [u8], reach: u8) -> Repair
     }
 }
 
-// Restores a record with the longest reach that its erasures leave.
-pub fn restore_record(bytes: &mut [u8]) -> Repair
-    ensures { λ r. ⌜ RestoresRecord (now (bytes .entry)) r (now (bytes .exit)) ⌝ }
+// The reach that so many erasures leave, but no longer one than `most`.
+fn reach_up_to(most: u8, width: u8, count: usize) -> u8
+    ensures { λ r. ⌜ r ≡ min most (radius width count) ⌝ }
+{
+    let reach = radius_of(width, count);
+    if most < reach { most } else { reach }
+}
+
+// Restores a record with the longest reach that its erasures leave, but no longer one than `most`.
+pub fn restore_record_up_to(bytes: &mut [u8], most: u8) -> Repair
+    ensures { λ r. ⌜ RestoresRecordUpTo most (now (bytes .entry)) r (now (bytes .exit)) ⌝ }
 {
     match ask_record(bytes) {
         Verdict::Passed => {
-            let reach = radius_of(bytes[0], bytes[1] as usize);
+            let reach = reach_up_to(most, bytes[0], bytes[1] as usize);
             restore_asked(bytes, reach)
         }
         Verdict::Refused(q) => Repair::Refused(q),
     }
+}
+
+// Restores a record with the longest reach that its erasures leave.
+pub fn restore_record(bytes: &mut [u8]) -> Repair
+    ensures { λ r. ⌜ RestoresRecord (now (bytes .entry)) r (now (bytes .exit)) ⌝ }
+{
+    restore_record_up_to(bytes, LONGEST_REACH)
 }
 
 // A record in a row of its own.

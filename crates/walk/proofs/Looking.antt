@@ -33,7 +33,7 @@ use Rattle.walk.specs.inner.Parts.{ShowsRecord}
 use Rattle.walk.specs.Demands.{Tells, LookBetween, LookAmong}
 use Rattle.card.proofs.Lines.{record-front, record-behind}
 use Rattle.card.proofs.Numbering.{number-yes, number-low, number-high}
-use Rattle.walk.proofs.Restoring.{card-size, each-alone, from-none}
+use Rattle.walk.proofs.Restoring.{each-alone, from-none}
 use Rattle.walk.proofs.Walking.{going-low, card-by, reached, at-moment}
 
 -- ---- at one record
@@ -166,7 +166,7 @@ shown-same card = record { size = refl; each = λ i h. record { answer = refl; s
 shown-restored : (card : List ℕ) → Shown card (restoredCard card)
 shown-restored card =
     record {
-      size = card-size card;
+      size = each-alone card .size;
       each = λ i h. rw (each-alone card .each i (omega arith)) (restored-shown (recordAt card i));
     }
 
@@ -262,7 +262,7 @@ step-look w card number row = go (stepAsked w (length card)) refl
         same-look card (restoredFrom f count card) (from-shown f count card (omega arith)) number row
     treated l (no n) =
         let none : count ≡ 0 = omega arith in
-        rw (none, from-none f card) unchanged
+        rw (none, from-none recordWritten f card) unchanged
 
     go : (v : Verdict) → v ≡ stepAsked w (length card) → SameLook card (stepWritten w card) number row
     go (Refused q) e = rw (← card-by w card (Refused q) e) unchanged

@@ -10,20 +10,20 @@ use native.Mathlib.Omega.{arith}
 use lib.Dec.{eqb}
 use lib.ListN.{length}
 use Rattle.field.specs.Question.{accepted, refused}
-use Rattle.field.specs.declared.Question.{Question}
 use Rattle.field.specs.declared.Question.the-variants.{Length, RecordNumber}
 use Rattle.field.specs.declared.Verdict.{Verdict}
 use Rattle.field.specs.declared.Verdict.the-variants.{Passed, Refused}
 use Rattle.field.proofs.Ask.{ask-yes, ask-next}
 use Rattle.code.specs.Call.{done, written}
-use Rattle.card.specs.Record.{recordSize}
+use Rattle.card.specs.Record.{recordSize, recordWritten}
 use Rattle.card.specs.Slots.{recordCount}
 use Rattle.card.specs.Card.{isNumber}
 use Rattle.walk.specs.declared.Walk.{Walk}
 use Rattle.walk.specs.Restored.{restoredFrom}
-use Rattle.walk.specs.Walk.{stepRecords, walkAt, stepAsked, stepCount, stateAfter, stepState, stepWritten, Steps}
+use Rattle.walk.specs.Walk.{stepRecords, walkAt, stepAsked, stepCount, stateAfter, stepState, stepWritten}
 use Rattle.walk.specs.Walk.{Moment, stepped, afterSteps, stepsOf, stateOver}
 use Rattle.walk.specs.Demands.{WalkDone, WalkThrough, AfterEnd, OtherLength, RefusedStep, Unmoved}
+use Rattle.card.proofs.Again.{written-size}
 use Rattle.card.proofs.Numbering.{number-yes, number-low, number-high}
 use Rattle.walk.proofs.Restoring.{from-size, from-none, from-all, from-on}
 
@@ -87,25 +87,6 @@ module _ (w : Walk) (card : List ℕ) (v : Verdict) (p : v ≡ stepAsked w (leng
   unfolding stepWritten
   card-by = ap (λ (u : Verdict). written u card (restoredFrom (w .next - 1) (stepCount w (length card)) card)) p
 
-pub steps-refused : (w : Walk) (card : List ℕ) (v : Verdict) (q : Question) → v ≡ stepAsked w (length card) → v ≡ Refused q
-    → Steps w card (record { verdict = Refused q; state = w }) card
-steps-refused w card v q e p =
-    let a = sym p ∙ e in
-    record { answer = ap done a; state = state-by w card (Refused q) a; content = card-by w card (Refused q) a }
-
-pub steps-passed : (w : Walk) (card : List ℕ) (v : Verdict) → v ≡ stepAsked w (length card) → v ≡ Passed
-    → (r : ℕ) → r ≡ recordCount (length card) → (count : ℕ) → count ≡ min stepRecords (r - (w .next - 1))
-    → (new : List ℕ) → new ≡ restoredFrom (w .next - 1) count card
-    → Steps w card (record { verdict = Passed; state = walkAt (length card) (w .next + count) }) new
-steps-passed w card v e p r er count ec new en =
-    let a = sym p ∙ e in
-    let c = going-count w (length card) v e p r er count ec in
-    record {
-      answer = ap done a;
-      state = ap₂ (λ (n k : ℕ). walkAt n (w .next + k)) (going-length w (length card) v e p) c ∙ state-by w card Passed a;
-      content = en ∙ ap (λ (k : ℕ). restoredFrom (w .next - 1) k card) c ∙ card-by w card Passed a;
-    }
-
 pub other-length : OtherLength
 other-length w card n = sym (ap done (asked-length w (length card) n))
 
@@ -129,7 +110,7 @@ after-end w card e n =
         state = sym (ap (λ (x : ℕ). walkAt (w .length) x) same ∙ state-by w card Passed p);
         content = sym (card-by w card Passed p)
             ∙ ap (λ (k : ℕ). restoredFrom (w .next - 1) k card) none
-            ∙ from-none (w .next - 1) card;
+            ∙ from-none recordWritten (w .next - 1) card;
       },
     )
 
@@ -181,11 +162,11 @@ cardAt k card = restoredFrom 0 (reached k card) card
 
 step-on : (i m : ℕ) (card : List ℕ) → i * recordSize ≤ length card → restoredFrom i m (restoredFrom 0 i card) ≡ restoredFrom 0 (i + m) card
 step-on i m card h =
-    ap (λ (n : ℕ). restoredFrom n m (restoredFrom 0 i card)) (sym (zero-add i)) ∙ from-on 0 i card (rw zero-add h) m
+    ap (λ (n : ℕ). restoredFrom n m (restoredFrom 0 i card)) (sym (zero-add i)) ∙ from-on recordWritten written-size 0 i card (rw zero-add h) m
 
 module _ (k : ℕ) (card : List ℕ) where
   size : length (cardAt k card) ≡ length card
-  size = from-size 0 (reached k card) card
+  size = from-size recordWritten written-size 0 (reached k card) card
 
   asked-at : Passed ≡ stepAsked (stateAt k card) (length (cardAt k card))
   asked-at = asked-in k (length card) (cardAt k card) size
@@ -213,7 +194,7 @@ module _ (k : ℕ) (card : List ℕ) where
           let none : count ≡ 0 = omega (arith, size) in
           let same : reached k card ≡ reached (suc k) card = omega arith in
           ap (λ (m : ℕ). restoredFrom (reached k card) m (cardAt k card)) none
-          ∙ from-none (reached k card) (cardAt k card)
+          ∙ from-none recordWritten (reached k card) (cardAt k card)
           ∙ ap (λ (i : ℕ). restoredFrom 0 i card) same
 
 abbrev moment : List ℕ → Walk → Moment
@@ -224,7 +205,7 @@ unfolding afterSteps
 at-moment zero card =
     let none : 0 ≡ reached 0 card = omega arith in
     ap₂ (λ (c : List ℕ) (i : ℕ). moment c (walkAt (length card) (i + 1)))
-    (sym (from-none 0 card) ∙ ap (λ (i : ℕ). restoredFrom 0 i card) none) none
+    (sym (from-none recordWritten 0 card) ∙ ap (λ (i : ℕ). restoredFrom 0 i card) none) none
 at-moment (suc k) card = ap stepped (at-moment k card) ∙ ap₂ moment (card-on k card) (state-on k card)
 
 pub walk-done : WalkDone
@@ -235,5 +216,5 @@ walk-done card =
       passed = λ j h. rw (at-moment j card) (sym (ap done (asked-at j card)));
       not-before = λ j h. rw (at-moment j card) (omega arith);
       next = rw (at-moment steps card) (ap (λ (i : ℕ). i + 1) all);
-      content = rw (at-moment steps card) (from-all (reached steps card) card (omega (arith, all)));
+      content = rw (at-moment steps card) (from-all recordWritten (reached steps card) card (omega (arith, all)));
     }

@@ -2,12 +2,16 @@
 use mathlib.Core.List.{List, [], _++_}
 use Prim.Native.Nat.{ℕ, _*_}
 use lib.ListN.{take, drop}
-use Rattle.card.specs.Record.{recordSize, recordWritten}
+use Rattle.card.specs.Record.{recordSize, recordWritten, recordWrittenUpTo}
 use Rattle.card.specs.Slots.{overSlots, appended}
 
 -- every record restored; a blank slot is refused as a record, and stays
 abbrev pub restoredCard : List ℕ → List ℕ
 restoredCard card = overSlots (appended recordWritten) [] card
+
+-- every record restored up to the reach n
+abbrev pub restoredUpTo : ℕ → List ℕ → List ℕ
+restoredUpTo n card = overSlots (appended (recordWrittenUpTo n)) [] card
 
 -- the k slots behind the first i
 abbrev pub slotsFrom : ℕ → ℕ → List ℕ → List ℕ

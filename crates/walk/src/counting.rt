@@ -1,4 +1,5 @@
 // Restoring a card by a walk that counts: how far it has come is a listing's progress, as a listing of the card as lent counts its slots.
+// Each record is restored with a reach of at most `most`.
 ghost use mathlib.Core.List.{[], _∷_, _++_};
 ghost use Prim.Native.Nat.{_+_, _*_, _^_, _≤_, _<_};
 ghost use lib.ListN.{length};
@@ -6,8 +7,8 @@ ghost use Rattle.card.specs.Slots.{recordCount};
 ghost use Rattle.card.specs.Listing.{decimal};
 ghost use Rattle.card.specs.inner.Room.{longestField, Within};
 ghost use Rattle.walk.specs.Walk.{stepRecords};
-ghost use Rattle.walk.specs.inner.Parts.{CountsSlot, CountsFrom, Sound, longestRestored};
-ghost use Rattle.walk.specs.Counting.{CountsCard, StepsCounting, restoredLine};
+ghost use Rattle.walk.specs.inner.Parts.{CountsSlot, CountsFrom, StepsCounting, Sound, longestRestored};
+ghost use Rattle.walk.specs.Counting.{CountsCard, restoredLine};
 ghost use Rattle.card.specs.Placed.{Writes};
 use crate::Stepped;
 use crate::Walk;
@@ -17,7 +18,7 @@ use card::Progress;
 use card::cards::is_blank;
 use card::cards::record_count;
 use card::records::RECORD;
-use card::records::restore_record;
+use card::records::restore_record_up_to;
 use card::text::advance;
 use card::text::put_bytes;
 use card::text::put_field;
@@ -30,9 +31,9 @@ pub struct Counted {
 }
 
 // A slot is restored in its place and counted. A blank one stays as it is.
-fn count_slot(slot: &mut [u8], s: Progress) -> Progress
+fn count_slot(slot: &mut [u8], most: u8, s: Progress) -> Progress
     requires { ⌜ Within (2 ^ 63) s ⌝ }
-    ensures { λ r. ⌜ CountsSlot s (now (slot .entry)) r (now (slot .exit)) ⌝ }
+    ensures { λ r. ⌜ CountsSlot most s (now (slot .entry)) r (now (slot .exit)) ⌝ }
 {
     if is_blank(slot) {
         let totals = s.totals;
@@ -41,32 +42,32 @@ fn count_slot(slot: &mut [u8], s: Progress) -> Progress
             totals,
         };
     }
-    advance(s, restore_record(slot))
+    advance(s, restore_record_up_to(slot, most))
 }
 
 // Slot i of the card, counted from 0.
-fn count_at(card: &mut [u8], i: usize, s: Progress) -> Progress
+fn count_at(card: &mut [u8], i: usize, most: u8, s: Progress) -> Progress
     requires { ⌜ (i < recordCount (length (now card))) × Within (2 ^ 63) s ⌝ }
-    ensures { λ r. ⌜ CountsFrom i 1 s (now (card .entry)) r (now (card .exit)) ⌝ }
+    ensures { λ r. ⌜ CountsFrom most i 1 s (now (card .entry)) r (now (card .exit)) ⌝ }
 {
     let start = i * RECORD;
     if card.len() - start < RECORD {
-        count_slot(&mut card[start..], s)
+        count_slot(&mut card[start..], most, s)
     } else {
         let end = start + RECORD;
-        count_slot(&mut card[start..end], s)
+        count_slot(&mut card[start..end], most, s)
     }
 }
 
 // The `count` slots behind the first ones, no more than a step treats.
-fn count_from(card: &mut [u8], first: usize, count: usize, s: Progress) -> Progress
+fn count_from(card: &mut [u8], first: usize, count: usize, most: u8, s: Progress) -> Progress
     requires { ⌜ (first + count ≤ recordCount (length (now card))) × (count ≤ stepRecords) × Within (3 * 2 ^ 61) s ⌝ }
-    ensures { λ r. ⌜ CountsFrom first count s (now (card .entry)) r (now (card .exit)) ⌝ }
+    ensures { λ r. ⌜ CountsFrom most first count s (now (card .entry)) r (now (card .exit)) ⌝ }
 {
     let mut progress = s;
     let mut i = 0;
     while i < count {
-        progress = count_at(card, first + i, progress);
+        progress = count_at(card, first + i, most, progress);
         i += 1;
     }
     progress
@@ -74,16 +75,16 @@ fn count_from(card: &mut [u8], first: usize, count: usize, s: Progress) -> Progr
 
 impl Walk {
     // One step that counts. No entry point: it requires counts that do not overflow.
-    pub fn step_counting(self, card: &mut [u8], s: Progress) -> Counted
+    pub fn step_counting(self, card: &mut [u8], most: u8, s: Progress) -> Counted
         requires { ⌜ Within (3 * 2 ^ 61) s ⌝ }
-        ensures { λ r. ⌜ StepsCounting self s (now (card .entry)) r (now (card .exit)) ⌝ }
+        ensures { λ r. ⌜ StepsCounting most self s (now (card .entry)) r (now (card .exit)) ⌝ }
     {
         let n = card.len();
         match ask_step(self, n) {
             Verdict::Passed => {
                 let first = self.next - 1;
                 let count = step_count(record_count(n) - first);
-                let progress = count_from(card, first, count, s);
+                let progress = count_from(card, first, count, most, s);
                 Counted {
                     step: Stepped {
                         verdict: Verdict::Passed,
@@ -108,15 +109,15 @@ impl Walk {
 
 // A walk from the first record to the last: the card is restored, and its slots are counted. No entry point: it requires counts that do not
 // overflow.
-pub fn restore_counting(card: &mut [u8], s: Progress) -> Progress
+pub fn restore_counting(card: &mut [u8], most: u8, s: Progress) -> Progress
     requires { ⌜ Within (2 ^ 62) s ⌝ }
-    ensures { λ r. ⌜ CountsCard s (now (card .entry)) r (now (card .exit)) ⌝ }
+    ensures { λ r. ⌜ CountsCard most s (now (card .entry)) r (now (card .exit)) ⌝ }
 {
     let n = record_count(card.len());
     let mut walk = Walk::begin(card);
     let mut progress = s;
     while walk.next <= n {
-        let counted = walk.step_counting(card, progress);
+        let counted = walk.step_counting(card, most, progress);
         let step = counted.step;
         let state = step.state;
         walk = state;

@@ -14,6 +14,7 @@ use card::Totals;
 use card::cards::is_number;
 use card::cards::record_count;
 use card::cards::record_from;
+use card::records::LONGEST_REACH;
 use card::records::RECORD;
 use card::records::restored_copy;
 use code::Repair;
@@ -89,7 +90,7 @@ impl Walk {
                 changed: 0,
             },
         };
-        let counted = self.step_counting(card, uncounted);
+        let counted = self.step_counting(card, LONGEST_REACH, uncounted);
         counted.step
     }
 }

@@ -1,25 +1,54 @@
--- One slot, or some, restored and counted; a look at one record; how long the last line is. Assumes nothing.
+-- One slot, or some, or those of a step, restored and counted; a look at one record; how long the last line is. Assumes nothing.
 use mathlib.Core.Path.{_≡_}
-use mathlib.Core.List.{List}
-use Prim.Native.Nat.{ℕ, _+_, _*_, _≤_}
+use mathlib.Core.List.{List, _++_}
+use Prim.Native.Nat.{ℕ, _+_, _-_, _*_, _≤_}
+use lib.ListN.{length, take, drop}
 use Rattle.field.specs.declared.Verdict.{Verdict}
+use Rattle.field.specs.declared.Verdict.the-variants.{Passed, Refused}
 use Rattle.card.specs.declared.Progress.{Progress}
-use Rattle.card.specs.Record.{recordWritten, recordOf, onAccept}
-use Rattle.card.specs.Listing.{slotFurther, partProgress}
+use Rattle.card.specs.Record.{recordSize, recordOf, onAccept, recordUpTo, recordWrittenUpTo}
+use Rattle.card.specs.Listing.{furtherBy, progressUpTo}
 use Rattle.card.specs.inner.Room.{longestField}
-use Rattle.walk.specs.Restored.{slotsFrom, restoredFrom}
-use Rattle.code.specs.Call.{done}
+use Rattle.walk.specs.Restored.{restoredUpTo, slotsFrom}
+use Rattle.walk.specs.Walk.{stepAsked, stepOf, stepCount, stepState}
+use Rattle.walk.specs.declared.Walk.{Walk}
+use Rattle.walk.specs.declared.counting.Counted.{Counted}
+use Rattle.code.specs.Call.{done, written}
 use Rattle.walk.specs.Look.{lookSymbols, uncounted}
 
--- a slot is restored in its place and counted
-pub record CountsSlot (s : Progress) (old : List ℕ) (r : Progress) (new : List ℕ) : Type 0 where
-  pub content : new ≡ recordWritten old
-  pub progress : r ≡ slotFurther s old
+-- the k slots behind the first i, restored up to n in their place
+abbrev pub restoredFromUpTo : ℕ → ℕ → ℕ → List ℕ → List ℕ
+restoredFromUpTo n i k card =
+    take (i * recordSize) card ++ (restoredUpTo n (slotsFrom i k card) ++ drop (k * recordSize) (drop (i * recordSize) card))
+
+-- a slot is restored up to n in its place and counted
+pub record CountsSlot (n : ℕ) (s : Progress) (old : List ℕ) (r : Progress) (new : List ℕ) : Type 0 where
+  pub content : new ≡ recordWrittenUpTo n old
+  pub progress : r ≡ furtherBy (recordUpTo n) s old
 
 -- so are the k slots behind the first i
-pub record CountsFrom (i k : ℕ) (s : Progress) (old : List ℕ) (r : Progress) (new : List ℕ) : Type 0 where
-  pub content : new ≡ restoredFrom i k old
-  pub progress : r ≡ partProgress s (slotsFrom i k old)
+pub record CountsFrom (n i k : ℕ) (s : Progress) (old : List ℕ) (r : Progress) (new : List ℕ) : Type 0 where
+  pub content : new ≡ restoredFromUpTo n i k old
+  pub progress : r ≡ progressUpTo n s (slotsFrom i k old)
+
+-- the card after a step that restores up to n
+unfoldable pub stepWrittenUpTo : ℕ → Walk → List ℕ → List ℕ
+stepWrittenUpTo n w card = written (stepAsked w (length card)) card (restoredFromUpTo n (w .next - 1) (stepCount w (length card)) card)
+
+-- how far the counting has come behind it: as it was where the step is refused
+abbrev pub progressAfter : Verdict → Progress → Progress → Progress
+progressAfter Passed old new = new
+progressAfter (Refused q) old new = old
+
+unfoldable pub stepProgress : ℕ → Walk → Progress → List ℕ → Progress
+stepProgress n w s card = progressAfter (stepAsked w (length card)) s (progressUpTo n s (slotsFrom (w .next - 1) (stepCount w (length card)) card))
+
+-- the step answers and returns what one does that does not count, and counts the slots that it treats
+pub record StepsCounting (n : ℕ) (w : Walk) (s : Progress) (old : List ℕ) (r : Counted) (new : List ℕ) : Type 0 where
+  pub answer : done (r .step .verdict) ≡ stepOf w old
+  pub state : r .step .state ≡ stepState w old
+  pub content : new ≡ stepWrittenUpTo n w old
+  pub progress : r .progress ≡ stepProgress n w s old
 
 -- no more records are counted than slots
 abbrev pub Sound : Progress → Type 0

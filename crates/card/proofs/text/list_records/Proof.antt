@@ -5,10 +5,11 @@ use mathlib.Core.Path.{_≡_, _∙_}
 use Prim.Native.Nat.{_-_, _^_, _≤_}
 use native.Mathlib.Omega.{arith}
 use lib.ListN.{length}
+use Rattle.card.specs.Record.{recordOf}
 use Rattle.card.specs.Slots.{recordCount}
 use Rattle.card.specs.Batch.{ListsSlots}
 use Rattle.card.proofs.Lines.{piece-some, toldFirst, lists-none, lists-more, lists-end, told-progress}
-use Rattle.card.proofs.Bounds.{lines-short, progress-within}
+use Rattle.card.proofs.Bounds.{lines-short, few-places, progress-within}
 use Rattle.card.proofs.text.list_records.Statement.{statement}
 use Rattle.card.proofs.text.list_records.Tie as tie
 
@@ -33,7 +34,8 @@ list-slot-requires c κs =
     let done = turn .loop .inv .2 in (
       piece-some batch _ i (c .before .record-from .ensures .bytes) (omega arith),
       omega (arith, done .text .behind, lines-short (s .args .s) batch i),
-      progress-within (2 ^ 62) (2 ^ 63) (s .args .s) _ batch i (done .progress ∙ told-progress (s .args .s) batch i) (s .pre .2) (omega arith),
+      progress-within recordOf few-places (2 ^ 62) (2 ^ 63) (s .args .s) _ batch i (done .progress ∙ told-progress (s .args .s) batch i) (s .pre .2)
+          (omega arith),
     )
 
 loop-again : tie.Need-loop-again Inv-loop μ-loop

@@ -10,21 +10,21 @@ use Rattle.walk.proofs.counting.count_from.Statement.{statement}
 use Rattle.walk.proofs.counting.count_from.Tie as tie
 
 abbrev Inv-loop : tie.InvT-loop
-Inv-loop card₀ first count progress₀ i₀ card progress i =
-    (i ≤ count) × (length card ≡ length card₀) × CountsFrom first i progress₀ card₀ progress card
+Inv-loop card₀ first count most progress₀ i₀ card progress i =
+    (i ≤ count) × (length card ≡ length card₀) × CountsFrom most first i progress₀ card₀ progress card
 
 abbrev μ-loop : tie.MeasureT-loop
-μ-loop card₀ first count progress₀ i₀ card progress i = count - i
+μ-loop card₀ first count most progress₀ i₀ card progress i = count - i
 
 loop-holds : tie.Need-loop-holds Inv-loop μ-loop
-loop-holds c = (omega arith, refl, counts-none _ _ _)
+loop-holds c = (omega arith, refl, counts-none _ _ _ _)
 
 count-at-requires : tie.Need-count-at-requires Inv-loop μ-loop
 count-at-requires c κs =
     let turn = c .before .before .loop in
     let start = c .before .before .before .before in (
       omega arith,
-      counts-within _ (turn .i) (start .args .s) (turn .progress) _ _ (turn .inv .2) (3 * 2 ^ 61) (2 ^ 63) (start .pre .2)
+      counts-within _ _ (turn .i) (start .args .s) (turn .progress) _ _ (turn .inv .2) (3 * 2 ^ 61) (2 ^ 63) (start .pre .2)
           (omega arith),
     )
 

@@ -9,13 +9,13 @@ use Rattle.walk.proofs.counting.restore_counting.Statement.{statement}
 use Rattle.walk.proofs.counting.restore_counting.Tie as tie
 
 abbrev Inv-loop : tie.InvT-loop
-Inv-loop card₀ n walk₀ progress₀ card walk progress = Walked progress₀ card₀ walk progress card
+Inv-loop card₀ most n walk₀ progress₀ card walk progress = Walked most progress₀ card₀ walk progress card
 
 abbrev μ-loop : tie.MeasureT-loop
-μ-loop card₀ n walk₀ progress₀ card walk progress = recordCount (length card₀) + 1 - walk .next
+μ-loop card₀ most n walk₀ progress₀ card walk progress = recordCount (length card₀) + 1 - walk .next
 
 loop-holds : tie.Need-loop-holds Inv-loop μ-loop
-loop-holds c = rw (c .begin .ensures) (walked-start _ _)
+loop-holds c = rw (c .begin .ensures) (walked-start _ _ _)
 
 step-counting-requires : tie.Need-step-counting-requires Inv-loop μ-loop
 step-counting-requires c κs =
