@@ -1,4 +1,4 @@
-//! The program cardconvert, as it is built by `rt` and run from a shell, against the reference.
+//! The packaged program cardconvert, on files, against the reference.
 
 mod reference;
 mod tools;
@@ -6,17 +6,16 @@ mod tools;
 use reference::card::{self, record_of, size, MARKS, OLD_MARKS};
 use reference::search::most_marks;
 use reference::WIDTHS;
-use std::fs::{self, File};
-use std::io::{Read, Seek, SeekFrom, Write};
-use std::ops::RangeInclusive;
-use std::process::{Command, Output, Stdio};
+use std::fs;
+use std::io::{Seek, SeekFrom};
+use std::path::Path;
+use tools::answers::words;
+use tools::programs::{folder_with, repository, Ended, Fault, Run, BATCH_SLOTS};
 use tools::wear::{codeword, slot_of};
 use tools::Chance;
 
-const PROGRAM: &str = concat!(env!("CARGO_MANIFEST_DIR"), "/../target/bin/cardconvert");
-
-/// The slots that the program reads at once.
-const BATCH: usize = 400;
+/// The slots that the program converts at once, in the second reading.
+const COPY_SLOTS: usize = 200;
 
 /// A conversion: its word, and the mark bytes of a record before and after.
 #[derive(Clone, Copy, Debug)]
@@ -29,42 +28,6 @@ struct Way {
 const NEW: Way = Way { word: "to-new", from: OLD_MARKS, to: MARKS };
 const OLD: Way = Way { word: "to-old", from: MARKS, to: OLD_MARKS };
 
-/// The program with these arguments.
-fn program(arguments: &[&str]) -> Command {
-    let mut command = Command::new(PROGRAM);
-    command.args(arguments).stdin(Stdio::null());
-    command
-}
-
-/// What the program wrote to standard output and said on standard error. It never fails: there is no exit status.
-fn run(mut command: Command) -> (Vec<u8>, String) {
-    let output = command.output().expect("cardconvert is built by `rt check cardconvert`");
-    ended(output)
-}
-
-fn ended(output: Output) -> (Vec<u8>, String) {
-    assert!(output.status.success(), "{}", output.status);
-    (output.stdout, String::from_utf8(output.stderr).expect("messages are text"))
-}
-
-/// A file of this test's own that holds the card.
-fn file(name: &str, card: &[u8]) -> String {
-    let path = format!("{}/cardconvert-{name}", env!("CARGO_TARGET_TMPDIR"));
-    fs::write(&path, card).expect("a file");
-    path
-}
-
-fn words(refusal: u8) -> &'static str {
-    match refusal {
-        1 => "the width is not 3, 4, 5 or 7",
-        2 => "the length is not the right one",
-        3 => "there are too many erasures",
-        8 => "an unused erasure byte is not 255, or the tail is not 0",
-        15 => "there are five erasures, and the old edition has room for four",
-        _ => panic!("a conversion does not refuse with {refusal}"),
-    }
-}
-
 impl Way {
     /// The conversion by the reference, into an output of the right length.
     fn reference(self, card: &[u8]) -> Result<Vec<u8>, u8> {
@@ -72,11 +35,11 @@ impl Way {
         if self.to == MARKS { card::to_new(card, length) } else { card::to_old(card, length) }
     }
 
-    /// What the program must write and say. No record is refused with an earlier question than the card is, so the first offending one is
+    /// How the program must end. No record is refused with an earlier question than the card is, so the first offending one is
     /// the first that, alone, is refused with the same.
-    fn wanted(self, card: &[u8]) -> (Vec<u8>, String) {
+    fn wanted(self, card: &[u8]) -> Ended {
         match self.reference(card) {
-            Ok(converted) => (converted, String::new()),
+            Ok(converted) => Ended::new(0, converted, ""),
             Err(refusal) => {
                 let mut slots = card.chunks(size(self.from));
                 let number = 1 + slots.position(|slot| self.reference(slot).err() == Some(refusal)).expect("an offending record");
@@ -85,18 +48,22 @@ impl Way {
                     let rest = card.len() % size(self.from);
                     said += &format!("cardconvert: the card ends inside that record; bytes of it that are there: {rest}\n");
                 }
-                (Vec::new(), said)
+                Ended::new(2, "", said)
             }
         }
     }
 
+    /// The program on a card in this folder.
+    fn run(self, folder: &Path) -> Run {
+        Run::new("cardconvert", &[self.word, "card"]).within(folder)
+    }
+
     /// Converts the card, in a file, and compares; the file stays as it was.
-    fn converts(self, name: &str, card: &[u8]) -> (Vec<u8>, String) {
-        let path = file(name, card);
-        let found = run(program(&[self.word, &path]));
-        let wanted = self.wanted(card);
-        assert!(found == wanted, "{self:?}, {} bytes: said {:?}, wanted {:?}", card.len(), found.1, wanted.1);
-        assert!(fs::read(path).expect("the file") == card);
+    fn converts(self, name: &str, card: &[u8]) -> Ended {
+        let folder = folder_with(name, card);
+        let found = self.run(&folder).end();
+        assert_eq!(found, self.wanted(card), "{self:?}, {} bytes", card.len());
+        assert!(fs::read(folder.join("card")).expect("the file") == card);
         found
     }
 
@@ -122,14 +89,14 @@ impl Way {
 
 #[test]
 fn the_cards_that_ship() {
-    let example = |name: &str| format!("{}/../examples/{name}.card", env!("CARGO_MANIFEST_DIR"));
+    let example = |name: &str| repository(&format!("examples/{name}.card"));
     for (way, from, to) in [(NEW, "old/two", "two"), (OLD, "two", "old/two")] {
         let wanted = fs::read(example(to)).expect("an example");
-        assert_eq!(run(program(&[way.word, &example(from)])), (wanted, String::new()));
+        assert_eq!(Run::new("cardconvert", &[way.word, &example(from)]).end(), Ended::new(0, wanted, ""));
     }
     for (way, name) in [(NEW, "old/worn"), (OLD, "worn")] {
         let card = fs::read(example(name)).expect("an example");
-        assert_eq!(run(program(&[way.word, &example(name)])), way.wanted(&card), "{name}");
+        assert_eq!(Run::new("cardconvert", &[way.word, &example(name)]).end(), way.wanted(&card), "{name}");
     }
 }
 
@@ -138,11 +105,13 @@ fn the_cards_that_ship() {
 fn there_and_back() {
     let mut chance = Chance::new();
     for way in [NEW, OLD] {
-        for slots in [0, 1, 2, BATCH - 1, BATCH, BATCH + 1, 2 * BATCH, 2 * BATCH + 1] {
-            let card = way.good_card(&mut chance, slots);
-            let (there, said) = way.converts("there", &card);
-            assert_eq!((there.len(), said), (slots * size(way.to), String::new()));
-            assert!(way.back().converts("back", &there).0 == card, "{slots} slots");
+        for batch in [0, COPY_SLOTS, BATCH_SLOTS, 2 * BATCH_SLOTS] {
+            for slots in [batch.saturating_sub(1), batch, batch + 1] {
+                let card = way.good_card(&mut chance, slots);
+                let there = way.converts("there", &card);
+                assert_eq!((there.status, there.out.len()), (Some(0), slots * size(way.to)));
+                assert!(way.back().converts("back", &there.out).out == card, "{slots} slots");
+            }
         }
     }
 }
@@ -158,9 +127,9 @@ fn worn_cards() {
             if chance.below(10) == 0 {
                 card.truncate(card.len().saturating_sub(chance.below(size(way.from))));
             }
-            match way.converts("worn", &card).1.is_empty() {
-                true => converted += 1,
-                false => refused += 1,
+            match way.converts("worn", &card).status {
+                Some(0) => converted += 1,
+                _ => refused += 1,
             }
         }
         assert!(converted > 50 && refused > 50, "{converted} converted, {refused} refused");
@@ -180,19 +149,19 @@ const FAULTS: [(u8, fn(&mut [u8])); 4] = [
 #[test]
 fn the_first_offending_record() {
     let mut chance = Chance::new();
-    let slots = 2 * BATCH + 3;
+    let slots = 2 * BATCH_SLOTS + 3;
     for (way, faults) in [(NEW, &FAULTS[..3]), (OLD, &FAULTS[..])] {
         let width = 5;
         let clean: Vec<u8> = (0..slots).flat_map(|_| record_of(way.from, width, &codeword(&mut chance, width), &[])).collect();
-        let ends = [0, 1, BATCH - 1, BATCH, 2 * BATCH - 1, 2 * BATCH, slots - 1];
+        let ends = [0, 1, BATCH_SLOTS - 1, BATCH_SLOTS, 2 * BATCH_SLOTS - 1, 2 * BATCH_SLOTS, slots - 1];
         for (first, (refusal, spoil)) in faults.iter().enumerate() {
             for (_, spoil_other) in &faults[first..] {
                 let (at, other) = (ends[chance.below(ends.len())], ends[chance.below(ends.len())]);
                 let mut card = clean.clone();
                 spoil_other(&mut card[other * size(way.from)..][..size(way.from)]);
                 spoil(&mut card[at * size(way.from)..][..size(way.from)]);
-                let (out, said) = way.converts("offending", &card);
-                assert!(out.is_empty() && said.contains(&format!(" {refusal} {}\n", words(*refusal))), "{said}");
+                let said = way.converts("offending", &card).said;
+                assert!(said.contains(&format!(" {refusal} {}\n", words(*refusal))), "{said}");
             }
         }
         for (refusal, spoil) in faults {
@@ -200,7 +169,7 @@ fn the_first_offending_record() {
                 let mut card = clean.clone();
                 spoil(&mut card[at * size(way.from)..][..size(way.from)]);
                 spoil(&mut card[(slots - 1) * size(way.from)..]);
-                assert!(way.converts("offending", &card).1.contains(&format!("refused: {} {refusal} ", at + 1)));
+                assert!(way.converts("offending", &card).said.contains(&format!("refused: {} {refusal} ", at + 1)));
             }
         }
     }
@@ -211,10 +180,10 @@ fn the_first_offending_record() {
 fn a_card_that_is_not_whole_records() {
     for way in [NEW, OLD] {
         let whole = size(way.from);
-        for slots in [0, 1, BATCH - 1, BATCH, BATCH + 1] {
+        for slots in [0, 1, BATCH_SLOTS - 1, BATCH_SLOTS, BATCH_SLOTS + 1] {
             for rest in [1, whole - 1] {
-                let (out, said) = way.converts("pieces", &vec![9; slots * whole + rest]);
-                assert!(out.is_empty() && said.contains(&format!("refused: {} 2 ", slots + 1)), "{said}");
+                let said = way.converts("pieces", &vec![9; slots * whole + rest]).said;
+                assert!(said.contains(&format!("refused: {} 2 ", slots + 1)), "{said}");
             }
         }
     }
@@ -223,10 +192,10 @@ fn a_card_that_is_not_whole_records() {
 #[test]
 fn blank_slots() {
     for way in [NEW, OLD] {
-        for slots in [1, BATCH, BATCH + 1] {
-            assert_eq!(way.converts("blank", &vec![255; slots * size(way.from)]).0, vec![255; slots * size(way.to)]);
+        for slots in [1, BATCH_SLOTS, BATCH_SLOTS + 1] {
+            assert_eq!(way.converts("blank", &vec![255; slots * size(way.from)]).out, vec![255; slots * size(way.to)]);
         }
-        assert!(way.converts("blank", &vec![255; size(way.from) - 1]).0.is_empty());
+        assert_eq!(way.converts("blank", &vec![255; size(way.from) - 1]).status, Some(2));
     }
 }
 
@@ -239,95 +208,69 @@ fn a_large_card() {
         let several = way.good_card(&mut chance, 1000);
         let converted = way.reference(&several).expect("it is converted");
         let mut card = several.repeat(rounds);
-        let path = file("large", &card);
-        let (out, said) = run(program(&[way.word, &path]));
-        assert!(said.is_empty() && out.len() == rounds * converted.len(), "{said}");
-        assert!(out.chunks(converted.len()).all(|part| part == converted));
+        let folder = folder_with("large", &card);
+        let ended = way.run(&folder).end();
+        assert_eq!((ended.status, ended.out.len(), ended.said.as_str()), (Some(0), rounds * converted.len(), ""));
+        assert!(ended.out.chunks(converted.len()).all(|part| part == converted));
         let last = card.len() - size(way.from);
         card[last] = 6;
-        fs::write(&path, &card).expect("the file");
+        fs::write(folder.join("card"), &card).expect("the file");
         let said = "cardconvert: nothing is written; the first record refused: 1000000 1 the width is not 3, 4, 5 or 7\n";
-        assert_eq!(run(program(&[way.word, &path])), (Vec::new(), said.to_string()));
-        fs::remove_file(path).expect("the file");
+        assert_eq!(way.run(&folder).end(), Ended::new(2, "", said));
+        fs::remove_dir_all(folder).expect("the folder");
     }
 }
 
-/// A card that changes between the two readings. The program writes in the second reading alone, so that with the first byte the first
-/// reading is over; the pipe then holds it up long before the last batch. What it wrote before the change are whole converted records.
+/// The program on a card that a command changes before a read. It notices, and has written so many slots until then.
+fn changed(way: Way, card: &[u8], read: usize, command: &str, written: usize) {
+    let folder = folder_with("changing", card);
+    let ended = way.run(&folder).fault(Fault::before("read", read, command)).end();
+    let converted = way.reference(card).expect("it is converted");
+    let said = "cardconvert: card: the card changed while it was converted\n";
+    assert_eq!(ended, Ended::new(2, &converted[..written * size(way.to)], said), "{way:?}, read {read}, {command}");
+}
+
+/// A card of 900 slots changes before each read of the second reading: reads 1 to 4 are the first reading, 5 to 9 have 200 slots each, the
+/// last one 100, and read 10 finds the end.
 #[test]
 fn a_card_that_changes() {
-    let mut chance = Chance::new();
-    let batches = 60;
-    let last = batches - 1;
-    // What is done to the file, where a slot has so many bytes, and the batches that may then be written.
-    type Change = fn(&mut File, usize);
-    let changes: [(Change, RangeInclusive<usize>); 4] = [
-        (|file, size| file.set_len((59 * BATCH * size) as u64).expect("it is cut"), last..=last),
-        (|file, _| file.set_len(1).expect("it is cut"), 1..=last),
-        (|file, size| overwrite(file, SeekFrom::Start((59 * BATCH * size) as u64), &[6]), last..=last),
-        (|file, _| overwrite(file, SeekFrom::End(0), &[3]), batches..=batches),
-    ];
     for way in [NEW, OLD] {
-        let several = way.good_card(&mut chance, BATCH);
-        let converted = way.reference(&several).expect("it is converted");
-        for (change, written) in changes.clone() {
-            let path = file("changing", &several.repeat(batches));
-            let mut command = program(&[way.word, &path]);
-            let mut child = command.stdout(Stdio::piped()).stderr(Stdio::piped()).spawn().expect("cardconvert is built");
-            let mut first = [0];
-            child.stdout.as_mut().expect("a pipe").read_exact(&mut first).expect("a first byte");
-            change(&mut File::options().write(true).open(&path).expect("the file"), size(way.from));
-            let (rest, said) = ended(child.wait_with_output().expect("cardconvert ends"));
-            let out = [&first[..], &rest].concat();
-            assert_eq!(said, "cardconvert: the card changed while it was converted; what is written is not all of it\n");
-            assert!(out.len() % converted.len() == 0 && out.chunks(converted.len()).all(|batch| batch == converted));
-            assert!(written.contains(&(out.len() / converted.len())), "{} bytes are written", out.len());
+        let (card, bytes) = (way.good_card(&mut Chance::new(), 900), size(way.from));
+        for read in 5..=9 {
+            let before = (read - 5) * COPY_SLOTS;
+            let spoil = format!("printf 6 | dd of=card bs=1 seek={} conv=notrunc 2>/dev/null", before * bytes);
+            changed(way, &card, read, &format!("truncate -s {} card", before * bytes), before);
+            changed(way, &card, read, &format!("truncate -s {} card", before * bytes + 1), before);
+            changed(way, &card, read, "truncate -s 0 card", before);
+            changed(way, &card, read, &spoil, before);
+            changed(way, &card, read, "truncate -s -1 card", 800);
+            changed(way, &card, read, "printf x >>card", 900);
         }
+        changed(way, &card, 10, "printf x >>card", 900);
+        changed(way, &[], 2, "printf x >>card", 0);
     }
 }
 
-fn overwrite(file: &mut File, at: SeekFrom, bytes: &[u8]) {
-    file.seek(at).expect("a place in the file");
-    file.write_all(bytes).expect("it is written");
-}
-
-/// The device /dev/full takes no byte.
+/// The card may lie in standard input, and from any place of a file on.
 #[test]
-fn a_write_that_fails() {
-    let path = file("full", &vec![255; 3 * BATCH * size(MARKS)]);
-    let mut command = program(&["to-old", &path]);
-    command.stdout(File::options().write(true).open("/dev/full").expect("the device"));
-    assert_eq!(run(command).1, "cardconvert: a write failed; the output is cut short\n");
-}
-
-#[test]
-fn cards_that_cannot_be_read() {
-    let missing = "cardconvert: the card can't be opened: No such file or directory\n";
-    assert_eq!(run(program(&["to-new", "/no/such/card"])), (Vec::new(), missing.to_string()));
-    assert_eq!(run(program(&["to-new", ""])), (Vec::new(), missing.to_string()));
-    let long = "a".repeat(5000);
-    assert_eq!(run(program(&["to-new", &long])), (Vec::new(), "cardconvert: the name of the card: File name too long\n".to_string()));
-    let folder = run(program(&["to-old", env!("CARGO_TARGET_TMPDIR")]));
-    assert_eq!(folder, (Vec::new(), "cardconvert: nothing is written; a read failed\n".to_string()));
+fn standard_input() {
+    let mut chance = Chance::new();
+    let card = OLD.good_card(&mut chance, 500);
+    let folder = folder_with("input", &card);
+    for arguments in [&["to-old"][..], &["to-old", "-"]] {
+        let file = fs::File::open(folder.join("card")).expect("the card");
+        assert_eq!(Run::new("cardconvert", arguments).input(file).end(), OLD.wanted(&card));
+    }
+    let mut file = fs::File::open(folder.join("card")).expect("the card");
+    file.seek(SeekFrom::Start((3 * size(MARKS)) as u64)).expect("a place in the file");
+    assert_eq!(Run::new("cardconvert", &["to-old"]).input(file).end(), OLD.wanted(&card[3 * size(MARKS)..]));
 }
 
 /// A pipe can be read once only. Nothing is written of it.
 #[test]
 fn a_pipe() {
-    let mut command = program(&["to-new", "/dev/stdin"]);
-    let mut child = command.stdin(Stdio::piped()).stdout(Stdio::piped()).stderr(Stdio::piped()).spawn().expect("cardconvert is built");
-    child.stdin.take().expect("a pipe").write_all(&[255; size(OLD_MARKS)]).expect("it is read");
-    let said = "cardconvert: nothing is written; the card can't be read twice\n";
-    assert_eq!(ended(child.wait_with_output().expect("cardconvert ends")), (Vec::new(), said.to_string()));
-}
-
-#[test]
-fn bad_arguments() {
-    let path = file("arguments", &[255; size(MARKS)]);
-    let usage = "usage: cardconvert to-new FILE\n       cardconvert to-old FILE\n";
-    let all: [&[&str]; 9] =
-        [&[], &["to-new"], &["to-old"], &[&path], &["", &path], &["to-ne", &path], &["to-newer", &path], &["to-newest", &path], &["to-old", &path, &path]];
-    for arguments in all {
-        assert_eq!(run(program(arguments)), (Vec::new(), usage.to_string()), "{arguments:?}");
+    for (arguments, file) in [(&["to-new"][..], "standard input"), (&["to-new", "/dev/stdin"], "/dev/stdin")] {
+        let ended = Run::new("cardconvert", arguments).on(&[255; size(OLD_MARKS)]);
+        assert_eq!(ended, Ended::new(2, "", format!("cardconvert: {file}: Illegal seek\n")));
     }
 }

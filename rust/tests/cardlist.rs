@@ -1,4 +1,4 @@
-//! The program cardlist, as it is built by `rt`, against listings by the reference. Cards at the limit are made while it reads.
+//! The packaged program cardlist against listings by the reference. Cards at the limit are made while it reads.
 
 mod reference;
 mod tools;
@@ -6,39 +6,23 @@ mod tools;
 use reference::card::{is_blank, judge, list, record, Listing, LISTED, RECORD};
 use std::fs::{self, File};
 use std::io::Write;
-use std::process::{Command, Output, Stdio};
-use std::thread;
+use tools::answers::listed;
+use tools::programs::{folder_with, repository, Run};
 use tools::wear::{codeword, worn, worn_card};
 use tools::Chance;
 
-const PROGRAM: &str = concat!(env!("CARGO_MANIFEST_DIR"), "/../target/bin/cardlist");
-
-/// What the program wrote. It never fails, and complains of nothing that it is tried on here.
-fn text_of(output: Output) -> String {
-    assert!(output.status.success(), "{}", output.status);
-    assert_eq!(String::from_utf8_lossy(&output.stderr), "");
-    String::from_utf8(output.stdout).expect("a listing is text")
+/// The listing of the card that `make` writes, of which nothing is said.
+fn text_of(make: impl FnOnce(&mut dyn Write) + Send) -> String {
+    let ended = Run::new("cardlist", &[]).fed(make);
+    assert_eq!((ended.status, ended.said.as_str()), (Some(0), ""));
+    String::from_utf8(ended.out).expect("a listing is text")
 }
 
-/// The listing of the card that `make` writes.
-fn listed(make: impl FnOnce(&mut dyn Write) + Send) -> String {
-    let mut program = Command::new(PROGRAM)
-        .stdin(Stdio::piped())
-        .stdout(Stdio::piped())
-        .stderr(Stdio::piped())
-        .spawn()
-        .expect("cardlist is built by `rt check cardlist`");
-    let mut input = program.stdin.take().expect("a pipe");
-    let output = thread::scope(|scope| {
-        scope.spawn(move || make(&mut input));
-        program.wait_with_output().expect("cardlist ends")
-    });
-    text_of(output)
-}
-
-/// The listing of these bytes.
+/// The listing of these bytes, which must be that of the reference.
 fn listed_bytes(card: &[u8]) -> String {
-    listed(|input| input.write_all(card).expect("all of the card is read"))
+    let ended = Run::new("cardlist", &[]).on(card);
+    assert_eq!(ended, listed(card, "standard input"), "{} bytes", card.len());
+    String::from_utf8(ended.out).expect("a listing is text")
 }
 
 #[test]
@@ -53,9 +37,11 @@ fn the_example_of_document_01() {
 
 #[test]
 fn the_cards_that_ship() {
-    for name in ["two", "worn"] {
-        let card = fs::read(format!("{}/../examples/{name}.card", env!("CARGO_MANIFEST_DIR"))).expect("an example");
-        assert_eq!(listed_bytes(&card), list(&card), "{name}");
+    for name in ["two", "worn", "old/two", "old/worn"] {
+        let path = repository(&format!("examples/{name}.card"));
+        let card = fs::read(&path).expect("an example");
+        listed_bytes(&card);
+        assert_eq!(Run::new("cardlist", &[&path]).end(), listed(&card, &path), "{name}");
     }
 }
 
@@ -75,8 +61,7 @@ fn one_byte() {
 fn short_last_pieces() {
     let clean = record(7, &codeword(&mut Chance::new(), 7), &[]);
     for length in [1, 2, RECORD - 1, RECORD, RECORD + 1, 2 * RECORD - 1, 2 * RECORD, 2 * RECORD + 1] {
-        let card: Vec<u8> = clean.iter().cycle().take(length).copied().collect();
-        assert_eq!(listed_bytes(&card), list(&card), "{length} bytes");
+        listed_bytes(&clean.iter().cycle().take(length).copied().collect::<Vec<u8>>());
     }
 }
 
@@ -123,10 +108,9 @@ fn blank_bytes_at_the_end() {
 #[test]
 fn random_cards() {
     let mut chance = Chance::new();
-    for round in 0..12 {
+    for _ in 0..12 {
         let (slots, further) = (chance.below(900), chance.below(RECORD));
-        let card = worn_card(&mut chance, slots, further);
-        assert_eq!(listed_bytes(&card), list(&card), "round {round}");
+        listed_bytes(&worn_card(&mut chance, slots, further));
     }
 }
 
@@ -136,8 +120,7 @@ fn the_edges_of_a_batch() {
     let card: Vec<u8> = (0..802).flat_map(|_| worn(&mut chance, 3)).collect();
     for records in [399, 400, 401, 800, 801] {
         for more in [0, 1] {
-            let card = &card[..records * RECORD + more];
-            assert_eq!(listed_bytes(card), list(card), "{records} records and {more} bytes");
+            listed_bytes(&card[..records * RECORD + more]);
         }
     }
 }
@@ -146,36 +129,18 @@ fn the_edges_of_a_batch() {
 fn a_card_that_comes_in_drops() {
     let mut chance = Chance::new();
     let card: Vec<u8> = (0..450).flat_map(|_| worn(&mut chance, 5)).collect();
-    let text = listed(|input| card.chunks(61).for_each(|drop| input.write_all(drop).expect("all of the card is read")));
+    let text = text_of(|input| card.chunks(61).for_each(|drop| input.write_all(drop).expect("all of the card is read")));
     assert_eq!(text, list(&card));
 }
 
 #[test]
 fn the_card_is_not_written() {
-    let path = concat!(env!("CARGO_TARGET_TMPDIR"), "/card");
     let mut chance = Chance::new();
     let card: Vec<u8> = (0..50).flat_map(|_| worn(&mut chance, 3)).collect();
-    fs::write(path, &card).expect("a file");
-    let file = File::options().read(true).write(true).open(path).expect("the file");
-    let output = Command::new(PROGRAM).stdin(file).output().expect("cardlist is built by `rt check cardlist`");
-    assert_eq!(text_of(output), list(&card));
+    let path = folder_with("unwritten", &card).join("card");
+    let file = File::options().read(true).write(true).open(&path).expect("the file");
+    assert_eq!(Run::new("cardlist", &[]).input(file).end(), listed(&card, "standard input"));
     assert!(fs::read(path).expect("the file") == card);
-}
-
-/// The device /dev/full takes no byte.
-#[test]
-fn a_write_that_fails() {
-    let path = concat!(env!("CARGO_TARGET_TMPDIR"), "/unlisted");
-    let mut chance = Chance::new();
-    for records in [0, 1, 900] {
-        let card: Vec<u8> = (0..records).flat_map(|_| worn(&mut chance, 3)).collect();
-        fs::write(path, &card).expect("a file");
-        let full = File::options().write(true).open("/dev/full").expect("the device");
-        let output = Command::new(PROGRAM).stdin(File::open(path).expect("the file")).stdout(full).stderr(Stdio::piped()).output();
-        let output = output.expect("cardlist is built by `rt check cardlist`");
-        assert!(output.status.success(), "{}", output.status);
-        assert_eq!(String::from_utf8_lossy(&output.stderr), "cardlist: a write failed; the listing is cut short\n", "{records} records");
-    }
 }
 
 /// Seven records and a blank slot that take turns on a large card, no two of them with the same line.
@@ -214,7 +179,7 @@ fn large_card(slots: usize, further: &[u8]) {
             wanted.add(turns[i][0], judged[i]);
         }
     }
-    let text = listed(|input| {
+    let text = text_of(|input| {
         let several = turns.concat();
         let (rounds, rest) = (slots / 8, slots % 8);
         (0..rounds).for_each(|_| input.write_all(&several).expect("all of the card is read"));

@@ -1,162 +1,84 @@
-//! The programs cardrestore and cardcheck, as they are built by `rt`, one after the other as a user runs them, against the reference.
+//! The packaged programs cardrestore and cardcheck, one after the other as a user runs them, against the reference.
 
 mod reference;
 mod tools;
 
-use reference::card::{check, is_blank, judge, list, record, restore, RECORD};
-use std::fs::File;
+use reference::card::{judge, list, record, RECORD};
+use std::fs;
 use std::io::{Read, Write};
-use std::process::{Command, Output, Stdio};
+use std::process::{Command, Stdio};
 use std::thread;
+use tools::answers::{checked, listed, restored, restored_card, words, LONGEST};
+use tools::programs::{path, repository, Ended, Run};
 use tools::wear::{codeword, worn, worn_card};
 use tools::Chance;
 
-/// The path of a program.
-fn path(name: &str) -> String {
-    format!("{}/../target/bin/{name}", env!("CARGO_MANIFEST_DIR"))
-}
+/// What the messages call the card.
+const INPUT: &str = "standard input";
 
-/// What the program writes on standard output and says on standard error, on the card that `make` writes.
-fn run(name: &str, make: impl FnOnce(&mut dyn Write) + Send) -> (Vec<u8>, String) {
-    let mut program = Command::new(path(name))
-        .stdin(Stdio::piped())
-        .stdout(Stdio::piped())
-        .stderr(Stdio::piped())
-        .spawn()
-        .unwrap_or_else(|_| panic!("{name} is built by `rt check {name}`"));
-    let mut input = program.stdin.take().expect("a pipe");
-    let output = thread::scope(|scope| {
-        scope.spawn(move || make(&mut input));
-        program.wait_with_output().expect("the program ends")
-    });
-    ended(output)
-}
-
-fn ended(output: Output) -> (Vec<u8>, String) {
-    assert!(output.status.success(), "{}", output.status);
-    (output.stdout, String::from_utf8(output.stderr).expect("messages are text"))
-}
-
-/// The same on these bytes. A program that has its answer may stop reading.
-fn run_on(name: &str, card: &[u8]) -> (Vec<u8>, String) {
-    run(name, |input| {
-        let _ = input.write_all(card);
-    })
-}
-
-/// A text that a program writes, where it says nothing.
-fn text_of(name: &str, card: &[u8]) -> String {
-    let (text, said) = run_on(name, card);
-    assert_eq!(said, "", "{name}");
-    String::from_utf8(text).expect("a text")
-}
-
-/// What is counted of a card.
-#[derive(Default)]
-struct Counts {
-    restored: u64,
-    changed: u64,
-    refused: u64,
-    blank: u64,
-}
-
-impl Counts {
-    fn add(&mut self, slot: &[u8], judged: Result<u8, u8>) {
-        match judged {
-            _ if is_blank(slot) => self.blank += 1,
-            Ok(changed) => {
-                self.restored += 1;
-                self.changed += u64::from(changed);
-            }
-            Err(_) => self.refused += 1,
-        }
-    }
-
-    fn line(&self) -> String {
-        format!("restored {}, changed {}, refused {}, blank {}\n", self.restored, self.changed, self.refused, self.blank)
-    }
-}
-
-/// The restored card and what is said of it, by the reference.
-fn restored(card: &[u8]) -> (Vec<u8>, String) {
-    let (mut out, mut counts) = (Vec::new(), Counts::default());
-    for slot in card.chunks(RECORD) {
-        let answer = restore(slot);
-        counts.add(slot, answer.as_ref().map(|(changed, _)| *changed).map_err(|&refusal| refusal));
-        out.extend(answer.map_or(slot.to_vec(), |(_, after)| after));
-    }
-    (out, counts.line())
-}
-
-/// The words for the refusals that a record can get.
-fn words(refusal: u8) -> &'static str {
-    match refusal {
-        1 => "the width is not 3, 4, 5 or 7",
-        2 => "the length is not the right one",
-        3 => "there are too many erasures",
-        4 => "an erasure is no place of the word",
-        5 => "an erasure is given twice",
-        6 => "a symbol outside the erasures is not below 2^width",
-        7 => "no codeword is near",
-        8 => "an unused erasure byte is not 255, or the tail is not 0",
-        14 => "several codewords agree outside the five erasures",
-        _ => panic!("a record is not refused with {refusal}"),
-    }
-}
-
-/// The line of cardcheck, by the reference.
-fn checked(card: &[u8]) -> String {
-    match check(card) {
-        Ok(()) => "ok\n".to_string(),
-        Err(number) => {
-            let slot = card.chunks(RECORD).nth(number as usize - 1).expect("the record");
-            let refusal = judge(slot).expect_err("a refused record");
-            format!("{number} {refusal} {}\n", words(refusal))
-        }
-    }
+/// A program without arguments on these bytes.
+fn run(name: &str, card: &[u8]) -> Ended {
+    Run::new(name, &[]).on(card)
 }
 
 /// The way of a card: it is checked and restored, then checked, listed and restored again.
 fn way(card: &[u8], name: &str) {
-    assert_eq!(text_of("cardcheck", card), checked(card), "{name}: checked");
-    let (out, said) = run_on("cardrestore", card);
-    let (wanted, line) = restored(card);
-    assert!(out == wanted, "{name}: restored");
-    assert_eq!(said, line, "{name}");
+    assert_eq!(run("cardcheck", card), checked(card, INPUT), "{name}: checked");
+    let first = run("cardrestore", card);
+    assert_eq!(first, restored(card, INPUT, LONGEST), "{name}: restored");
+    let out = first.out;
     assert_eq!(out.len(), card.len(), "{name}");
-    assert_eq!(text_of("cardcheck", &out), checked(&out), "{name}: checked after");
-    assert_eq!(text_of("cardlist", &out), list(&out), "{name}: listed after");
-    let (again, said) = run_on("cardrestore", &out);
-    assert!(again == out, "{name}: restored again");
-    assert!(said.contains(", changed 0, "), "{name}: {said}");
+    assert_eq!(run("cardcheck", &out), checked(&out, INPUT), "{name}: checked after");
+    assert_eq!(run("cardlist", &out), listed(&out, INPUT), "{name}: listed after");
+    let again = run("cardrestore", &out);
+    assert!(again.out == out, "{name}: restored again");
+    assert!(again.said.contains(", changed 0, "), "{name}: {}", again.said);
 }
 
 /// The line of cardrestore has the numbers of cardlist's last line.
 #[test]
 fn the_cards_that_ship() {
     for name in ["two", "worn", "old/two", "old/worn"] {
-        let file = format!("{}/../examples/{name}.card", env!("CARGO_MANIFEST_DIR"));
-        let card = std::fs::read(file).expect("an example");
+        let file = repository(&format!("examples/{name}.card"));
+        let card = fs::read(&file).expect("an example");
         way(&card, name);
-        let listing = text_of("cardlist", &card);
+        assert_eq!(Run::new("cardcheck", &[&file]).end(), checked(&card, &file));
+        assert_eq!(Run::new("cardrestore", &[&file]).end(), restored(&card, &file, LONGEST));
+        let listing = String::from_utf8(run("cardlist", &card).out).expect("a listing is text");
         let total: Vec<&str> = listing.lines().last().expect("a total line").split(' ').collect();
-        let said = run_on("cardrestore", &card).1;
-        assert!(said.starts_with(&format!("restored {}, changed {}, refused {}, ", total[1], total[3], total[2])), "{name}: {said}");
+        let said = run("cardrestore", &card).said;
+        let line = format!("restored {}, changed {}, refused {}, ", total[1], total[3], total[2]);
+        assert!(said.lines().last().expect("a last line").starts_with(&line), "{name}: {said}");
     }
 }
 
 /// What the gate compares with is what the reference makes.
 #[test]
 fn the_card_of_the_gate() {
-    let file = |name: &str| std::fs::read(format!("{}/../crates/cardrestore/{name}", env!("CARGO_MANIFEST_DIR"))).expect("a card");
-    assert!(restored(&file("stdin")).0 == file("stdout"));
+    let file = |name: &str| fs::read(repository(&format!("crates/cardrestore/{name}"))).expect("a card");
+    assert!(restored_card(&file("stdin"), LONGEST).0 == file("stdout"));
 }
 
 #[test]
 fn an_empty_card() {
     way(&[], "empty");
-    assert_eq!(run_on("cardrestore", &[]), (vec![], "restored 0, changed 0, refused 0, blank 0\n".to_string()));
-    assert_eq!(text_of("cardcheck", &[]), "ok\n");
+    assert_eq!(run("cardrestore", &[]), Ended::new(0, "", "restored 0, changed 0, refused 0, blank 0\n"));
+    assert_eq!(run("cardcheck", &[]), Ended::new(0, "ok\n", ""));
+}
+
+/// Each longest reach, on cards on which each makes a difference.
+#[test]
+fn each_longest_reach() {
+    let mut chance = Chance::new();
+    let card = worn_card(&mut chance, 900, 7);
+    let counts = [0, 1, 2].map(|most| {
+        let ended = Run::new("cardrestore", &["--reach", &most.to_string()]).on(&card);
+        assert_eq!(ended, restored(&card, INPUT, most), "reach {most}");
+        restored_card(&card, most).1
+    });
+    assert!(counts[0].restored < counts[1].restored && counts[1].restored < counts[2].restored);
+    assert_eq!(counts[0].changed, 0);
+    assert_eq!(run("cardrestore", &card), restored(&card, INPUT, LONGEST), "without a reach");
 }
 
 #[test]
@@ -191,7 +113,7 @@ fn the_edges_of_a_batch() {
         }
         let mut late = fine.clone();
         late[records * RECORD] = 6;
-        assert_eq!(text_of("cardcheck", &late), format!("{} 1 {}\n", records + 1, words(1)));
+        assert_eq!(run("cardcheck", &late), Ended::new(1, format!("{} 1 {}\n", records + 1, words(1)), ""));
     }
 }
 
@@ -204,7 +126,7 @@ fn the_words_of_each_refusal() {
         let slot = worn(&mut chance, 3);
         if let Err(refusal) = judge(&slot) {
             if met.insert(refusal) {
-                assert_eq!(text_of("cardcheck", &slot), format!("1 {refusal} {}\n", words(refusal)));
+                assert_eq!(run("cardcheck", &slot), Ended::new(1, format!("1 {refusal} {}\n", words(refusal)), ""));
             }
         }
     }
@@ -216,58 +138,18 @@ fn the_words_of_each_refusal() {
 fn a_card_that_comes_in_drops() {
     let mut chance = Chance::new();
     let card: Vec<u8> = (0..450).flat_map(|_| worn(&mut chance, 5)).collect();
-    let (out, said) = run("cardrestore", |input| card.chunks(61).for_each(|drop| input.write_all(drop).expect("all is read")));
-    assert!((out, said) == restored(&card));
+    let drops = |input: &mut dyn Write| card.chunks(61).for_each(|drop| input.write_all(drop).expect("all of the card is read"));
+    assert_eq!(Run::new("cardrestore", &[]).fed(drops), restored(&card, INPUT, LONGEST));
 }
 
 /// As a user types it: one program's output is the other's input.
 #[test]
 fn through_a_pipe() {
-    let card = format!("{}/../examples/worn.card", env!("CARGO_MANIFEST_DIR"));
+    let card = repository("examples/worn.card");
     let line = format!("'{}' < '{card}' 2>/dev/null | '{}'", path("cardrestore"), path("cardlist"));
     let output = Command::new("sh").args(["-c", &line]).output().expect("a shell");
-    let (text, said) = ended(output);
-    assert_eq!(said, "");
-    assert_eq!(String::from_utf8_lossy(&text), list(&restored(&std::fs::read(card).expect("an example")).0));
-}
-
-/// The programs take no arguments, and do not read the card that is named.
-#[test]
-fn an_argument() {
-    for (name, usage) in [("cardrestore", "usage: cardrestore < WORN > GOOD\n"), ("cardcheck", "usage: cardcheck < CARD\n")] {
-        for arguments in [&["worn.card"][..], &[""], &["--help"], &["a", "b"]] {
-            let output = Command::new(path(name)).args(arguments).stdin(Stdio::null()).output().expect("the program runs");
-            assert_eq!(ended(output), (vec![], usage.to_string()), "{name} {arguments:?}");
-        }
-    }
-}
-
-/// The device /dev/full takes no byte.
-#[test]
-fn a_write_that_fails() {
-    let card = format!("{}/../examples/worn.card", env!("CARGO_MANIFEST_DIR"));
-    for (name, what) in [("cardrestore", "the card is cut short"), ("cardcheck", "nothing is said of the card")] {
-        let full = File::options().write(true).open("/dev/full").expect("the device");
-        let input = File::open(&card).expect("an example");
-        let output = Command::new(path(name)).stdin(input).stdout(full).stderr(Stdio::piped()).output().expect("the program runs");
-        assert_eq!(ended(output).1, format!("{name}: a write failed; {what}\n"));
-    }
-}
-
-/// A directory opens, and cannot be read.
-#[test]
-fn a_read_that_fails() {
-    let cases = [
-        ("cardrestore", "", "restored 0, changed 0, refused 0, blank 0\n"),
-        ("cardcheck", "ok\n", ""),
-        ("cardlist", "total 0 0 0\n", ""),
-    ];
-    for (name, text, last) in cases {
-        let output = Command::new(path(name)).stdin(File::open("/").expect("a directory")).output().expect("the program runs");
-        let (written, said) = ended(output);
-        assert_eq!(String::from_utf8_lossy(&written), text);
-        assert_eq!(said, format!("{name}: a read failed; the card is taken to end there\n{last}"));
-    }
+    let restored = restored_card(&fs::read(card).expect("an example"), LONGEST).0;
+    assert_eq!(Ended::of(output), Ended::new(0, list(&restored), ""));
 }
 
 /// Slots that take turns on a large card.
@@ -287,11 +169,7 @@ fn turns() -> Vec<Vec<u8>> {
 fn a_million_slots() {
     const SLOTS: usize = 1_000_000;
     let turns = turns();
-    let (mut after, mut counts) = (Vec::new(), Counts::default());
-    for slot in &turns {
-        counts.add(slot, judge(slot));
-        after.extend(restored(slot).0);
-    }
+    let (after, counts) = restored_card(&turns.concat(), LONGEST);
     let rounds = SLOTS / turns.len();
     let line = format!("restored {}, changed {}, refused {}, blank {}\n", 3 * rounds, rounds, rounds, rounds);
     assert_eq!(counts.line(), "restored 3, changed 1, refused 1, blank 1\n");
@@ -300,7 +178,7 @@ fn a_million_slots() {
         .stdout(Stdio::piped())
         .stderr(Stdio::piped())
         .spawn()
-        .expect("cardrestore is built by `rt check cardrestore`");
+        .expect("cardrestore is built by `./package`");
     let (mut input, mut output) = (program.stdin.take().expect("a pipe"), program.stdout.take().expect("a pipe"));
     thread::scope(|scope| {
         let several = turns.concat();
@@ -312,16 +190,16 @@ fn a_million_slots() {
         }
         assert_eq!(output.read(&mut piece).expect("the end"), 0);
     });
-    assert_eq!(ended(program.wait_with_output().expect("the program ends")).1, line);
+    assert_eq!(Ended::of(program.wait_with_output().expect("the program ends")), Ended::new(1, "", line));
 }
 
 /// The last slot of 1,000,001 is the first that would be refused, and cardcheck knows no limit.
 #[test]
 fn checked_behind_a_million_slots() {
     let fine = [record(3, &codeword(&mut Chance::new(), 3), &[]), vec![255; RECORD]].concat();
-    let (text, said) = run("cardcheck", |input| {
+    let ended = Run::new("cardcheck", &[]).fed(|input| {
         (0..500_000).for_each(|_| input.write_all(&fine).expect("all of the card is read"));
         input.write_all(&[7]).expect("all of the card is read");
     });
-    assert_eq!((String::from_utf8_lossy(&text).as_ref(), said.as_str()), ("1000001 2 the length is not the right one\n", ""));
+    assert_eq!(ended, Ended::new(1, "1000001 2 the length is not the right one\n", ""));
 }

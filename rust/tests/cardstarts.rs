@@ -1,69 +1,29 @@
-//! The program cardstarts, as it is built by `rt`, against tables made from the reference's reports.
+//! The packaged program cardstarts against tables made from the reference's reports.
 
 mod reference;
 mod tools;
 
 use reference::card::{record, RECORD};
 use reference::compare::QUARTERS;
-use reference::window::{report, MOST, PUMPS, REPORT, ROW};
-use std::ffi::{OsStr, OsString};
-use std::fs::{self, File};
+use reference::window::{MOST, PUMPS};
+use std::ffi::OsStr;
+use std::fs;
 use std::io::Write;
-use std::os::unix::ffi::OsStringExt;
-use std::process::{Command, Output, Stdio};
-use std::thread;
+use std::os::unix::ffi::OsStrExt;
+use tools::answers::{table, tabled, HEADER};
+use tools::programs::{repository, Ended, Run};
 use tools::sheets::{five_slots, random_symbols, sheet, worn_sheet};
 use tools::wear::slot_of;
 use tools::Chance;
 
-const PROGRAM: &str = concat!(env!("CARGO_MANIFEST_DIR"), "/../target/bin/cardstarts");
-
-const HEADER: &str = "pump sheets starts full highest date quotient remainder\n";
-
-const USAGE: &str = "usage: cardstarts FIRST END (quarter hours 0 to 96 or hh:mm, FIRST before END)\n";
-
-/// What the program writes on standard output and standard error for these arguments, on the card that `make` writes.
-fn run(arguments: &[impl AsRef<OsStr>], make: impl FnOnce(&mut dyn Write) + Send) -> (String, String) {
-    let mut program = Command::new(PROGRAM)
-        .args(arguments)
-        .stdin(Stdio::piped())
-        .stdout(Stdio::piped())
-        .stderr(Stdio::piped())
-        .spawn()
-        .expect("cardstarts is built by `rt check cardstarts`");
-    let mut input = program.stdin.take().expect("a pipe");
-    let output = thread::scope(|scope| {
-        scope.spawn(move || make(&mut input));
-        program.wait_with_output().expect("cardstarts ends")
-    });
-    texts(output)
+/// The program on these bytes.
+fn run(card: &[u8], first: &str, end: &str) -> Ended {
+    Run::new("cardstarts", &[first, end]).on(card)
 }
 
-fn texts(output: Output) -> (String, String) {
-    assert!(output.status.success(), "{}", output.status);
-    let text = |bytes| String::from_utf8(bytes).expect("a text");
-    (text(output.stdout), text(output.stderr))
-}
-
-/// The table of these bytes.
-fn table_of(card: &[u8], first: &str, end: &str) -> String {
-    let (table, complaint) = run(&[first, end], |input| input.write_all(card).expect("all of the card is read"));
-    assert_eq!(complaint, "");
-    table
-}
-
-/// The same by the reference.
-fn wanted(card: &[u8], first: usize, end: usize) -> String {
-    let numbers = report(card, first as u8, end as u8, REPORT).expect("a window");
-    let (rows, last) = numbers.split_at(PUMPS * ROW);
-    let line = |(pump, row): (usize, &[u64])| {
-        let [sheets, sum, full, highest, year, month, day, quotient, remainder] = *row else { panic!("nine numbers") };
-        let century = if year < 100 { 20 } else { 21 };
-        let date = format!("{century}{:02}-{month:02}-{day:02}", year % 100);
-        (sheets > 0).then(|| format!("{pump} {sheets} {sum} {full} {highest} {date} {quotient} {remainder}\n"))
-    };
-    let lines: String = rows.chunks(ROW).enumerate().filter_map(line).collect();
-    format!("{HEADER}{lines}refused {}\nblank {}\n{}", last[0], last[1], ["", "more\n"][last[2] as usize])
+/// How it must end.
+fn wanted(card: &[u8], first: usize, end: usize) -> Ended {
+    tabled(card, "standard input", first, end)
 }
 
 /// The time at which a quarter hour begins.
@@ -115,19 +75,21 @@ fn days() -> Vec<u8> {
 /// The gate runs the program on the card that ships.
 #[test]
 fn the_card_of_the_gate() {
-    let read = |name| fs::read(format!("{}/../{name}", env!("CARGO_MANIFEST_DIR"))).expect("a file of the repository");
+    let read = |name: &str| fs::read(repository(name)).expect("a file of the repository");
     let text = |name| String::from_utf8(read(name)).expect("a text");
     assert!(read("examples/days.card") == days());
     assert!(read("crates/cardstarts/stdin") == days());
     assert_eq!(text("crates/cardstarts/args"), "06:00\n72\n");
-    let table = "5 3 260 2 127 2023-12-31 86 2\n12 1 4 0 4 2024-11-02 4 0\n127 1 0 0 0 2099-10-10 0 0\nrefused 3\nblank 2\n";
-    assert_eq!(wanted(&days(), 24, 72), HEADER.to_owned() + table);
-    assert_eq!(text("crates/cardstarts/stdout"), HEADER.to_owned() + table);
+    let lines = "5 3 260 2 127 2023-12-31 86 2\n12 1 4 0 4 2024-11-02 4 0\n127 1 0 0 0 2099-10-10 0 0\nrefused 3\nblank 2\n";
+    assert_eq!(table(&days(), 24, 72), HEADER.to_owned() + lines);
+    assert_eq!(text("crates/cardstarts/stdout"), HEADER.to_owned() + lines);
+    let path = repository("examples/days.card");
+    assert_eq!(Run::new("cardstarts", &["06:00", "72", &path]).end(), tabled(&days(), &path, 24, 72));
 }
 
 #[test]
 fn an_empty_card() {
-    assert_eq!(table_of(&[], "0", "96"), HEADER.to_owned() + "refused 0\nblank 0\n");
+    assert_eq!(run(&[], "0", "96"), Ended::new(0, HEADER.to_owned() + "refused 0\nblank 0\n", ""));
 }
 
 #[test]
@@ -140,8 +102,8 @@ fn random_cards() {
         let first = chance.below(QUARTERS);
         let end = first + 1 + chance.below(QUARTERS - first);
         let (first_text, end_text) = ([first.to_string(), clock(first)], [end.to_string(), clock(end)]);
-        let table = table_of(&card, &first_text[chance.below(2)], &end_text[chance.below(2)]);
-        assert_eq!(table, wanted(&card, first, end), "round {round}, from {first} to {end}");
+        let ended = run(&card, &first_text[chance.below(2)], &end_text[chance.below(2)]);
+        assert_eq!(ended, wanted(&card, first, end), "round {round}, from {first} to {end}");
     }
 }
 
@@ -149,9 +111,8 @@ fn random_cards() {
 #[test]
 fn every_pump() {
     let card: Vec<u8> = (0..PUMPS as u8).flat_map(|pump| sheet(&[(0, pump)], [127 - pump, 1, 1], pump)).collect();
-    let table = table_of(&card, "0", "1");
-    assert_eq!(table, wanted(&card, 0, 1));
-    assert!(table.contains("\n27 1 27 0 27 2100-01-01 27 0\n28 1 28 0 28 2099-01-01 28 0\n"));
+    assert_eq!(run(&card, "0", "1"), wanted(&card, 0, 1));
+    assert!(table(&card, 0, 1).contains("\n27 1 27 0 27 2100-01-01 27 0\n28 1 28 0 28 2099-01-01 28 0\n"));
 }
 
 /// Each quarter hour by its number and by its time.
@@ -162,10 +123,10 @@ fn every_quarter_hour() {
     for quarter in 0..=QUARTERS {
         for text in [quarter.to_string(), clock(quarter)] {
             if quarter < QUARTERS {
-                assert_eq!(table_of(&card, &text, "96"), wanted(&card, quarter, 96), "from {text}");
+                assert_eq!(run(&card, &text, "96"), wanted(&card, quarter, 96), "from {text}");
             }
             if quarter > 0 {
-                assert_eq!(table_of(&card, "00:00", &text), wanted(&card, 0, quarter), "to {text}");
+                assert_eq!(run(&card, "00:00", &text), wanted(&card, 0, quarter), "to {text}");
             }
         }
     }
@@ -178,7 +139,7 @@ fn the_edges_of_a_batch() {
     for slots in [399, 400, 401, 800, 801] {
         for more in [0, 1] {
             let card = &card[..slots * RECORD + more];
-            assert_eq!(table_of(card, "06:00", "18:00"), wanted(card, 24, 72), "{slots} slots and {more} bytes");
+            assert_eq!(run(card, "06:00", "18:00"), wanted(card, 24, 72), "{slots} slots and {more} bytes");
         }
     }
 }
@@ -188,7 +149,7 @@ fn a_card_that_comes_in_drops() {
     let mut chance = Chance::new();
     let card = card(&mut chance, 450);
     let drops = |input: &mut dyn Write| card.chunks(61).for_each(|drop| input.write_all(drop).expect("all of the card is read"));
-    assert_eq!(run(&["0", "96"], drops), (wanted(&card, 0, 96), String::new()));
+    assert_eq!(Run::new("cardstarts", &["0", "96"]).fed(drops), wanted(&card, 0, 96));
 }
 
 /// 1,000,000 records, and further bytes, which are only noticed.
@@ -196,52 +157,41 @@ fn a_card_that_comes_in_drops() {
 fn cards_at_the_limit() {
     let turns = five_slots();
     let mut card = turns.concat().repeat(MOST / turns.len());
-    let whole = wanted(&card, 0, 96);
+    let whole = table(&card, 0, 96);
     assert!(whole.ends_with("\nrefused 200000\nblank 200000\n"));
-    assert_eq!(table_of(&card, "0", "96"), whole);
-    assert_eq!(table_of(&card[..card.len() - 1], "0", "96"), wanted(&card[..card.len() - 1], 0, 96));
+    assert_eq!(run(&card, "0", "96"), Ended::new(0, whole.clone(), ""));
+    assert_eq!(run(&card[..card.len() - 1], "0", "96"), wanted(&card[..card.len() - 1], 0, 96));
     for length in [1, RECORD] {
         card.truncate(MOST * RECORD);
         card.extend(&turns[0][..length]);
-        let (table, complaint) = run(&["0", "96"], |input| input.write_all(&card).expect("a pipe has room for the rest"));
-        assert_eq!((table, complaint), (whole.clone() + "more\n", String::new()));
+        assert_eq!(run(&card, "0", "96"), Ended::new(0, whole.clone() + "more\n", ""));
     }
 }
 
-/// Nothing but two quarter hours, the first before the second.
+/// What is said of arguments that are no window.
+fn refused(what: &str, argument: &[u8]) -> Ended {
+    let argument = String::from_utf8_lossy(argument);
+    Ended::new(2, "", format!("cardstarts: {what}: {argument}\nusage: cardstarts FIRST END [FILE]\n"))
+}
+
+/// Texts that are no quarter hour, as the first argument and as the second.
 #[test]
-fn bad_arguments() {
-    let good = ["0", "96"].map(OsString::from);
-    let mut lists: Vec<Vec<OsString>> = vec![vec![], vec!["0".into()], vec!["0".into(), "96".into(), "96".into()], vec!["".into()]];
-    let numbers = "| |-1|+5|97|100|256|352|00|05|5 | 5|5.|0x5|1e1|a|five|6:00|06:0|06:00:00|06:000|006:00";
-    let times = "06-00|06.00|0600|:00|06:|:|06:01|06:10|06:60|06:5|24:15|24:30|25:00|-1:00|99:00|06:00 | 06:00|--help|00000005|000000005|18446744073709551616";
-    let others = numbers.split('|').chain(times.split('|')).map(OsString::from);
-    for other in others.chain([vec![255], vec![53, 128], vec![53; 5000]].map(OsString::from_vec)) {
-        lists.push(vec![other.clone(), good[1].clone()]);
-        lists.push(vec![good[0].clone(), other]);
+fn bad_times() {
+    let numbers = "| |+5|97|100|256|352|00|05|5 | 5|5.|0x5|1e1|a|five|6:00|06:0|06:00:00|06:000|006:00|-";
+    let times = "06-00|06.00|0600|:00|06:|:|06:01|06:10|06:60|06:5|24:15|24:30|25:00|99:00|06:00 | 06:00|00000005|000000005|18446744073709551616";
+    let texts = numbers.split('|').chain(times.split('|')).map(|text| text.as_bytes().to_vec());
+    for text in texts.chain([vec![255], vec![53, 128], vec![53; 4000]]) {
+        let argument = OsStr::from_bytes(&text);
+        let first = Run::new("cardstarts", &[]).argument(argument).argument("96").end();
+        assert_eq!(first, refused("FIRST is no quarter hour from 0 to 96, and no time of one", &text));
+        let end = Run::new("cardstarts", &["0"]).argument(argument).end();
+        assert_eq!(end, refused("END is no quarter hour from 0 to 96, and no time of one", &text));
     }
+}
+
+#[test]
+fn windows_without_a_quarter_hour() {
     for (first, end) in [("5", "5"), ("6", "5"), ("0", "0"), ("96", "96"), ("24:00", "96"), ("06:00", "24"), ("96", "0")] {
-        lists.push(vec![first.into(), end.into()]);
+        assert_eq!(run(&[], first, end), refused("FIRST is not before END", end.as_bytes()), "from {first} to {end}");
     }
-    for list in lists {
-        assert_eq!(run(&list, |_| ()), (String::new(), USAGE.to_owned()), "{list:?}");
-    }
-}
-
-/// The device /dev/full takes no byte.
-#[test]
-fn a_write_that_fails() {
-    let full = File::options().write(true).open("/dev/full").expect("the device");
-    let output = Command::new(PROGRAM).args(["0", "96"]).stdin(Stdio::null()).stdout(full).stderr(Stdio::piped()).output();
-    let complaint = "cardstarts: a write failed; the table is cut short\n";
-    assert_eq!(texts(output.expect("cardstarts is built by `rt check cardstarts`")), (String::new(), complaint.to_owned()));
-}
-
-/// A folder opens, and cannot be read.
-#[test]
-fn a_read_that_fails() {
-    let folder = File::open(env!("CARGO_MANIFEST_DIR")).expect("a folder");
-    let output = Command::new(PROGRAM).args(["0", "96"]).stdin(folder).output();
-    let complaint = "cardstarts: a read failed; the card is taken to end there\n";
-    assert_eq!(texts(output.expect("cardstarts is built by `rt check cardstarts`")), (wanted(&[], 0, 96), complaint.to_owned()));
 }

@@ -69,7 +69,7 @@ fn read_restored(bytes: &[u8], k: u8) -> Reading
 }
 
 // Restores a record in a copy and reads it as a day sheet; the record stays as it is.
-pub(crate) fn read_day(bytes: &[u8]) -> Reading
+pub fn read_day(bytes: &[u8]) -> Reading
     ensures { λ r. ⌜ TellsDay (dayOf (now (bytes .entry))) r ⌝ }
 {
     let restored = restored_copy(bytes);

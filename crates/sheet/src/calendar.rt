@@ -29,7 +29,7 @@ fn days_in(year: u16, month: u8) -> u8
 }
 
 // Does the date exist? The year is given less 2000.
-pub(crate) fn date_exists(year: u8, month: u8, day: u8) -> bool
+pub fn date_exists(year: u8, month: u8, day: u8) -> bool
     ensures { λ r. ⌜ r ≡ dateExists year month day ⌝ }
 {
     if day == 0 {

@@ -1,6 +1,8 @@
 //! What the tests share: slices lent out of larger buffers, and numbers by chance.
 #![allow(dead_code)] // each test file uses its part
 
+pub mod answers;
+pub mod programs;
 pub mod sheets;
 pub mod wear;
 

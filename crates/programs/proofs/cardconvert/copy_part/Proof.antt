@@ -1,0 +1,117 @@
+-- `programs::cardconvert::copy_part` meets its contract. Assumes nothing.
+use borrow.Author.Needs.{needs}
+use mathlib.Core.Path.{_≡_, sym, ap, _∙_}
+use Prim.Native.Nat.{ℕ, _-_, _*_, _≤_}
+use native.Mathlib.Omega.{arith}
+use lib.ListN.{length, take}
+use lib.Seq.{length-take-le}
+use Rattle.programs.proofs.Converting.{copy-room, copies-sized}
+use Rattle.programs.proofs.cardconvert.copy_part.Statement.{statement}
+use Rattle.programs.proofs.cardconvert.copy_part.Tie as tie
+
+-- the slots fit into both buffers
+module _ (c : tie.After-size-of) where
+  abbrev begun : tie.Start
+  begun = c .before .before .before .before .before
+
+  abbrev n : ℕ
+  n = begun .args .want * c .size-of .result
+
+  buf-room : n ≤ length (begun .args .buf .now)
+  buf-room =
+      let few = begun .pre .1 .2 in
+      copy-room (begun .args .want) (c .size-of .result) (begun .args .k) _ (begun .pre .1 .3) (c .size-of .ensures) few (begun .pre .0 .0)
+
+  buf-size : length (take n (begun .args .buf .now)) ≡ n
+  buf-size = length-take-le n (begun .args .buf .now) buf-room
+
+module _ (c : tie.After-size-of2) where
+  abbrev started : tie.Start
+  started = begun (c .before)
+
+  abbrev m : ℕ
+  m = started .args .want * c .size-of2 .result
+
+  other-room : m ≤ length (started .args .other .now)
+  other-room =
+      let k = 9 - started .args .k in
+      let few : k ≤ 5 = omega (arith, started .pre .1 .1) in
+      copy-room (started .args .want) (c .size-of2 .result) k _ (started .pre .1 .3) (c .size-of2 .ensures) few (started .pre .0 .1)
+
+  other-size : length (take m (started .args .other .now)) ≡ m
+  other-size = length-take-le m (started .args .other .now) other-room
+
+size-of-requires : tie.Need-size-of-requires
+size-of-requires c κs = search needs
+
+mul-n : tie.Need-mul-n
+mul-n c = omega (arith, buf-room c)
+
+add-size-of : tie.Need-add-size-of
+add-size-of c = search needs
+
+sub-size-of : tie.Need-sub-size-of
+sub-size-of c = search needs
+
+size-of-requires-2 : tie.Need-size-of-requires-2
+size-of-requires-2 c κs = search needs
+
+mul-m : tie.Need-mul-m
+mul-m c = omega (arith, other-room c)
+
+slice-relend-prefix-copy-slots : tie.Need-slice-relend-prefix-copy-slots
+slice-relend-prefix-copy-slots c = buf-room (c .before)
+
+slice-aggregate-copy-slots : tie.Need-slice-aggregate-copy-slots
+slice-aggregate-copy-slots c = sym (buf-size (c .before .before))
+
+slice-relend-prefix-copy-slots-2 : tie.Need-slice-relend-prefix-copy-slots-2
+slice-relend-prefix-copy-slots-2 c = other-room (c .before)
+
+slice-aggregate-copy-slots-2 : tie.Need-slice-aggregate-copy-slots-2
+slice-aggregate-copy-slots-2 c = sym (other-size (c .before .before))
+
+copy-slots-requires : tie.Need-copy-slots-requires
+copy-slots-requires c κs =
+    let s = c .before .before .before .before .before .before .before .before in
+    let u = c .before .before in (
+      s .pre .1 .0,
+      s .pre .1 .1,
+      s .pre .1 .2,
+      omega (arith, buf-size (u .before), buf-room (u .before), s .pre .0 .0),
+      omega (arith, other-size u, other-room u, s .pre .0 .1),
+    )
+
+same-length : tie.Need-same-length
+same-length c = search needs
+
+same-length-2 : tie.Need-same-length-2
+same-length-2 c = search needs
+
+returns : tie.Need-returns
+returns c =
+    let y = c .before .before .before .before in
+    let u = y .before .before .before in
+    let s = u .before .before .before .before .before .before in
+    let a = buf-size (u .before) ∙ ap (λ (x : ℕ). s .args .want * x) (u .before .size-of .ensures) in
+    let b = other-size u ∙ ap (λ (x : ℕ). s .args .want * x) (u .size-of2 .ensures) in
+    copies-sized a b (y .copy-slots .ensures)
+
+pub copy-part-spec : {M : Type 1} → statement M
+copy-part-spec =
+    tie.close
+    (tie.spec
+    size-of-requires
+    mul-n
+    add-size-of
+    sub-size-of
+    size-of-requires-2
+    mul-m
+    slice-relend-prefix-copy-slots
+    slice-aggregate-copy-slots
+    slice-relend-prefix-copy-slots-2
+    slice-aggregate-copy-slots-2
+    copy-slots-requires
+    same-length
+    same-length-2
+    returns)

@@ -1,0 +1,19 @@
+-- `programs::cardlist::status_of` meets its contract. Assumes nothing.
+use borrow.Author.Needs.{needs}
+use mathlib.Core.Path.{ap, _∙_}
+use mathlib.Core.Bool.{Bool, cond}
+use Rattle.programs.specs.declared.status.Status.the-variants.{Done, NotDone}
+use Rattle.programs.proofs.cardlist.status_of.Statement.{statement}
+use Rattle.programs.proofs.cardlist.status_of.Tie as tie
+
+is-well-requires : tie.Need-is-well-requires
+is-well-requires c κs = search needs
+
+done-where-requires : tie.Need-done-where-requires
+done-where-requires c κs = search needs
+
+returns : tie.Need-returns
+returns c = c .done-where .ensures ∙ ap (λ (b : Bool). cond b Done NotDone) (c .before .is-well .ensures)
+
+pub status-of-spec : {M : Type 1} → statement M
+status-of-spec = tie.close (tie.spec is-well-requires done-where-requires returns)

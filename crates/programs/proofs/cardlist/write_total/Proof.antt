@@ -1,0 +1,48 @@
+-- `programs::cardlist::write_total` meets its contract. Assumes nothing.
+use borrow.Author.Needs.{needs}
+use mathlib.Core.Path.{sym, ap, _∙_}
+use Prim.Native.Nat.{ℕ, _+_}
+use native.Mathlib.Omega.{arith}
+use mathlib.Core.List.{List}
+use lib.ListN.{length}
+use lib.Seq.{length-take-le}
+use Rattle.card.proofs.Writing.{writes-fits, writes-length}
+use Rattle.programs.proofs.Batches.{front-text}
+use Rattle.programs.proofs.cardlist.write_total.Statement.{statement}
+use Rattle.programs.proofs.cardlist.write_total.Tie as tie
+
+slice-aggregate-put-total : tie.Need-slice-aggregate-put-total
+slice-aggregate-put-total c = search needs
+
+put-total-requires : tie.Need-put-total-requires
+put-total-requires c κs = search needs
+
+array-share-prefix-out : tie.Need-array-share-prefix-out
+array-share-prefix-out c = search needs
+
+slice-aggregate-write-part : tie.Need-slice-aggregate-write-part
+slice-aggregate-write-part c = let x = c .before .before .put-total in sym (length-take-le (x .result) _ (writes-fits (x .ensures)))
+
+slice-aggregate-write-part-2 : tie.Need-slice-aggregate-write-part-2
+slice-aggregate-write-part-2 c = search needs
+
+write-part-requires : tie.Need-write-part-requires
+write-part-requires c κs =
+    let x = c .before .before .before .put-total in
+    let l = length-take-le (x .result) (x .last .0) (writes-fits (x .ensures)) in
+    (c .before .before .before .before .before .pre .ok, omega (arith, c .before .before .before .before .before .pre .small, l, writes-fits (x .ensures), writes-length (x .ensures)))
+
+returns : tie.Need-returns
+returns c = λ p. c .write-part .ensures p ∙ ap (λ (xs : List ℕ). c .before .before .before .before .before .before .args .o .written + length xs) (front-text (c .before .before .before .before .put-total .ensures))
+
+pub write-total-spec : {M : Type 1} → statement M
+write-total-spec =
+    tie.close
+    (tie.spec
+    slice-aggregate-put-total
+    put-total-requires
+    array-share-prefix-out
+    slice-aggregate-write-part
+    slice-aggregate-write-part-2
+    write-part-requires
+    returns)

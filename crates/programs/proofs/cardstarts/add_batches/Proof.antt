@@ -1,0 +1,99 @@
+-- `programs::cardstarts::add_batches` meets its contract. Before turn i the report has come over i whole batches. Assumes nothing.
+use borrow.Author.Needs.{needs}
+use mathlib.Core.Path.{_≡_, refl, ap}
+use mathlib.Core.Bool.{true}
+use Prim.Native.Nat.{_-_, _*_, _≤_}
+use native.Mathlib.Omega.{arith}
+use lib.ListN.{length}
+use Rattle.card.specs.Batch.{batchSize}
+use Rattle.report.specs.Window.{noReport, partAdded}
+use Rattle.programs.specs.declared.input.Input.{Input}
+use Rattle.programs.specs.inner.Turns.{TookAll}
+use Rattle.programs.proofs.Batches.{denied-no, denied-yes}
+use Rattle.programs.proofs.Tabling.{adds-start, adds-readable, adds-countable, adds-all, adds-more, adds-end}
+use Rattle.programs.proofs.cardstarts.add_batches.Statement.{statement}
+use Rattle.programs.proofs.cardstarts.add_batches.Tie as tie
+
+abbrev Inv-loop : tie.InvT-loop
+Inv-loop fd w report₀ file input₀ i₀ report input i =
+    (i ≤ 2500) × (length report ≡ length report₀) × (input .going ≡ true) × TookAll (partAdded w) (i * batchSize) noReport report input
+
+abbrev μ-loop : tie.MeasureT-loop
+μ-loop fd w report₀ file input₀ i₀ report input i = 2500 - i
+
+input-of-requires : tie.Need-input-of-requires Inv-loop μ-loop
+input-of-requires c κs = search needs
+
+loop-holds : tie.Need-loop-holds Inv-loop μ-loop
+loop-holds c =
+    let s = c .before .before .before in
+    let x = c .input-of .ensures in
+    let r = ap (λ (i : Input). i .read) x in
+    let f = ap (λ (i : Input). i .failed) x in
+    (omega arith, refl, ap (λ (i : Input). i .going) x, adds-start (s .args .w) _ _ (s .pre .1) r f)
+
+add-batch-requires : tie.Need-add-batch-requires Inv-loop μ-loop
+add-batch-requires c κs =
+    let t = c .before .before .loop in
+    let s = c .before .before .before .before .before .before in
+    let w = s .args .w in (
+      adds-readable w (t .i) (t .inv .3) (t .inv .2) (t .inv .0),
+      s .pre .0,
+      adds-countable w (t .i) (t .inv .3) (t .inv .2) (s .pre .0) (t .inv .0),
+    )
+
+going-requires : tie.Need-going-requires Inv-loop μ-loop
+going-requires c κs = search needs
+
+same-length : tie.Need-same-length Inv-loop μ-loop
+same-length c = search needs
+
+returns : tie.Need-returns Inv-loop μ-loop
+returns c =
+    let y = c .before .going in
+    let x = c .before .before .before .before .add-batch in
+    let u = c .before .before .before .before .before .before in
+    let t = u .before .loop in
+    let w = u .before .before .before .before .before .args .w in
+    adds-end w (t .i) (t .inv .3) (t .inv .2) (x .ensures) (u .loop-test .taken) (denied-yes (y .ensures) (c .if1 .taken))
+
+add-i : tie.Need-add-i Inv-loop μ-loop
+add-i c = search needs
+
+loop-less : tie.Need-loop-less Inv-loop μ-loop
+loop-less c = search needs
+
+loop-again : tie.Need-loop-again Inv-loop μ-loop
+loop-again c =
+    let y = c .before .going in
+    let x = c .before .before .before .before .add-batch in
+    let u = c .before .before .before .before .before .before in
+    let t = u .before .loop in
+    let w = u .before .before .before .before .before .args .w in
+    (omega arith, omega arith, denied-no (y .ensures) (c .if1 .left), adds-more w (t .i) (t .inv .3) (t .inv .2) (x .ensures))
+
+same-length-2 : tie.Need-same-length-2 Inv-loop μ-loop
+same-length-2 c = search needs
+
+returns-2 : tie.Need-returns-2 Inv-loop μ-loop
+returns-2 c =
+    let t = c .before .loop in
+    adds-all (c .before .before .before .before .before .args .w) (t .i) (t .inv .3) (t .inv .2) (omega arith)
+
+pub add-batches-spec : {M : Type 1} → statement M
+add-batches-spec =
+    tie.close
+    (tie.spec
+    Inv-loop
+    μ-loop
+    input-of-requires
+    loop-holds
+    add-batch-requires
+    going-requires
+    same-length
+    returns
+    add-i
+    loop-less
+    loop-again
+    same-length-2
+    returns-2)

@@ -1,0 +1,14 @@
+-- `programs::message::looks_old` meets its contract. Assumes nothing.
+use Prim.Native.Nat.{_%_}
+use borrow.Author.Tests.{ne-eqb}
+use Rattle.programs.proofs.message.looks_old.Statement.{statement}
+use Rattle.programs.proofs.message.looks_old.Tie as tie
+
+returns : tie.Need-returns
+returns c = rw (ne-eqb (c .before .args .bytes % 139) 0 (c .if1 .taken))
+
+returns-2 : tie.Need-returns-2
+returns-2 c = let h = c .if1 .left in rw h
+
+pub looks-old-spec : {M : Type 1} → statement M
+looks-old-spec = tie.close (tie.spec returns returns-2)

@@ -1,0 +1,29 @@
+-- `programs::turn::begin` meets its contract. Assumes nothing.
+use borrow.Author.Needs.{needs}
+use mathlib.Core.Path.{refl, ap}
+use Rattle.programs.specs.declared.input.Input.{Input}
+use Rattle.programs.specs.declared.output.Output.{Output}
+use Rattle.programs.proofs.turn.begin.Statement.{statement}
+use Rattle.programs.proofs.turn.begin.Tie as tie
+
+input-of-requires : tie.Need-input-of-requires
+input-of-requires c κs = search needs
+
+output-of-requires : tie.Need-output-of-requires
+output-of-requires c κs = search needs
+
+returns : tie.Need-returns
+returns c =
+    let i = c .before .input-of .ensures in
+    let o = c .output-of .ensures in
+    record {
+      progress = refl;
+      read = ap (λ (x : Input). x .read) i;
+      going = ap (λ (x : Input). x .going) i;
+      well = ap (λ (x : Input). x .failed) i;
+      written = ap (λ (x : Output). x .written) o;
+      ok = ap (λ (x : Output). x .ok) o;
+    }
+
+pub begin-spec : {M : Type 1} → statement M
+begin-spec = tie.close (tie.spec input-of-requires output-of-requires returns)

@@ -1,0 +1,8 @@
+-- Vocabulary of inner functions: no contract of a program cites it. Assumes nothing.
+pub mod Streams  -- one read, one write, names in buffers
+pub mod Turns  -- what a step requires between batches
+pub mod Lists  -- a listing batch by batch
+pub mod Checks  -- a card check batch by batch
+pub mod Restores  -- a card restored batch by batch
+pub mod Copies  -- a card asked, and converted, batch by batch
+pub mod Reports  -- a report batch by batch
