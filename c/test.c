@@ -776,6 +776,42 @@ static void windows(void) {
     check("no further record", report[XRS_REPORT_FURTHER] == 0);
 }
 
+/* NULL for a slice of length 0: no marks, an empty card, and outputs that are then of the wrong length. */
+static void empty_slices(void) {
+    static const uint8_t none[5] = {0}, wrong[12] = {1, 2, 4, 3, 6, 0, 1, 0, 0, 0, 0, 5};
+    static uint64_t report[XRS_REPORT_SIZE];
+    uint8_t row[XRS_ROW_SIZE];
+    uint64_t next = 1;
+    lent word;
+    answers("restore with NULL for no marks", xrs_restore_word(3, lend(&word, wrong, 12), 12, NULL, 0), XRS_ACCEPTED, 1);
+    answers("the same at the reach 1", xrs_restore_word_within(3, lend(&word, wrong, 12), 12, NULL, 0, 1), XRS_ACCEPTED, 1);
+    answers("the same by trials", xrs_restore_word_by_trials(3, lend(&word, wrong, 12), 12, NULL, 0), XRS_ACCEPTED, 1);
+    answers("by trials at the reach 1", xrs_restore_word_by_trials_within(3, lend(&word, wrong, 12), 12, NULL, 0, 1), XRS_ACCEPTED, 1);
+    check("the word restored without marks", holds(&word, words[2]));
+    syndromes_are("syndromes with NULL for no marks", xrs_syndromes(3, words[2], 12, NULL, 0), XRS_ACCEPTED, none);
+
+    check("check a card of NULL", xrs_check_card(NULL, 0) == 0);
+    answers("convert an old card of NULL", xrs_card_to_new(NULL, 0, NULL, 0), XRS_ACCEPTED, 0);
+    answers("convert a new card of NULL", xrs_card_to_old(NULL, 0, NULL, 0), XRS_ACCEPTED, 0);
+    answers("a step over a card of NULL", xrs_walk_step(0, &next, NULL, 0), XRS_ACCEPTED, 0);
+    check("it leaves the next record at 1", next == 1);
+    answers("look at a card of NULL", xrs_look(NULL, 0, 1, row, sizeof row), XRS_REFUSED_RECORD_NUMBER, 0);
+    report[0] = report[XRS_REPORT_FURTHER] = 9;
+    answers("a window over a card of NULL", xrs_window(NULL, 0, 0, 96, report, XRS_REPORT_SIZE), XRS_ACCEPTED, 0);
+    check("its report is zeros", report[0] == 0 && report[XRS_REPORT_FURTHER] == 0);
+    check("compare cards of NULL", xrs_compare_sheets(NULL, 0, 1, NULL, 0, 1, row, 96) == XRS_REFUSED_RECORD_NUMBER);
+
+    answers("encode NULL into NULL", xrs_encode(3, NULL, 0, NULL, 0), XRS_REFUSED_LENGTH, 0);
+    answers("test a word of NULL", xrs_is_codeword(3, NULL, 0), XRS_REFUSED_LENGTH, 0);
+    answers("read a word of NULL", xrs_read_data(3, NULL, 0, NULL, 0), XRS_REFUSED_LENGTH, 0);
+    answers("restore a word of NULL", xrs_restore_word(3, NULL, 0, NULL, 0), XRS_REFUSED_LENGTH, 0);
+    answers("restore a record of NULL", xrs_restore_record(NULL, 0), XRS_REFUSED_LENGTH, 0);
+    answers("charge counts of NULL", xrs_charge(NULL, 0), XRS_REFUSED_LENGTH, 0);
+    answers("a bay with NULL", xrs_bay_restore(0, NULL, 0, NULL, 0), XRS_REFUSED_LENGTH, 0);
+    answers("write a sheet of NULL", xrs_write_sheet(7, NULL, 0, NULL, 0), XRS_REFUSED_LENGTH, 0);
+    answers("read a sheet of NULL", xrs_read_sheet(7, NULL, 0, NULL, 0), XRS_REFUSED_LENGTH, 0);
+}
+
 int main(void) {
     static const uint8_t widths[4] = {3, 4, 5, 7};
     size_t i;
@@ -798,6 +834,7 @@ int main(void) {
     sheets();
     compared_sheets();
     windows();
+    empty_slices();
     printf("%u passed, %u failed\n", passed, failed);
     return failed != 0;
 }

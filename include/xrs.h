@@ -12,21 +12,30 @@
  * for all its items before the next. Of a record or a card 2 comes before 1, and in xrs_walk_step before 17.
  *
  * Memory: a slice is passed as a pointer and its length, which counts elements: bytes, or numbers of 16 or 64 bits where the pointer is one
- * to these. The pointer must not be NULL, also where the length is 0, and must be valid for that many elements and aligned for them: to
- * read where it is const, else to read and write. Slices passed to one call must not overlap, unless both are const. Any length and any
- * content are allowed: a wrong one is refused. A single number that a call changes is passed as a pointer to it. A call touches nothing
- * outside its slices and numbers, and a refused call changes nothing inside. What an output (data or a word that is encoded or read, a
- * converted card, a row, the counts of a new charge, a sheet, signs, a report) holds beforehand does not matter.
+ * to these. The pointer must be valid for that many elements and aligned for them: to read where it is const, else to read and write.
+ * Where the length is 0 the pointer is not used, and NULL may be passed: no marks, or an empty card. Slices passed to one call must not
+ * overlap, unless both are const, and nobody else may write to a slice, or read one that is not const, until the call returns. Any length
+ * and any content are allowed: a wrong one is refused. A single number that a call changes is passed as a pointer to it, which must not be
+ * NULL, must be aligned and must not point into a slice of the call. A call touches nothing outside its slices and numbers, and a refused
+ * call changes nothing inside. What an output (data or a word that is encoded or read, a converted card, a row, the counts of a new charge,
+ * a sheet, signs, a report) holds beforehand does not matter.
  *
- * The calls keep no state, so any number of threads may call them at once on memory of their own.
+ * The calls keep no state and allocate nothing, so any number of threads may call them at once on memory of their own. A call needs less
+ * than XRS_STACK bytes of stack.
  *
- * The archive libxrs.a, made by `./package` in the repository, is for x86-64 Linux.
+ * The shared library libxrs.so.0 and the archive libxrs.a, made by `./package` in the repository, are for x86-64 Linux.
  */
 #ifndef XRS_H
 #define XRS_H
 
 #include <stddef.h>
 #include <stdint.h>
+
+/* The version of the library that this header belongs to. */
+#define XRS_VERSION "0.1.0"
+
+/* More bytes of stack than any call needs: the deepest takes about 2,500. */
+#define XRS_STACK 4096
 
 #ifdef __cplusplus
 extern "C" {
@@ -167,7 +176,8 @@ uint32_t xrs_card_to_old(const uint8_t *card, size_t card_length, uint8_t *out, 
  * them, and at the end one more than the card has. Records are counted from 1; blank slots, records that are refused and a short last piece
  * count, and stay as they are. After the end a step changes nothing. A walk begins with the card's length and *next = 1, and a card of N
  * records is done after N / 16 steps, rounded up. The value is 0. Refused with 2 where the card has not the length that the walk began
- * with, then with 17 where *next is not 1 to one more than the card has.
+ * with, then with 17 where *next is not 1 to one more than the card has; *next is then as it was. The pointer next must not be NULL,
+ * also where the card is empty, must be aligned for a uint64_t, and must not point into the card.
  */
 uint32_t xrs_walk_step(uint64_t length, uint64_t *next, uint8_t *card, size_t card_length);
 

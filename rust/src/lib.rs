@@ -3,6 +3,14 @@
 //! A word of width 3, 4, 5 or 7 has n = q + 4 symbols, one to a byte, where q is 2^width: 12, 20, 36 or 132. Its first five are check
 //! symbols, the other q - 1 are the data. Two codewords differ at five places or more, at width 4 at four or more. A call that returns
 //! `Err` leaves every slice as it was.
+//!
+//! The crate links the archive `libxrs.a`. It finds the one that `./package` builds in the repository; elsewhere `XRS_LIB_DIR` names its
+//! folder, or pkg-config finds it.
+#![warn(missing_docs)]
+
+mod slots;
+
+pub use slots::{slots, Slot, Slots};
 
 /// The question that was answered no.
 #[derive(Clone, Copy, Debug, PartialEq, Eq)]
@@ -685,7 +693,9 @@ pub fn read_sheet(width: u8, word: &[u8], symbols: &mut [u8]) -> Result<(), Refu
 /// Whose sheet: the one by the pump's controller, or the one by the meter cupboard.
 #[derive(Clone, Copy, Debug, PartialEq, Eq)]
 pub enum Side {
+    /// The pump's controller.
     Controller,
+    /// The meter cupboard.
     Cupboard,
 }
 
