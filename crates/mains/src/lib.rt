@@ -41,3 +41,11 @@ pub extern "C" fn cardstarts_main() -> u8
 {
     status_number(programs::cardstarts::run())
 }
+
+// Prints a card's day sheets as CSV.
+#[no_mangle]
+pub extern "C" fn cardsheets_main() -> u8
+    ensures { λ r. ⌜ r ≤ 2 ⌝ }
+{
+    status_number(programs::cardsheets::run())
+}

@@ -6,5 +6,6 @@ pub mod Tabling  -- a report from batch to batch, and the table of it
 pub mod Listing  -- a listing from batch to batch, and its last lines
 pub mod Checking  -- a card check from batch to batch, and its line
 pub mod Restoring  -- a card restored from batch to batch
+pub mod Telling  -- the day sheets of a card printed from batch to batch
 pub mod Choosing  -- a definition by `cond` at the way out that the tests have taken
 pub mod Roles  -- what a text is; where an argument of a role stands; what the roles decide

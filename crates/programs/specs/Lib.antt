@@ -8,4 +8,5 @@ pub mod Check  -- what `cardcheck` promises
 pub mod Restore  -- what `cardrestore` promises
 pub mod Convert  -- what `cardconvert` promises
 pub mod Starts  -- what `cardstarts` promises
+pub mod Sheets  -- what `cardsheets` promises
 pub mod inner  -- vocabulary of inner functions

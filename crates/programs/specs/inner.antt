@@ -6,3 +6,4 @@ pub mod Checks  -- a card check batch by batch
 pub mod Restores  -- a card restored batch by batch
 pub mod Copies  -- a card asked, and converted, batch by batch
 pub mod Reports  -- a report batch by batch
+pub mod Tells  -- the day sheets of a card printed batch by batch

@@ -70,6 +70,15 @@ over the day sheets of the card FILE. No FILE, or -, is standard input.
 Status: 0 done; 2 not done.
 ",
         ),
+        Program::Sheets => print(
+            p,
+            b"usage: cardsheets [FILE]
+Prints the day sheets of the card FILE as CSV: a header, then a line for each sheet with its slot, its
+date, its pump, the number of changed places, and the starts in each quarter hour. Counts go to
+standard error. No FILE, or -, is standard input.
+Status: 0 every record is a day sheet; 1 done, but some record is none; 2 not done.
+",
+        ),
     }
 }
 
@@ -83,6 +92,7 @@ fn print_version(p: Program) -> Status
         Program::Check => print(p, b"cardcheck 0.1.0\n"),
         Program::Convert => print(p, b"cardconvert 0.1.0\n"),
         Program::Starts => print(p, b"cardstarts 0.1.0\n"),
+        Program::Sheets => print(p, b"cardsheets 0.1.0\n"),
     }
 }
 

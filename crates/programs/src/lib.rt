@@ -4,6 +4,7 @@ pub mod cardcheck;
 pub mod cardconvert;
 pub mod cardlist;
 pub mod cardrestore;
+pub mod cardsheets;
 pub mod cardstarts;
 pub mod files;
 pub mod help;

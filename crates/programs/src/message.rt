@@ -10,6 +10,7 @@ pub enum Program {
     Check,
     Convert,
     Starts,
+    Sheets,
 }
 
 // Writes a text on standard error. Where that fails there is nobody left to tell.
@@ -25,6 +26,7 @@ pub fn say_name(p: Program) {
         Program::Check => say(b"cardcheck: "),
         Program::Convert => say(b"cardconvert: "),
         Program::Starts => say(b"cardstarts: "),
+        Program::Sheets => say(b"cardsheets: "),
     }
 }
 
@@ -42,6 +44,7 @@ pub fn say_usage(p: Program) {
         Program::Check => say(b"usage: cardcheck [FILE]\n"),
         Program::Convert => say(b"usage: cardconvert to-new|to-old [-o OUT] [FILE]\n"),
         Program::Starts => say(b"usage: cardstarts FIRST END [FILE]\n"),
+        Program::Sheets => say(b"usage: cardsheets [FILE]\n"),
     }
 }
 

@@ -1,0 +1,21 @@
+-- `csv::fields::digit` meets its contract. Assumes nothing.
+use borrow.Author.Needs.{needs}
+use mathlib.Core.Path.{refl}
+use native.Mathlib.Omega.{arith}
+use Rattle.csv.proofs.Values.{digit-least, digit-most}
+use Rattle.csv.proofs.fields.digit.Statement.{statement}
+use Rattle.csv.proofs.fields.digit.Tie as tie
+
+sub-result : tie.Need-sub-result
+sub-result c = omega (arith, digit-least (c .args .x) (c .pre))
+
+returns : tie.Need-returns
+returns c = (refl, omega (arith, digit-most (c .args .x) (c .pre)))
+
+pub digit-spec : {M : Type 1} → statement M
+digit-spec =
+    tie.close
+    (tie.spec
+    sub-result
+    (λ c. search needs)
+    returns)

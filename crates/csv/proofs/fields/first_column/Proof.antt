@@ -1,0 +1,26 @@
+-- `csv::fields::first_column` meets its contract. Assumes nothing.
+use mathlib.Core.Path.{sym, ap, _∙_}
+use Prim.Native.Nat.{ℕ}
+use native.Mathlib.Omega.{arith}
+use lib.ListN.{take}
+use lib.Seq.{length-take-le}
+use Rattle.csv.proofs.Cutting.{first-short, first-taken}
+use Rattle.csv.proofs.fields.first_column.Statement.{statement}
+use Rattle.csv.proofs.fields.first_column.Tie as tie
+
+slice-aggregate-result : tie.Need-slice-aggregate-result
+slice-aggregate-result c =
+    let text = c .before .args .text .now in
+    sym (length-take-le _ text (omega (arith, c .before .pre, first-short text)))
+
+returns : tie.Need-returns
+returns c =
+    let text = c .before .args .text .now in
+    ap (λ (n : ℕ). take n text) (c .before .pre) ∙ first-taken text
+
+pub first-column-spec : {M : Type 1} → statement M
+first-column-spec =
+    tie.close
+    (tie.spec
+    slice-aggregate-result
+    returns)
