@@ -2,7 +2,7 @@
 use mathlib.Core.Path.{ap, _∙_}
 use Rattle.card.proofs.Folding.{in-parts as over-parts}
 use Rattle.csv.specs.Text.{slotTallied, sheetsText}
-use Rattle.csv.specs.RoundTrip.{cardOf}
+use Rattle.csv.specs.Making.{cardOf}
 use Rattle.csv.specs.Demands.{InParts, LineSheet, LineReadBack, ShortReadBack, RecordDay, CanonicalPrinted, CardMadeAgain, TextPrintedAgain}
 use Rattle.csv.proofs.SheetLines.{lines-in-parts}
 use Rattle.csv.proofs.SheetRecords.{record-day as day-of-record}

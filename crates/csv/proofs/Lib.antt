@@ -9,5 +9,9 @@ pub mod SheetRecords  -- the record of a sheet, as it is made and as it is read
 pub mod Printed  -- printed numbers and dates: which bytes they lack, and that they are read back
 pub mod ReadBack  -- a line that is printed is read back
 pub mod LineSheets  -- what a line stands for are the symbols of a sheet
+pub mod LinesMade  -- lines behind other lines, and no line behind a refused one
+pub mod LineEnds  -- where a line of a text ends, byte by byte
+pub mod Taking  -- a line that is taken: how long it is, if it is a sheet's, and what is made of it
+pub mod TextParts  -- the lines of a part of a text one by one, and the last line
 pub mod ThereAndBack  -- cards of clean sheets and their texts
 pub mod Demands  -- the demands of specs/Demands.antt

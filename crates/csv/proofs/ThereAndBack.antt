@@ -18,9 +18,12 @@ use Rattle.csv.specs.declared.Header.{Header}
 use Rattle.csv.specs.declared.Header.the-variants.{Full}
 use Rattle.csv.specs.Text.{timeColumns, headerWith, sheetsHeader, sheetColumns, sheetLine, dayLine, oneSheet, blankTally, dayCounted}
 use Rattle.csv.specs.Text.{slotTallied, SheetsTold, slotSheetTold, sheetsUntold, partSheets, partCounts, untallied, sheetsText}
-use Rattle.csv.specs.Reading.{trimmed, Line, headerIn}
+use Rattle.csv.specs.Reading.{trimmed, headerIn}
 use Rattle.csv.specs.Record.{sheetRecord}
-use Rattle.csv.specs.RoundTrip.{linesFrom, lineRecord, recordsOf, cardIn, cardOf, AllSheets, sheetsCard, sheetsLines, canonicalText}
+use Rattle.csv.specs.declared.TextVerdict.the-variants.{Fine}
+use Rattle.csv.specs.declared.TextState.{TextState}
+use Rattle.csv.specs.Making.{linesFrom, textBegun, headerRead, lineRead, lineMade, linesMade, cardOf}
+use Rattle.csv.specs.RoundTrip.{AllSheets, sheetsCard, sheetsLines, canonicalText}
 use Rattle.csv.proofs.SheetLines.{lines-in-parts}
 use Rattle.csv.proofs.SheetRecords.{record-long, record-written, record-day}
 use Rattle.csv.proofs.Printed.{Lacks, lacks-first, lacks-rest}
@@ -81,15 +84,22 @@ header-full = refl
 
 -- ---- a canonical text is read
 
-records-read : (n : ℕ) (sheets : List (List ℕ)) → AllSheets sheets → recordsOf Full (linesFrom [] (sheetsLines n sheets)) ≡ sheetsCard sheets
-unfolding linesFrom recordsOf
-records-read n [] A = refl
-records-read n (ss ∷ sheets) A =
-    ap (recordsOf Full) (whole-line (sheetColumns n 0 ss) (columns-lack-below ss (A .0) n 0 newline (omega arith)) (sheetsLines (n + 1) sheets))
-    ∙ ap₂ (λ (x : Line) (ys : List ℕ). lineRecord x ++ ys) (full-back ss (A .0) n 0) (records-read (n + 1) sheets (A .1))
+-- below a header with all columns, n lines were taken
+abbrev below : ℕ → TextState
+below n = record { full = true; lines = n + 1; verdict = Fine }
+
+records-read : (m n : ℕ) (sheets : List (List ℕ)) → AllSheets sheets
+    → linesMade (below m) (linesFrom [] (sheetsLines n sheets)) ≡ sheetsCard sheets
+unfolding linesFrom linesMade lineMade lineRead
+records-read m n [] A = refl
+records-read m n (ss ∷ sheets) A =
+    ap (linesMade (below m))
+    (whole-line (sheetColumns n 0 ss) (columns-lack-below ss (A .0) n 0 newline (omega arith)) (sheetsLines (n + 1) sheets))
+    ∙ rw (ne-eqb (m + 1) 0 (λ e. omega (arith, e)), full-back ss (A .0) n 0) (ap (λ (ys : List ℕ). sheetRecord ss ++ ys) (records-read (m + 1) (n + 1) sheets (A .1)))
 
 pub canonical-read : (sheets : List (List ℕ)) → AllSheets sheets → cardOf (canonicalText sheets) ≡ sheetsCard sheets
+unfolding linesMade lineMade lineRead
 canonical-read sheets A =
-    ap cardIn (whole-line (headerWith true) header-lacks (sheetsLines 1 sheets))
-    ∙ ap (λ (h : Header). recordsOf h (linesFrom [] (sheetsLines 1 sheets))) header-full
-    ∙ records-read 1 sheets A
+    ap (linesMade textBegun) (whole-line (headerWith true) header-lacks (sheetsLines 1 sheets))
+    ∙ ap (λ (h : Header). linesMade (headerRead textBegun h) (linesFrom [] (sheetsLines 1 sheets))) header-full
+    ∙ records-read 0 1 sheets A

@@ -12,7 +12,8 @@ use Rattle.csv.specs.declared.Counts.{Counts}
 use Rattle.csv.specs.Text.{sheetColumns, partSheets, partCounts, sheetsText}
 use Rattle.csv.specs.Reading.{sheet, readLine}
 use Rattle.csv.specs.Record.{sheetRecord}
-use Rattle.csv.specs.RoundTrip.{shortColumns, cardOf, AllSheets, sheetsCard, canonicalText}
+use Rattle.csv.specs.Making.{cardOf}
+use Rattle.csv.specs.RoundTrip.{shortColumns, AllSheets, sheetsCard, canonicalText}
 
 -- a card may come in parts, the first of whole slots: the second goes on from what has been counted
 abbrev pub InParts : Type 0

@@ -11,7 +11,7 @@ ghost use Rattle.report.specs.Table.{twoDigits, dateText};
 ghost use Rattle.report.specs.Quarter.{clockText};
 ghost use Rattle.report.specs.Window.{dateOf};
 ghost use Rattle.csv.specs.Text.{separator, timeColumns, countColumns};
-ghost use Rattle.csv.specs.inner.Room.{smallSize, timeSize, countSize, dateSize};
+ghost use Rattle.csv.specs.inner.Room.{smallSize, clockSize, timeSize, countSize, dateSize};
 use card::text::put_byte;
 use sheet::DAY;
 use sheet::MONTH;
@@ -44,16 +44,25 @@ pub(crate) fn put_small(out: &mut [u8], at: usize, n: u8) -> usize
     put_two(out, next, n % 100)
 }
 
+// Writes the time hh:mm at which quarter hour n begins.
+pub fn put_clock(out: &mut [u8], at: usize, n: u8) -> usize
+    requires { ⌜ (at + clockSize ≤ length (now out)) × (n < quarters) ⌝ }
+    ensures { λ r. ⌜ Writes (now (out .entry)) at (clockText n) (now (out .exit)) r ⌝ }
+    ensures { λ r. ⌜ r ≤ at + clockSize ⌝ }
+{
+    let a = put_two(out, at, n / 4);
+    let b = put_byte(out, a, b':');
+    put_two(out, b, n % 4 * 15)
+}
+
 // Writes a separator and the time at which quarter hour n begins.
 fn put_time(out: &mut [u8], at: usize, n: u8) -> usize
     requires { ⌜ (at + timeSize ≤ length (now out)) × (n < quarters) ⌝ }
     ensures { λ r. ⌜ Writes (now (out .entry)) at (separator ∷ clockText n) (now (out .exit)) r ⌝ }
     ensures { λ r. ⌜ r ≤ at + timeSize ⌝ }
 {
-    let a = put_byte(out, at, b',');
-    let b = put_two(out, a, n / 4);
-    let c = put_byte(out, b, b':');
-    put_two(out, c, n % 4 * 15)
+    let next = put_byte(out, at, b',');
+    put_clock(out, next, n)
 }
 
 // Writes the times of all quarter hours.
@@ -72,7 +81,7 @@ pub(crate) fn put_times(out: &mut [u8], at: usize) -> usize
 }
 
 // Writes the year, which is given less 2000, month and day of a sheet.
-pub(crate) fn put_date(out: &mut [u8], at: usize, symbols: &[u8]) -> usize
+pub fn put_date(out: &mut [u8], at: usize, symbols: &[u8]) -> usize
     requires { ⌜ (at + dateSize ≤ length (now out)) × SheetSymbols (now symbols) ⌝ }
     ensures { λ r. ⌜ Writes (now (out .entry)) at (dateText (dateOf (now (symbols .entry)))) (now (out .exit)) r ⌝ }
     ensures { λ r. ⌜ r ≤ at + dateSize ⌝ }

@@ -3,6 +3,7 @@ pub mod columns;
 pub mod fields;
 pub mod headers;
 pub mod lines;
+pub mod making;
 pub mod reader;
 pub mod records;
 
@@ -42,4 +43,26 @@ pub enum Answer {
 pub struct Reading {
     pub answer: Answer,
     pub symbols: [u8; SHEET],
+}
+
+// How a text stands: no line was refused; the first line is no header; a line is no sheet; or a line has no end where every line has one.
+pub enum TextVerdict {
+    Fine,
+    NoHeader,
+    Wrong(Fault),
+    TooLong,
+}
+
+// Which columns the header names, how many lines were taken, a refused one among them, and how the text stands.
+pub struct TextState {
+    pub full: bool,
+    pub lines: u64,
+    pub verdict: TextVerdict,
+}
+
+// How the text stands behind the lines that were taken, the bytes of the text that they have, and the bytes of their records.
+pub struct Made {
+    pub state: TextState,
+    pub taken: usize,
+    pub used: usize,
 }

@@ -1,5 +1,6 @@
 -- How long texts and their parts are, and how far counts may grow. Assumes nothing.
 use Prim.Native.Nat.{ℕ, _+_, _*_, _≤_}
+use Rattle.card.specs.Record.{recordSize}
 use Rattle.sheet.specs.Sheet.{quarters}
 use Rattle.csv.specs.declared.Counts.{Counts}
 
@@ -7,9 +8,13 @@ use Rattle.csv.specs.declared.Counts.{Counts}
 abbrev pub smallSize : ℕ
 smallSize = 3
 
+-- a time
+abbrev pub clockSize : ℕ
+clockSize = 5
+
 -- a comma and a time
 abbrev pub timeSize : ℕ
-timeSize = 6
+timeSize = 1 + clockSize
 
 -- a comma and a count
 abbrev pub countSize : ℕ
@@ -35,3 +40,13 @@ pub record TallyWithin (b : ℕ) (s : Counts) : Type 0 where
   pub sheets : s .sheets ≤ b
   pub others : s .others ≤ b
   pub blanks : s .blanks ≤ b
+
+-- ---- a text in parts
+
+-- at most so many bytes of a text at once
+abbrev pub textSize : ℕ
+textSize = 8192
+
+-- and the room for their records: a line of a sheet has at least 98 bytes with its end
+abbrev pub recordsRoom : ℕ
+recordsRoom = 83 * recordSize

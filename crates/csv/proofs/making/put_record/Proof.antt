@@ -1,0 +1,21 @@
+-- `csv::making::put_record` meets its contract. Assumes nothing.
+use borrow.Author.Needs.{needs}
+use Rattle.csv.proofs.Taking.{written-as}
+use Rattle.csv.proofs.making.put_record.Statement.{statement}
+use Rattle.csv.proofs.making.put_record.Tie as tie
+
+returns : tie.Need-returns
+returns c =
+    let at-put-bytes = c .before .before in
+    let at-record-of = at-put-bytes .before .before .before in
+    written-as (at-record-of .record-of .ensures (at-record-of .before .before .before .pre .1)) (at-put-bytes .put-bytes .ensures)
+
+pub put-record-spec : {M : Type 1} → statement M
+put-record-spec =
+    tie.close
+    (tie.spec
+    (λ c κs. search needs)
+    (λ c. search needs)
+    (λ c κs. search needs)
+    (λ c. search needs)
+    returns)
