@@ -49,3 +49,27 @@ pub extern "C" fn cardsheets_main() -> u8
 {
     status_number(programs::cardsheets::run())
 }
+
+// Makes a card of day sheets from CSV.
+#[no_mangle]
+pub extern "C" fn cardwrite_main() -> u8
+    ensures { λ r. ⌜ r ≤ 2 ⌝ }
+{
+    status_number(programs::cardwrite::run())
+}
+
+// Shows a record of a card.
+#[no_mangle]
+pub extern "C" fn cardlook_main() -> u8
+    ensures { λ r. ⌜ r ≤ 2 ⌝ }
+{
+    status_number(programs::cardlook::run())
+}
+
+// Compares two day sheets.
+#[no_mangle]
+pub extern "C" fn cardcompare_main() -> u8
+    ensures { λ r. ⌜ r ≤ 2 ⌝ }
+{
+    status_number(programs::cardcompare::run())
+}

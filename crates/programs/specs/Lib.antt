@@ -9,4 +9,8 @@ pub mod Restore  -- what `cardrestore` promises
 pub mod Convert  -- what `cardconvert` promises
 pub mod Starts  -- what `cardstarts` promises
 pub mod Sheets  -- what `cardsheets` promises
+pub mod Write  -- what `cardwrite` promises
+pub mod Seek  -- the number of a record in an argument, and the slot with that number
+pub mod Look  -- what `cardlook` promises
+pub mod Compare  -- what `cardcompare` promises
 pub mod inner  -- vocabulary of inner functions

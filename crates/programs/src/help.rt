@@ -79,6 +79,35 @@ standard error. No FILE, or -, is standard input.
 Status: 0 every record is a day sheet; 1 done, but some record is none; 2 not done.
 ",
         ),
+        Program::Write => print(
+            p,
+            b"usage: cardwrite [-o OUT] [FILE]
+Makes a card of the day sheets in the CSV text FILE: a header as cardsheets prints it, or without slot
+and changed, then a line for each sheet. The card goes to standard output, or to the file OUT, which
+is replaced only once the whole card is written. A text of which a line is refused leaves nothing,
+but from a pipe to standard output the records before it. No FILE, or -, is standard input.
+Status: 0 written; 2 not done.
+",
+        ),
+        Program::Look => print(
+            p,
+            b"usage: cardlook N [FILE]
+Shows record N of the card FILE: its width, erasures and syndromes, what restoring would change, place
+by place, and where it is a day sheet its date, its pump and the starts by the hour. The card is only
+read. No FILE, or -, is standard input.
+Status: 0 shown; 1 shown, and the record would be refused; 2 not done.
+",
+        ),
+        Program::Compare => print(
+            p,
+            b"usage: cardcompare N FILE M FILE
+Compares two day sheets of one pump and date: record N of the first FILE, the controller's card, and
+record M of the second, that of the meter cupboard. Prints the starts of both, in how many quarter
+hours the counts are equal or either is higher, which sheet is chosen, and each quarter hour in which
+the counts differ. The cards are only read. One FILE may be -, standard input.
+Status: 0 compared, all counts are equal; 1 compared, some count differs; 2 not done.
+",
+        ),
     }
 }
 
@@ -93,6 +122,9 @@ fn print_version(p: Program) -> Status
         Program::Convert => print(p, b"cardconvert 0.1.0\n"),
         Program::Starts => print(p, b"cardstarts 0.1.0\n"),
         Program::Sheets => print(p, b"cardsheets 0.1.0\n"),
+        Program::Write => print(p, b"cardwrite 0.1.0\n"),
+        Program::Look => print(p, b"cardlook 0.1.0\n"),
+        Program::Compare => print(p, b"cardcompare 0.1.0\n"),
     }
 }
 

@@ -11,6 +11,9 @@ pub enum Program {
     Convert,
     Starts,
     Sheets,
+    Write,
+    Look,
+    Compare,
 }
 
 // Writes a text on standard error. Where that fails there is nobody left to tell.
@@ -27,6 +30,9 @@ pub fn say_name(p: Program) {
         Program::Convert => say(b"cardconvert: "),
         Program::Starts => say(b"cardstarts: "),
         Program::Sheets => say(b"cardsheets: "),
+        Program::Write => say(b"cardwrite: "),
+        Program::Look => say(b"cardlook: "),
+        Program::Compare => say(b"cardcompare: "),
     }
 }
 
@@ -45,6 +51,9 @@ pub fn say_usage(p: Program) {
         Program::Convert => say(b"usage: cardconvert to-new|to-old [-o OUT] [FILE]\n"),
         Program::Starts => say(b"usage: cardstarts FIRST END [FILE]\n"),
         Program::Sheets => say(b"usage: cardsheets [FILE]\n"),
+        Program::Write => say(b"usage: cardwrite [-o OUT] [FILE]\n"),
+        Program::Look => say(b"usage: cardlook N [FILE]\n"),
+        Program::Compare => say(b"usage: cardcompare N FILE M FILE\n"),
     }
 }
 

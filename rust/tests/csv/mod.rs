@@ -1,12 +1,14 @@
 //! What the tests of day sheets as CSV share: texts by the reference, and what both programs must do.
 #![allow(dead_code)] // each test file uses its part
 
+pub mod reading;
+
 use crate::reference::compare::QUARTERS;
 use crate::reference::sheet::exists;
-use crate::tools::programs::{full, path, Ended, Fault, Run, ENOSPC};
+use crate::tools::calls;
+use crate::tools::programs::path;
 use crate::tools::sheets::{random_symbols, sheet_record};
 use crate::tools::Chance;
-use std::fs::File;
 use std::path::Path;
 use std::process::{Child, Command, Stdio};
 
@@ -55,33 +57,42 @@ pub fn records_of(sheets: &[Vec<u8>]) -> Vec<u8> {
     sheets.iter().flat_map(|symbols| sheet_record(symbols)).collect()
 }
 
-/// A program that could not do it ends with 2, and says why: on a file of this folder that it takes. It has written `begun` before it reads.
-pub fn fails_as_it_should(name: &str, folder: &Path, file: &str, begun: &str) {
-    let fails = |what: &str, out: &str| Ended::new(2, out, format!("{name}: {what}\n"));
-    let run = |file: &str| Run::new(name, &[file]).within(folder);
-    assert_eq!(run("nowhere").end(), fails("nowhere: No such file or directory", ""));
-    assert_eq!(run(".").end(), fails(".: Is a directory", begun));
-    let unread = Run::new(name, &[]).input(File::open(folder).expect("a folder")).end();
-    assert_eq!(unread, fails("standard input: Is a directory", begun));
-    assert_eq!(run(file).output(full()).end(), fails("standard output: No space left on device", ""));
-    let closed = Run::shell("exec \"$0\" \"$@\" >&-", name, &[file]).within(folder).end();
-    assert_eq!(closed, fails("standard output: Bad file descriptor", ""));
-    let whole = run(file).end().out;
-    let late = run(file).fault(Fault::error("close", 1, ENOSPC)).end();
-    assert_eq!(late, Ended { out: whole, ..fails("standard output: No space left on device", "") });
+/// Symbols of so many sheets.
+pub fn random_sheets(chance: &mut Chance, count: usize) -> Vec<Vec<u8>> {
+    (0..count).map(|_| symbols(chance)).collect()
 }
 
-/// Help comes before the version, and both before what is wrong.
-pub fn takes_arguments(name: &str, usage: &str) {
-    let help = Run::new(name, &["--version", "-x", "--help"]).end();
-    assert_eq!((help.status, help.said.as_str()), (Some(0), ""));
-    assert!(String::from_utf8_lossy(&help.out).starts_with(usage));
-    let version = Run::new(name, &["-x", "--version"]).end();
-    assert_eq!(version, Ended::new(0, format!("{name} {}\n", env!("CARGO_PKG_VERSION")), ""));
-    for (arguments, wrong) in [(&["-x"][..], "-x"), (&["--reach", "1"], "--reach"), (&["a", "b"], "b"), (&["--"], "--")] {
-        let wanted = Ended::new(2, "", format!("{name}: can't take the argument {wrong}\n{usage}"));
-        assert_eq!(Run::new(name, arguments).end(), wanted, "{arguments:?}");
+/// Zeros before the numbers of a line, no more than each may have, up to so many.
+fn lengthen(columns: &mut [String], zeros: &mut usize) {
+    let full = columns.len() == 100;
+    for (at, column) in columns.iter_mut().enumerate().filter(|(at, _)| *at != usize::from(full)) {
+        let more = (if full && [0, 3].contains(&at) { 20 } else { 3 } - column.len()).min(*zeros);
+        *column = "0".repeat(more) + column;
+        *zeros -= more;
     }
+}
+
+/// The text of sheets, longer by so many zeros, which stand as far to the front as they may.
+pub fn lengthened(sheets: &[Vec<u8>], with_slots: bool, mut zeros: usize, end: &str) -> String {
+    let mut text = header(with_slots).trim_end().to_owned() + end;
+    for symbols in sheets {
+        let mut columns = columns(symbols, with_slots.then_some((1, 0)));
+        lengthen(&mut columns, &mut zeros);
+        text += &(columns.join(",") + end);
+    }
+    assert_eq!(zeros, 0, "there is room for the zeros");
+    text
+}
+
+/// The failures of a program that is called with a file alone, and what is none.
+pub fn fails_as_it_should(name: &str, folder: &Path, file: &str, begun: &str) {
+    calls::fails_as_it_should(name, &[], folder, file, begun);
+    calls::runs_as_before(name, &[], folder, file);
+}
+
+/// The arguments of a program that takes a file.
+pub fn takes_arguments(name: &str, usage: &str) {
+    calls::takes_arguments(name, &["a"], usage);
 }
 
 /// A program that reads and writes pipes, in no more memory than a few batches need.

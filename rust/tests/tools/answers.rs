@@ -15,12 +15,17 @@ pub fn hint(name: &str, file: &str, bytes: usize) -> String {
     }
 }
 
+/// The line that names a refused record.
+pub fn refusal_line(number: u64, refusal: u8) -> String {
+    format!("{number} {refusal} {}\n", words(refusal))
+}
+
 /// The end of cardlist.
 pub fn listed(card: &[u8], file: &str) -> Ended {
     Ended::new(0, list(card), hint("cardlist", file, card.len()))
 }
 
-/// The words for the refusals that a record, or a card that is converted, can get.
+/// The words for the refusals that a record, a day sheet, or a card that is converted, can get.
 pub fn words(refusal: u8) -> &'static str {
     match refusal {
         1 => "the width is not 3, 4, 5 or 7",
@@ -31,8 +36,13 @@ pub fn words(refusal: u8) -> &'static str {
         6 => "a symbol outside the erasures is not below 2^width",
         7 => "no codeword is near",
         8 => "an unused erasure byte is not 255, or the tail is not 0",
+        11 => "the width of a day sheet is not 7",
+        12 => "the date of a day sheet does not exist",
+        13 => "an unused symbol of a day sheet is not 0",
         14 => "several codewords agree outside the five erasures",
         15 => "there are five erasures, and the old edition has room for four",
+        17 => "the card has no record of that number",
+        20 => "the two day sheets have not the same pump and date",
         _ => panic!("a program does not refuse with {refusal}"),
     }
 }
@@ -45,7 +55,7 @@ pub fn checked(card: &[u8], file: &str) -> Ended {
     let refusal = judge(card.chunks(RECORD).nth(before).expect("the record")).expect_err("a refused record");
     let behind = card.len() - before / BATCH_SLOTS * BATCH_SLOTS * RECORD;
     let hint = if behind < BATCH_SLOTS * RECORD { hint } else { String::new() };
-    Ended::new(1, format!("{number} {refusal} {}\n", words(refusal)), hint)
+    Ended::new(1, refusal_line(number, refusal), hint)
 }
 
 /// What cardrestore counts.

@@ -2,6 +2,7 @@
 #![allow(dead_code)] // each test file uses its part
 
 pub mod answers;
+pub mod calls;
 pub mod programs;
 pub mod sheets;
 pub mod wear;

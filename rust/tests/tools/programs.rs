@@ -10,7 +10,8 @@ use std::process::{Command, Output, Stdio};
 use std::sync::OnceLock;
 use std::thread;
 
-pub const PROGRAMS: [&str; 5] = ["cardlist", "cardcheck", "cardrestore", "cardconvert", "cardstarts"];
+pub const PROGRAMS: [&str; 9] =
+    ["cardlist", "cardcheck", "cardrestore", "cardconvert", "cardstarts", "cardsheets", "cardwrite", "cardlook", "cardcompare"];
 
 /// The slots that a program reads at once.
 pub const BATCH_SLOTS: usize = 400;

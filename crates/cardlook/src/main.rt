@@ -1,0 +1,4 @@
+// Shows one record of a card. The body is in the crate programs; this program ends without its status.
+fn main() {
+    programs::cardlook::run();
+}

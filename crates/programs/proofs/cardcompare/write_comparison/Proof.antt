@@ -1,0 +1,58 @@
+-- `programs::cardcompare::write_comparison` meets its contract. Assumes nothing.
+use borrow.Author.Needs.{needs}
+use mathlib.Core.Path.{sym, ap}
+use native.Mathlib.Omega.{arith}
+use lib.Seq.{length-take-le}
+use Rattle.card.proofs.Writing.{writes-fits}
+use Rattle.programs.specs.declared.output.Output.{Output}
+use Rattle.programs.proofs.Comparing.{writes-accepted}
+use Rattle.programs.proofs.Streaming.{first-part}
+use Rattle.programs.proofs.cardcompare.write_comparison.Statement.{statement}
+use Rattle.programs.proofs.cardcompare.write_comparison.Tie as tie
+
+slice-aggregate-put-comparison : tie.Need-slice-aggregate-put-comparison
+slice-aggregate-put-comparison c = search needs
+
+put-comparison-requires : tie.Need-put-comparison-requires
+put-comparison-requires c κs = search needs
+
+output-of-requires : tie.Need-output-of-requires
+output-of-requires c κs = search needs
+
+array-share-prefix-out : tie.Need-array-share-prefix-out
+array-share-prefix-out c = search needs
+
+slice-aggregate-write-part : tie.Need-slice-aggregate-write-part
+slice-aggregate-write-part c = let x = c .before .before .before .put-comparison in sym (length-take-le (x .result) _ (writes-fits (x .ensures)))
+
+slice-aggregate-write-part-2 : tie.Need-slice-aggregate-write-part-2
+slice-aggregate-write-part-2 c = search needs
+
+write-part-requires : tie.Need-write-part-requires
+write-part-requires c κs =
+    let x = c .before .before .before .before .put-comparison in
+    let l = length-take-le (x .result) (x .last .0) (writes-fits (x .ensures)) in
+    first-part _ _ _ (c .before .before .output-of .ensures) (omega (arith, l, x .ensures .room))
+
+returns : tie.Need-returns
+returns c =
+    let b3 = c .before .before .before in
+    let b5 = b3 .before .before in
+    let s = b5 .before .before .before .before in
+    let x = b5 .put-comparison in
+    let l = length-take-le (x .result) (x .last .0) (writes-fits (x .ensures)) in
+    let none = ap (λ (p : Output). p .written) (b3 .output-of .ensures) in
+    writes-accepted (s .pre .2) (c .write-part .result) (λ t. omega (arith, c .write-part .ensures t, none, l, x .ensures .behind))
+
+pub write-comparison-spec : {M : Type 1} → statement M
+write-comparison-spec =
+    tie.close
+    (tie.spec
+    slice-aggregate-put-comparison
+    put-comparison-requires
+    output-of-requires
+    array-share-prefix-out
+    slice-aggregate-write-part
+    slice-aggregate-write-part-2
+    write-part-requires
+    returns)

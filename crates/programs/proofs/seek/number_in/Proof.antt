@@ -1,0 +1,97 @@
+-- `programs::seek::number_in` meets its contract. Assumes nothing.
+use borrow.Author.Needs.{needs}
+use mathlib.Core.Path.{_≡_, refl}
+use Prim.Native.Nat.{_+_, _-_, _*_, _≤_}
+use native.Mathlib.Omega.{arith}
+use lib.ListN.{length, drop}
+use Rattle.programs.proofs.Seeking.{number-low, number-high, number-large, number-on, number-all}
+use Rattle.programs.specs.Seek.{mostBefore, numberFrom}
+use Rattle.programs.proofs.seek.number_in.Statement.{statement}
+use Rattle.programs.proofs.seek.number_in.Tie as tie
+
+abbrev Inv-loop : tie.InvT-loop
+Inv-loop text v₀ i₀ v i = (i ≤ length text) × (v ≤ 10 * mostBefore + 9) × (numberFrom v (drop i text) ≡ numberFrom 0 text)
+
+abbrev μ-loop : tie.MeasureT-loop
+μ-loop text v₀ i₀ v i = length text - i
+
+loop-holds : tie.Need-loop-holds Inv-loop μ-loop
+loop-holds c = (omega arith, omega arith, refl)
+
+shared-slice-read-b : tie.Need-shared-slice-read-b Inv-loop μ-loop
+shared-slice-read-b c = search needs
+
+returns : tie.Need-returns Inv-loop μ-loop
+returns c =
+    let b2 = c .before .before in
+    let b3 = b2 .before in
+    let b4 = b3 .before in
+    (number-low (b4 .args .text .now) (b3 .loop .v) (b3 .loop .i) (b3 .loop .inv .2) (b2 .loop-test .taken) (c .if1 .taken), omega arith)
+
+returns-2 : tie.Need-returns-2 Inv-loop μ-loop
+returns-2 c =
+    let b3 = c .before .before .before in
+    let b4 = b3 .before in
+    let b5 = b4 .before in
+    (number-high (b5 .args .text .now) (b4 .loop .v) (b4 .loop .i) (b4 .loop .inv .2) (b3 .loop-test .taken) (c .if2 .taken), omega arith)
+
+returns-3 : tie.Need-returns-3 Inv-loop μ-loop
+returns-3 c =
+    let b4 = c .before .before .before .before in
+    let b5 = b4 .before in
+    let b6 = b5 .before in (
+      number-large (b6 .args .text .now) (b5 .loop .v) (b5 .loop .i) (b5 .loop .inv .2) (b4 .loop-test .taken) (omega arith) (omega arith)
+          (c .if3 .taken),
+      omega arith,
+    )
+
+mul-v : tie.Need-mul-v Inv-loop μ-loop
+mul-v c = search needs
+
+cast-v : tie.Need-cast-v Inv-loop μ-loop
+cast-v c = omega (arith, c .before .before .before .shared-slice-known .given (c .before .before .before .before .before .loop .i))
+
+add-v : tie.Need-add-v Inv-loop μ-loop
+add-v c = search needs
+
+add-i : tie.Need-add-i Inv-loop μ-loop
+add-i c = search needs
+
+loop-less : tie.Need-loop-less Inv-loop μ-loop
+loop-less c = search needs
+
+loop-again : tie.Need-loop-again Inv-loop μ-loop
+loop-again c =
+    let b4 = c .before .before .before .before in
+    let b5 = b4 .before in
+    let b6 = b5 .before in (
+      omega arith,
+      omega arith,
+      number-on (b6 .args .text .now) (b5 .loop .v) (b5 .loop .i) (b5 .loop .inv .2) (b4 .loop-test .taken) (omega
+          arith) (omega arith) (omega arith),
+    )
+
+returns-4 : tie.Need-returns-4 Inv-loop μ-loop
+returns-4 c =
+    let b1 = c .before in
+    let b2 = b1 .before in
+    (number-all (b2 .args .text .now) (b1 .loop .v) (b1 .loop .i) (b1 .loop .inv .2) (omega arith), b1 .loop .inv .1)
+
+pub number-in-spec : {M : Type 1} → statement M
+number-in-spec =
+    tie.close
+    (tie.spec
+    Inv-loop
+    μ-loop
+    loop-holds
+    shared-slice-read-b
+    returns
+    returns-2
+    returns-3
+    mul-v
+    cast-v
+    add-v
+    add-i
+    loop-less
+    loop-again
+    returns-4)

@@ -1,0 +1,76 @@
+-- `show::comparison::put_quarters` meets its contract. Assumes nothing.
+use borrow.Author.Needs.{needs}
+use mathlib.Core.Path.{_≡_, refl}
+use Prim.Native.Nat.{_+_, _-_, _*_, _≤_}
+use native.Mathlib.Omega.{arith}
+use lib.ListN.{length}
+use Rattle.card.proofs.Writing.{writes-length}
+use Rattle.card.specs.Placed.{Writes}
+use Rattle.sheet.specs.Sheet.{quarters}
+use Rattle.show.proofs.Texts.{texts-none, texts-more}
+use Rattle.show.specs.Text.{texts}
+use Rattle.show.specs.Comparison.{quarterAt}
+use Rattle.show.specs.inner.Comparison.{longestQuarter}
+use Rattle.show.proofs.comparison.put_quarters.Statement.{statement}
+use Rattle.show.proofs.comparison.put_quarters.Tie as tie
+
+abbrev Inv-loop : tie.InvT-loop
+Inv-loop out₀ at ss ts next₀ i₀ out next i = (i ≤ quarters) × (length out ≡ length out₀) × Writes out₀ at (texts (quarterAt ss ts) i) out next × (next ≤ at + i * longestQuarter)
+
+abbrev μ-loop : tie.MeasureT-loop
+μ-loop out₀ at ss ts next₀ i₀ out next i = quarters - i
+
+loop-holds : tie.Need-loop-holds Inv-loop μ-loop
+loop-holds c = (omega arith, refl, texts-none _ _ _ (omega arith), omega arith)
+
+cast-k : tie.Need-cast-k Inv-loop μ-loop
+cast-k c = search needs
+
+shared-slice-read-put-quarter : tie.Need-shared-slice-read-put-quarter Inv-loop μ-loop
+shared-slice-read-put-quarter c = search needs
+
+shared-slice-read-put-quarter-2 : tie.Need-shared-slice-read-put-quarter-2 Inv-loop μ-loop
+shared-slice-read-put-quarter-2 c = search needs
+
+put-quarter-requires : tie.Need-put-quarter-requires Inv-loop μ-loop
+put-quarter-requires c κs = search needs
+
+add-i : tie.Need-add-i Inv-loop μ-loop
+add-i c = search needs
+
+loop-less : tie.Need-loop-less Inv-loop μ-loop
+loop-less c = search needs
+
+loop-again : tie.Need-loop-again Inv-loop μ-loop
+loop-again c =
+    let b2 = c .before .before in
+    let b7 = b2 .before .before .before .before .before in
+    let a = b7 .before .before .before .before .args in (
+      omega arith,
+      omega (arith, writes-length (b2 .put-quarter .ensures .0)),
+      texts-more (quarterAt (a .ss .now) (a .ts .now)) (b7 .loop .i) (b7 .loop .inv .2) (b2 .put-quarter .ensures .0),
+      omega (arith, b2 .put-quarter .ensures .1),
+    )
+
+same-length : tie.Need-same-length Inv-loop μ-loop
+same-length c = search needs
+
+returns : tie.Need-returns Inv-loop μ-loop
+returns c = let all : c .before .loop .i ≡ quarters = omega arith in rw all at (c .before .loop .inv .2)
+
+pub put-quarters-spec : {M : Type 1} → statement M
+put-quarters-spec =
+    tie.close
+    (tie.spec
+    Inv-loop
+    μ-loop
+    loop-holds
+    cast-k
+    shared-slice-read-put-quarter
+    shared-slice-read-put-quarter-2
+    put-quarter-requires
+    add-i
+    loop-less
+    loop-again
+    same-length
+    returns)

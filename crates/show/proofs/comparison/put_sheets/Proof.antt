@@ -1,0 +1,48 @@
+-- `show::comparison::put_sheets` meets its contract. Assumes nothing.
+use borrow.Author.Needs.{needs}
+use Rattle.card.proofs.Writing.{writes-on}
+use Rattle.show.specs.Comparison.{besideText}
+use Rattle.show.proofs.comparison.put_sheets.Statement.{statement}
+use Rattle.show.proofs.comparison.put_sheets.Tie as tie
+
+put-dated-requires : tie.Need-put-dated-requires
+put-dated-requires c κs = search needs
+
+put-starts-requires : tie.Need-put-starts-requires
+put-starts-requires c κs = search needs
+
+put-totals-requires : tie.Need-put-totals-requires
+put-totals-requires c κs = search needs
+
+put-chosen-requires : tie.Need-put-chosen-requires
+put-chosen-requires c κs = search needs
+
+put-quarters-requires : tie.Need-put-quarters-requires
+put-quarters-requires c κs = search needs
+
+same-length : tie.Need-same-length
+same-length c = search needs
+
+returns : tie.Need-returns
+unfolding besideText
+returns c =
+    let b2 = c .before .before in
+    let b6 = b2 .before .before .before .before in
+    let b10 = b6 .before .before .before .before in
+    let b14 = b10 .before .before .before .before in
+    let b18 = b14 .before .before .before .before in
+    let two = writes-on (b6 .put-chosen .ensures .0) (b2 .put-quarters .ensures) in
+    let four = writes-on (b14 .put-starts .ensures .0) (writes-on (b10 .put-totals .ensures .0) two) in
+    writes-on (b18 .put-dated .ensures .0) four
+
+pub put-sheets-spec : {M : Type 1} → statement M
+put-sheets-spec =
+    tie.close
+    (tie.spec
+    put-dated-requires
+    put-starts-requires
+    put-totals-requires
+    put-chosen-requires
+    put-quarters-requires
+    same-length
+    returns)

@@ -1,0 +1,62 @@
+-- `show::record::put_day` meets its contract. Assumes nothing.
+use borrow.Author.Needs.{needs}
+use mathlib.Core.Path.{ap}
+use native.Mathlib.Omega.{arith}
+use Rattle.card.proofs.Writing.{writes-none}
+use Rattle.report.specs.Day.{dayOf}
+use Rattle.report.proofs.Days.{told-sheet, told-refused, is-sheet}
+use Rattle.show.specs.Look.{dayText}
+use Rattle.show.proofs.record.put_day.Statement.{statement}
+use Rattle.show.proofs.record.put_day.Tie as tie
+
+read-day-requires : tie.Need-read-day-requires
+read-day-requires c κs = search needs
+
+enum-told : tie.Need-enum-told
+enum-told c = search needs
+
+put-sheet-requires : tie.Need-put-sheet-requires
+put-sheet-requires c κs =
+    let b4 = c .before .before .before .before in
+    let b6 = b4 .before .before in
+    let x = b6 .read-day in
+    let r = b6 .before .before .before .args .bytes .now in
+    let day = told-sheet (dayOf r) (x .result) (x .ensures) _ (b4 .enum-told .given .1) in
+    (is-sheet r _ (x .result .symbols) day .symbols, omega arith)
+
+enum-told-2 : tie.Need-enum-told-2
+enum-told-2 c = search needs
+
+same-length : tie.Need-same-length
+same-length c = search needs
+
+returns : tie.Need-returns
+returns c =
+    let b2 = c .before .before in
+    let b7 = b2 .before .before .before .before .before in
+    let b9 = b7 .before .before in
+    let b12 = b9 .before .before .before in
+    let x = b9 .read-day in
+    let r = b12 .args .bytes .now in (
+      rw (ap dayText (told-sheet (dayOf r) (x .result) (x .ensures) _ (b7 .enum-told .given .1))) (b2 .put-sheet .ensures .0),
+      b2 .put-sheet
+          .ensures .1,
+    )
+
+returns-2 : tie.Need-returns-2
+returns-2 c =
+    let x = c .before .before .read-day in
+    let r = c .before .before .before .before .before .args .bytes .now in
+    (rw (ap dayText (told-refused (dayOf r) (x .result) (x .ensures) _ (c .enum-told2 .given .1))) (writes-none _ _ (omega arith)), omega arith)
+
+pub put-day-spec : {M : Type 1} → statement M
+put-day-spec =
+    tie.close
+    (tie.spec
+    read-day-requires
+    enum-told
+    put-sheet-requires
+    enum-told-2
+    same-length
+    returns
+    returns-2)

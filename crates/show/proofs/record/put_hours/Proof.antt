@@ -1,0 +1,65 @@
+-- `show::record::put_hours` meets its contract. Assumes nothing.
+use borrow.Author.Needs.{needs}
+use mathlib.Core.Path.{_≡_, refl}
+use Prim.Native.Nat.{_+_, _-_, _*_, _≤_}
+use native.Mathlib.Omega.{arith}
+use lib.ListN.{length}
+use Rattle.card.proofs.Writing.{writes-length}
+use Rattle.card.specs.Placed.{Writes}
+use Rattle.show.proofs.Texts.{texts-none, texts-more}
+use Rattle.show.specs.Text.{texts}
+use Rattle.show.specs.Look.{hourLine}
+use Rattle.show.specs.inner.Looks.{longestHour}
+use Rattle.show.proofs.record.put_hours.Statement.{statement}
+use Rattle.show.proofs.record.put_hours.Tie as tie
+
+abbrev Inv-loop : tie.InvT-loop
+Inv-loop out₀ at ss next₀ h₀ out next h =
+    (h ≤ 24) × (length out ≡ length out₀) × Writes out₀ at (texts (hourLine ss) h) out next × (next ≤ at + h * longestHour)
+
+abbrev μ-loop : tie.MeasureT-loop
+μ-loop out₀ at ss next₀ h₀ out next h = 24 - h
+
+loop-holds : tie.Need-loop-holds Inv-loop μ-loop
+loop-holds c = (omega arith, refl, texts-none _ _ _ (omega arith), omega arith)
+
+put-hour-requires : tie.Need-put-hour-requires Inv-loop μ-loop
+put-hour-requires c κs = search needs
+
+add-h : tie.Need-add-h Inv-loop μ-loop
+add-h c = search needs
+
+loop-less : tie.Need-loop-less Inv-loop μ-loop
+loop-less c = search needs
+
+loop-again : tie.Need-loop-again Inv-loop μ-loop
+loop-again c =
+    let b2 = c .before .before in
+    let b5 = b2 .before .before .before in
+    let b8 = b5 .before .before .before in (
+      omega arith,
+      omega (arith, writes-length (b2 .put-hour .ensures .0)),
+      texts-more (hourLine (b8 .args .ss .now)) (b5 .loop .h) (b5
+          .loop .inv .2) (b2 .put-hour .ensures .0),
+      omega (arith, b2 .put-hour .ensures .1),
+    )
+
+same-length : tie.Need-same-length Inv-loop μ-loop
+same-length c = search needs
+
+returns : tie.Need-returns Inv-loop μ-loop
+returns c = let all : c .before .loop .h ≡ 24 = omega arith in (rw all at (c .before .loop .inv .2), omega (arith, c .before .loop .inv .3))
+
+pub put-hours-spec : {M : Type 1} → statement M
+put-hours-spec =
+    tie.close
+    (tie.spec
+    Inv-loop
+    μ-loop
+    loop-holds
+    put-hour-requires
+    add-h
+    loop-less
+    loop-again
+    same-length
+    returns)
