@@ -1,8 +1,6 @@
 //! The program cardcompare, which sets two day sheets side by side: texts by the reference, refusals, statuses, the numbers that it takes.
 
-mod reference;
-mod tools;
-
+use crate::{reference, tools};
 use reference::card::{record, RECORD};
 use reference::compare::{compare, read, QUARTERS};
 use reference::sheet::SIZE;

@@ -1,8 +1,6 @@
 //! The packaged program cardconvert, on files, against the reference.
 
-mod reference;
-mod tools;
-
+use crate::{reference, tools};
 use reference::card::{self, record_of, size, MARKS, OLD_MARKS};
 use reference::search::most_marks;
 use reference::WIDTHS;

@@ -1,8 +1,6 @@
 //! The packaged program cardlist against listings by the reference. Cards at the limit are made while it reads.
 
-mod reference;
-mod tools;
-
+use crate::{reference, tools};
 use reference::card::{is_blank, judge, list, record, Listing, LISTED, RECORD};
 use std::fs::{self, File};
 use std::io::Write;

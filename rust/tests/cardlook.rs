@@ -1,8 +1,6 @@
 //! The program cardlook, which shows one record of a card: texts by the reference, statuses, the numbers that it takes, and how far it reads.
 
-mod reference;
-mod tools;
-
+use crate::{reference, tools};
 use reference::card::{is_blank, record, restore, HEADER, MARKS, RECORD};
 use reference::masked::sums;
 use reference::{encode, modulus, multiply, places, raise, sheet, WIDTHS};

@@ -1,8 +1,6 @@
 //! The packaged programs cardrestore and cardcheck, one after the other as a user runs them, against the reference.
 
-mod reference;
-mod tools;
-
+use crate::{reference, tools};
 use reference::card::{judge, list, record, RECORD};
 use std::fs;
 use std::io::{Read, Write};

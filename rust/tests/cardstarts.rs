@@ -1,8 +1,6 @@
 //! The packaged program cardstarts against tables made from the reference's reports.
 
-mod reference;
-mod tools;
-
+use crate::{reference, tools};
 use reference::card::{record, RECORD};
 use reference::compare::QUARTERS;
 use reference::window::{MOST, PUMPS};

@@ -1,10 +1,7 @@
 //! The program cardwrite, which makes a card of CSV: records by the reference, bad lines, long lines, parts of the text, the file that is
 //! made, statuses.
 
-mod csv;
-mod reference;
-mod tools;
-
+use crate::{csv, reference, tools};
 use csv::reading::{bad_lines, card_of, line_with, COLUMNS, COUNT, DATE, HEADER, LONG, NUMBER, PUMP};
 use csv::{columns, fails_as_it_should, header, lengthened, line, random_sheets, records_of, streaming, symbols, takes_arguments, text_of};
 use reference::card::RECORD;

@@ -1,8 +1,6 @@
 //! Encoder, codeword test and reader of data: the words of document 01, every refusal and their order, and the reference.
 
-mod reference;
-mod tools;
-
+use crate::{reference, tools};
 use reference::{distance, items, order, places, WIDTHS};
 use tools::{encode, is_codeword, read_data, refusal, Chance, Tally, BAD_WIDTHS};
 use xrs::Refusal::{Length, Symbol, Syndrome, Width};

@@ -1,8 +1,6 @@
 //! The sheets of controller and meter cupboard side by side, request (m): signs, totals, the chosen part, every refusal, and the reference.
 
-mod reference;
-mod tools;
-
+use crate::{reference, tools};
 use reference::card::{record, RECORD};
 use reference::compare::{compare, QUARTERS};
 use reference::sheet::SIZE;

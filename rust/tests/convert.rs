@@ -1,8 +1,6 @@
 //! Cards of the old edition made new, and new ones made old: every refusal, the order of the questions over the records, and the reference.
 
-mod reference;
-mod tools;
-
+use crate::{reference, tools};
 use reference::card::{self, record_of, restore_of, size, MARKS, OLD_MARKS, OLD_RECORD, RECORD};
 use reference::search::most_marks;
 use reference::{order, places, WIDTHS};

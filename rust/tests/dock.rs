@@ -1,8 +1,6 @@
 //! The bays of a dock and their rewrites, request (l): runs of calls with their history, every refusal, and the reference.
 
-mod reference;
-mod tools;
-
+use crate::{reference, tools};
 use reference::card::{record, RECORD};
 use reference::dock::{self, BAYS, CHARGE};
 use tools::wear::{slot_of, spoiled};

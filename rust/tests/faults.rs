@@ -1,9 +1,7 @@
 //! The packaged programs where calls of the system fail, are interrupted or move few bytes: each read and each write of a card of several
 //! batches in turn, by the library of c/fault.c. What was written until then stays, a message tells why, and the status is 2.
 
-mod reference;
-mod tools;
-
+use crate::{reference, tools};
 use reference::card::{list, record_of, size, to_new, to_old, MARKS, OLD_MARKS, OLD_RECORD, RECORD};
 use std::path::{Path, PathBuf};
 use tools::answers::{done, restored_card, words, LONGEST};

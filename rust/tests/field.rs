@@ -1,8 +1,6 @@
 //! Every symbol of the four fields against the reference, and every refusal of the field's calls.
 
-mod reference;
-mod tools;
-
+use crate::{reference, tools};
 use reference::WIDTHS;
 use tools::BAD_WIDTHS;
 use xrs::{inverse, power, product, sum, Refusal};

@@ -1,8 +1,6 @@
 //! The option -o of cardrestore and cardconvert: the file that it names is the whole output, or is as it was, whatever fails.
 
-mod reference;
-mod tools;
-
+use crate::{reference, tools};
 use reference::card::{record, record_of, to_new, to_old, MARKS, OLD_MARKS, OLD_RECORD, RECORD};
 use std::fs::{self, File};
 use std::os::unix::fs::PermissionsExt;

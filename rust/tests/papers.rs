@@ -1,7 +1,6 @@
 //! The reference against what documents 01 and 02 say in numbers. Nothing of the library is called here.
 
-mod reference;
-
+use crate::reference;
 use reference::{card, compare, dock, masked, search, sheet, walk, window};
 
 /// The zero word of width 3 with other symbols at some places.

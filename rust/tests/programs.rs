@@ -1,8 +1,6 @@
 //! The packaged programs as a shell runs them: arguments, statuses, what they say of bad input, closed descriptors, devices, and a small stack.
 
-mod reference;
-mod tools;
-
+use crate::{reference, tools};
 use reference::card::{record, record_of, to_new, OLD_MARKS, RECORD};
 use std::fs::{self, File, Permissions};
 use std::io::Seek;

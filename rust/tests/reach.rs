@@ -1,8 +1,6 @@
 //! Restoring with a reach, request (h): every reach against the reference, what holds at each, and records.
 
-mod reference;
-mod tools;
-
+use crate::{reference, tools};
 use reference::card::{self, record, MARKS, RECORD};
 use reference::search::{self, most_marks, radius};
 use reference::{distance, places, WIDTHS};

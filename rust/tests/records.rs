@@ -1,8 +1,6 @@
 //! The restorer of a record and the card check against the reference.
 
-mod reference;
-mod tools;
-
+use crate::{reference, tools};
 use reference::card::{check, record, restore, HEADER, RECORD};
 use reference::search::most_marks;
 use reference::WIDTHS;

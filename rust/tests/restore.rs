@@ -1,9 +1,7 @@
 //! The restorer against a search of the reference: the cases of document 01, every syndrome at the small widths, random words, and every
 //! refusal.
 
-mod reference;
-mod tools;
-
+use crate::{reference, tools};
 use reference::search::{self, most_marks, radius};
 use reference::{distance, order, places, ODD_WIDTHS, WIDTHS};
 use tools::wear::{codeword as random_codeword, dependent, spoiled, with_any_bytes, word_of_syndromes};

@@ -1,8 +1,6 @@
 //! Day sheets: every date, every refusal and their order, and the reference.
 
-mod reference;
-mod tools;
-
+use crate::{reference, tools};
 use reference::sheet::{exists, DAYS, SIZE};
 use reference::{items, order, places};
 use tools::sheets::random_symbols;

@@ -1,12 +1,10 @@
 //! The program cardsheets, which prints day sheets as CSV: texts by the reference, streams, statuses; and the card examples/month.card.
 
-mod csv;
 #[allow(dead_code)] // its main writes the card
 #[path = "../examples/month.rs"]
 mod month;
-mod reference;
-mod tools;
 
+use crate::{csv, reference, tools};
 use csv::{fails_as_it_should, header, line, records_of, streaming, symbols, takes_arguments};
 use reference::card::{is_blank, record, RECORD};
 use reference::compare::read;

@@ -1,8 +1,6 @@
 //! The iterator over the slots of a card, against the reference.
 
-mod reference;
-mod tools;
-
+use crate::{reference, tools};
 use reference::card::{is_blank, restore, RECORD};
 use tools::wear::worn_card;
 use tools::{refusal, Chance, Tally};

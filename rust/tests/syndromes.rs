@@ -1,8 +1,6 @@
 //! The sums over the unmarked places, request (d), against the reference.
 
-mod reference;
-mod tools;
-
+use crate::{reference, tools};
 use reference::{items, masked, order, places, WIDTHS};
 use tools::wear::{codeword, hostile};
 use tools::{is_codeword, refusal, syndromes, Chance, Tally};

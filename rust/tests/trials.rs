@@ -1,9 +1,7 @@
 //! The two methods of restoring a word, request (j): wrong places found from the syndromes, and wrong places tried. On every input they
 //! give the same answer and leave the same word, that of the reference.
 
-mod reference;
-mod tools;
-
+use crate::{reference, tools};
 use reference::search::{self, radius};
 use reference::{items, order, places, ODD_WIDTHS, WIDTHS};
 use tools::wear::{codeword, hostile, spoiled, with_any_bytes, word_of_syndromes};

@@ -1,8 +1,6 @@
 //! A walk over a card and looks meanwhile, request (k): cards of many lengths step by step, every refusal, and the reference.
 
-mod reference;
-mod tools;
-
+use crate::{reference, tools};
 use reference::card::{record, HEADER, RECORD};
 use reference::walk::{self, alone, records, ROW, STEP};
 use reference::WIDTHS;

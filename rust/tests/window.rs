@@ -1,8 +1,6 @@
 //! The starts in a window of the day, request (n): dates, edges, limits, and the reference.
 
-mod reference;
-mod tools;
-
+use crate::{reference, tools};
 use reference::card::{record, RECORD};
 use reference::compare::QUARTERS;
 use reference::window::{report, MOST, PUMPS, REPORT};
