@@ -1,5 +1,6 @@
 -- Laws of the text's definitions, and what the proofs of several functions use. Assumes nothing.
 pub mod Digits  -- two digits, three digits, the four of a year; months and days have two
+pub mod Overwriting  -- a byte over another, and digits over leading zeros
 pub mod SheetColumns  -- times and counts, column by column
 pub mod SheetLines  -- the text slot by slot, how long it is and how far counts grow; in parts
 pub mod Cutting  -- a line without its carriage return, and cut into columns

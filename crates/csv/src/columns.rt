@@ -1,5 +1,6 @@
 // Columns of a line, written into a lent buffer. No function here is an entry point: each requires room for its text, and answers the place
 // behind it.
+ghost use mathlib.Core.Path.{_≡_};
 ghost use mathlib.Core.List.{_∷_};
 ghost use Prim.Native.Nat.{_+_, _*_, _≤_, _<_};
 ghost use lib.ListN.{length, take};
@@ -28,20 +29,26 @@ pub(crate) fn put_two(out: &mut [u8], at: usize, n: u8) -> usize
     put_byte(out, next, 48 + n % 10)
 }
 
-// Writes the one to three digits of a number below 1000.
+// 1 where n is at least so much, else 0.
+fn reaches(n: u8, least: u8) -> usize
+    ensures { λ r. ⌜ (least ≤ n → r ≡ 1) × (n < least → r ≡ 0) ⌝ }
+    ensures { λ r. ⌜ r ≤ 1 ⌝ }
+{
+    if least <= n { 1 } else { 0 }
+}
+
+// Writes the one to three digits of a number. Each digit is written, and the next one over it where it is a leading zero: which digits there are
+// is hard to foresee, and a branch that is foreseen wrongly costs more than all three.
 pub(crate) fn put_small(out: &mut [u8], at: usize, n: u8) -> usize
     requires { ⌜ at + smallSize ≤ length (now out) ⌝ }
     ensures { λ r. ⌜ Writes (now (out .entry)) at (decimal n) (now (out .exit)) r ⌝ }
     ensures { λ r. ⌜ r ≤ at + smallSize ⌝ }
 {
-    if n < 10 {
-        return put_byte(out, at, 48 + n);
-    }
-    if n < 100 {
-        return put_two(out, at, n);
-    }
-    let next = put_byte(out, at, 48 + n / 100);
-    put_two(out, next, n % 100)
+    let a = at + reaches(n, 100);
+    let b = a + reaches(n, 10);
+    put_byte(out, at, 48 + n / 100);
+    put_byte(out, a, 48 + n / 10 % 10);
+    put_byte(out, b, 48 + n % 10)
 }
 
 // Writes the time hh:mm at which quarter hour n begins.

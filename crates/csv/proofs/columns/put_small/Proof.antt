@@ -1,42 +1,73 @@
 -- `csv::columns::put_small` meets its contract: one, two or three digits. Assumes nothing.
 use borrow.Author.Needs.{needs}
 use native.Mathlib.Omega.{arith}
-use Rattle.card.proofs.Writing.{writes-on, decimal-one}
-use Rattle.report.proofs.Tables.{two-more}
-use Rattle.csv.proofs.Digits.{three-digits}
+use Rattle.csv.proofs.Overwriting.{digits-written, digits-room}
 use Rattle.csv.proofs.columns.put_small.Statement.{statement}
 use Rattle.csv.proofs.columns.put_small.Tie as tie
 
+reaches-requires : tie.Need-reaches-requires
+reaches-requires c κs = search needs
+
+add-a : tie.Need-add-a
+add-a c = search needs
+
+reaches-requires-2 : tie.Need-reaches-requires-2
+reaches-requires-2 c κs = search needs
+
+add-b : tie.Need-add-b
+add-b c = search needs
+
+add-put-byte : tie.Need-add-put-byte
+add-put-byte c = search needs
+
+put-byte-requires : tie.Need-put-byte-requires
+put-byte-requires c κs = search needs
+
+add-put-byte-2 : tie.Need-add-put-byte-2
+add-put-byte-2 c = search needs
+
+put-byte-requires-2 : tie.Need-put-byte-requires-2
+put-byte-requires-2 c κs = search needs
+
+add-put-byte-3 : tie.Need-add-put-byte-3
+add-put-byte-3 c = search needs
+
+put-byte-requires-3 : tie.Need-put-byte-requires-3
+put-byte-requires-3 c κs = search needs
+
+same-length : tie.Need-same-length
+same-length c = search needs
+
 returns : tie.Need-returns
 returns c =
-    let told = c .before .before .before .before in
-    (rw (decimal-one _ (told .if1 .taken)) (c .before .before .put-byte .ensures), omega arith)
-
-returns-2 : tie.Need-returns-2
-returns-2 c =
-    let s = c .before .before .before .before .before .before .before in
-    (rw (two-more (s .args .n) (omega arith)) at (c .before .before .put-two .ensures .0), omega arith)
-
-returns-3 : tie.Need-returns-3
-returns-3 c =
-    let at-put-byte2 = c .before .before .before .before .before .before in
-    let s = at-put-byte2 .before .before .before .before .before in
-    let both = writes-on (at-put-byte2 .put-byte2 .ensures) (c .before .before .put-two2 .ensures .0) in
-    (rw (three-digits (s .args .n) (omega arith) (omega arith)) both, omega arith)
+    let b2 = c .before .before in
+    let b6 = b2 .before .before .before .before in
+    let b10 = b6 .before .before .before .before in
+    let b12 = b10 .before .before in
+    let b13 = b12 .before in
+    let s = b13 .before .before in
+    let first = b10 .put-byte .ensures in
+    let second = b6 .put-byte2 .ensures in
+    let third = b2 .put-byte3 .ensures in
+    let hundreds = b13 .reaches .ensures .0 in
+    let tens = b12 .reaches2 .ensures .0 in (
+      digits-written (s .args .n) (omega arith) hundreds tens first second third,
+      digits-room (s .args .n) (omega arith) hundreds tens first second third,
+    )
 
 pub put-small-spec : {M : Type 1} → statement M
 put-small-spec =
     tie.close
     (tie.spec
-    (λ c. search needs)
-    (λ c κs. search needs)
-    (λ c. search needs)
-    returns
-    (λ c κs. search needs)
-    (λ c. search needs)
-    returns-2
-    (λ c. search needs)
-    (λ c κs. search needs)
-    (λ c κs. search needs)
-    (λ c. search needs)
-    returns-3)
+    reaches-requires
+    add-a
+    reaches-requires-2
+    add-b
+    add-put-byte
+    put-byte-requires
+    add-put-byte-2
+    put-byte-requires-2
+    add-put-byte-3
+    put-byte-requires-3
+    same-length
+    returns)
