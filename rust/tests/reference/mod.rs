@@ -1,5 +1,5 @@
 //! An independent implementation, written from documents 01 and 02 and sharing no code or table with the library. A refusal is its number.
-#![allow(dead_code)] // each test file uses its part
+#![allow(dead_code)] // an example uses its part
 
 pub mod card;
 pub mod compare;

@@ -1,5 +1,5 @@
 //! What the tests share: slices lent out of larger buffers, and numbers by chance.
-#![allow(dead_code)] // each test file uses its part
+#![allow(dead_code)] // an example uses its part
 
 pub mod answers;
 pub mod calls;

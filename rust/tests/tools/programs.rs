@@ -92,7 +92,7 @@ impl Fault {
     }
 }
 
-/// The library of c/fault.c, compiled once by each test file, as it is found from a test's folder: the loader takes no name with a space.
+/// The library of c/fault.c, compiled once, as it is found from a test's folder: the loader takes no name with a space.
 fn library() -> &'static str {
     static LIBRARY: OnceLock<String> = OnceLock::new();
     LIBRARY.get_or_init(|| {
