@@ -56,8 +56,11 @@ static int is_refused(int w, int marks) {
 /* Words of a kind: beyond the distance those that are refused. */
 static void make(int wrong, int marks) {
     chance = 0x9E3779B97F4A7C15u;
-    for (int w = 0; w < WORDS; w++) do wear(w, wrong, marks);
-        while (beyond(wrong, marks) && !is_refused(w, marks));
+    for (int w = 0; w < WORDS; w++) {
+        do {
+            wear(w, wrong, marks);
+        } while (beyond(wrong, marks) && !is_refused(w, marks));
+    }
 }
 
 /* Seconds for fresh copies of the words, made before the clock starts. Fails where a word is not treated as it has to be. */
@@ -66,8 +69,11 @@ static double one_round(int wrong, int marks) {
     memcpy(copies, worn, sizeof worn);
     memcpy(lists, marked, sizeof marked);
     double start = seconds();
-    if (refused) for (int w = 0; w < WORDS; w++) right += peer_refuse(copies[w], lists[w], marks);
-    else for (int w = 0; w < WORDS; w++) right += peer_restore(copies[w], lists[w], marks, wrong);
+    if (refused) {
+        for (int w = 0; w < WORDS; w++) right += peer_refuse(copies[w], lists[w], marks);
+    } else {
+        for (int w = 0; w < WORDS; w++) right += peer_restore(copies[w], lists[w], marks, wrong);
+    }
     double spent = seconds() - start;
     if (right != WORDS || (!refused && memcmp(copies, codewords, sizeof copies) != 0)) {
         fprintf(stderr, "%s does not treat every word with %d wrong symbols and %d marks right\n", peer_name, wrong, marks);

@@ -35,61 +35,44 @@ __attribute__((constructor)) static void configure(void) {
     error = atoi(setting("FAULT_ERROR", "0"));
     command = getenv("FAULT_RUN");
     logged = getenv("FAULT_LOG");
-    if (getenv("FAULT_MOST") != NULL)
-        most = (size_t)atol(getenv("FAULT_MOST"));
+    if (getenv("FAULT_MOST") != NULL) most = (size_t)atol(getenv("FAULT_MOST"));
     unsetenv("LD_PRELOAD");
 }
 
 static void note(void) {
     int fd = logged == NULL ? -1 : open(logged, O_WRONLY | O_CREAT | O_APPEND, 0666);
-    if (fd < 0 || syscall(SYS_write, fd, "x", (size_t)1) != 1)
-        abort();
+    if (fd < 0 || syscall(SYS_write, fd, "x", (size_t)1) != 1) abort();
     syscall(SYS_close, fd);
 }
 
 /* Counts the call. Is it to fail? Then errno is set. */
 static int fails(const char *name) {
-    if (strcmp(name, counted) != 0)
-        return 0;
+    if (strcmp(name, counted) != 0) return 0;
     count++;
-    if (met == -1 ? count % 2 == 0 : count != met)
-        return 0;
+    if (met == -1 ? count % 2 == 0 : count != met) return 0;
     note();
-    if (command != NULL && system(command) == -1)
-        abort();
+    if (command != NULL && system(command) == -1) abort();
     errno = error;
     return error != 0;
 }
 
-static size_t at_most(size_t n) {
-    return n < most ? n : most;
-}
+static size_t at_most(size_t n) { return n < most ? n : most; }
 
-ssize_t read(int fd, void *buf, size_t n) {
-    return fails("read") ? -1 : syscall(SYS_read, fd, buf, at_most(n));
-}
+ssize_t read(int fd, void *buf, size_t n) { return fails("read") ? -1 : syscall(SYS_read, fd, buf, at_most(n)); }
 
 ssize_t write(int fd, const void *buf, size_t n) {
-    if (fd == STDERR_FILENO)
-        return syscall(SYS_write, fd, buf, n);
+    if (fd == STDERR_FILENO) return syscall(SYS_write, fd, buf, n);
     return fails("write") ? -1 : syscall(SYS_write, fd, buf, at_most(n));
 }
 
-off_t lseek(int fd, off_t offset, int whence) {
-    return fails("lseek") ? -1 : syscall(SYS_lseek, fd, offset, whence);
-}
+off_t lseek(int fd, off_t offset, int whence) { return fails("lseek") ? -1 : syscall(SYS_lseek, fd, offset, whence); }
 
-int fsync(int fd) {
-    return fails("fsync") ? -1 : (int)syscall(SYS_fsync, fd);
-}
+int fsync(int fd) { return fails("fsync") ? -1 : (int)syscall(SYS_fsync, fd); }
 
 int close(int fd) {
     int failed = fails("close"), reason = errno, answer = (int)syscall(SYS_close, fd);
-    if (failed)
-        errno = reason;
+    if (failed) errno = reason;
     return failed ? -1 : answer;
 }
 
-int rename(const char *from, const char *to) {
-    return fails("rename") ? -1 : (int)syscall(SYS_rename, from, to);
-}
+int rename(const char *from, const char *to) { return fails("rename") ? -1 : (int)syscall(SYS_rename, from, to); }

@@ -3,6 +3,4 @@
 
 uint8_t MAIN(void);
 
-int main(void) {
-    return MAIN();
-}
+int main(void) { return MAIN(); }

@@ -21,9 +21,7 @@ static uint16_t left[XRS_COUNTS];
 static uint64_t next, report[XRS_REPORT_SIZE];
 static volatile uint64_t answer; /* so that no call is left out */
 
-static void run(void) {
-    current();
-}
+static void run(void) { current(); }
 
 /* The bytes of stack that lose their paint; the first run, on the usual stack, has the loader find what is called. */
 static size_t depth(void (*call)(void)) {
@@ -104,13 +102,32 @@ static const struct {
     const char *name;
     void (*call)(void);
 } calls[] = {
-    {"xrs_sum", sum}, {"xrs_product", product}, {"xrs_power", power}, {"xrs_inverse", inverse}, {"xrs_encode", encode},
-    {"xrs_is_codeword", is_codeword}, {"xrs_read_data", read_data}, {"xrs_syndromes", syndromes}, {"xrs_restore_word", restore},
-    {"xrs_restore_word_within", restore_within}, {"xrs_restore_word_by_trials", by_trials},
-    {"xrs_restore_word_by_trials_within", by_trials_within}, {"xrs_restore_record", record}, {"xrs_restore_record_within", record_within},
-    {"xrs_check_card", check_card}, {"xrs_card_to_old", to_old}, {"xrs_card_to_new", to_new}, {"xrs_walk_step", step}, {"xrs_look", look},
-    {"xrs_charge", charge}, {"xrs_bay_restore", bay}, {"xrs_bay_restore_within", bay_within}, {"xrs_write_sheet", write_sheet},
-    {"xrs_read_sheet", read_sheet}, {"xrs_compare_sheets", compare}, {"xrs_window", window},
+    {"xrs_sum", sum},
+    {"xrs_product", product},
+    {"xrs_power", power},
+    {"xrs_inverse", inverse},
+    {"xrs_encode", encode},
+    {"xrs_is_codeword", is_codeword},
+    {"xrs_read_data", read_data},
+    {"xrs_syndromes", syndromes},
+    {"xrs_restore_word", restore},
+    {"xrs_restore_word_within", restore_within},
+    {"xrs_restore_word_by_trials", by_trials},
+    {"xrs_restore_word_by_trials_within", by_trials_within},
+    {"xrs_restore_record", record},
+    {"xrs_restore_record_within", record_within},
+    {"xrs_check_card", check_card},
+    {"xrs_card_to_old", to_old},
+    {"xrs_card_to_new", to_new},
+    {"xrs_walk_step", step},
+    {"xrs_look", look},
+    {"xrs_charge", charge},
+    {"xrs_bay_restore", bay},
+    {"xrs_bay_restore_within", bay_within},
+    {"xrs_write_sheet", write_sheet},
+    {"xrs_read_sheet", read_sheet},
+    {"xrs_compare_sheets", compare},
+    {"xrs_window", window},
 };
 
 enum { CALLS = sizeof calls / sizeof *calls };

@@ -139,16 +139,14 @@ static void round_trip(uint8_t width) {
     memcpy(wrong, word.bytes + RIM, n);
     wrong[n - 1] ^= 1;
     answers(at("test with a wrong symbol at width", width), xrs_is_codeword(width, wrong, n), XRS_ACCEPTED, 0);
-    answers(at("read with a wrong symbol at width", width),
-        xrs_read_data(width, wrong, n, lend(&data, zeros, q - 1), q - 1), XRS_REFUSED_SYNDROME, 0);
+    answers(
+        at("read with a wrong symbol at width", width), xrs_read_data(width, wrong, n, lend(&data, zeros, q - 1), q - 1), XRS_REFUSED_SYNDROME, 0);
     check(at("a refused read writes nothing at width", width), holds(&data, zeros));
     wrong[0] = (uint8_t)q;
     answers(at("test with the symbol q at width", width), xrs_is_codeword(width, wrong, n), XRS_REFUSED_SYMBOL, 0);
-    answers(at("read with the symbol q at width", width),
-        xrs_read_data(width, wrong, n, lend(&data, zeros, q - 1), q - 1), XRS_REFUSED_SYMBOL, 0);
+    answers(at("read with the symbol q at width", width), xrs_read_data(width, wrong, n, lend(&data, zeros, q - 1), q - 1), XRS_REFUSED_SYMBOL, 0);
     message[q - 2] = (uint8_t)q;
-    answers(at("encode with the symbol q at width", width),
-        xrs_encode(width, message, q - 1, lend(&word, zeros, n), n), XRS_REFUSED_SYMBOL, 0);
+    answers(at("encode with the symbol q at width", width), xrs_encode(width, message, q - 1, lend(&word, zeros, n), n), XRS_REFUSED_SYMBOL, 0);
     check(at("refused calls write nothing at width", width), holds(&data, zeros) && holds(&word, zeros));
 }
 
@@ -271,8 +269,8 @@ static void restores(const restore_case *what, int reach) {
     for (i = 0; i < 2; i++) {
         lent word, marks;
         uint8_t *symbols = lend(&word, what->word, 12), *places = lend(&marks, what->marks, count);
-        uint32_t answer = reach < 0 ? methods[i].plain(3, symbols, 12, places, count)
-                                    : methods[i].within(3, symbols, 12, places, count, (uint8_t)reach);
+        uint32_t answer =
+            reach < 0 ? methods[i].plain(3, symbols, 12, places, count) : methods[i].within(3, symbols, 12, places, count, (uint8_t)reach);
         char name[96];
         snprintf(name, sizeof name, "%s%s", methods[i].name, what->name);
         answers(name, answer, what->refusal, what->changed);
@@ -302,8 +300,7 @@ static void restore_at(uint8_t width) {
     for (i = 0; i < wrong; i++) {
         word.bytes[RIM + marks[i]] ^= (uint8_t)(q - 1);
     }
-    answers(at("restore wrong symbols at width", width), xrs_restore_word(width, word.bytes + RIM, n, marks, 0), XRS_ACCEPTED,
-        (uint32_t)wrong);
+    answers(at("restore wrong symbols at width", width), xrs_restore_word(width, word.bytes + RIM, n, marks, 0), XRS_ACCEPTED, (uint32_t)wrong);
     check(at("the codeword is written at width", width), holds(&word, clean));
     for (i = 0; i < most; i++) {
         word.bytes[RIM + marks[i]] = 255;

@@ -121,8 +121,7 @@ uint32_t xrs_restore_word(uint8_t width, uint8_t *word, size_t word_length, cons
  * xrs_restore_word, and a longer one is refused with 16. With up to four marks, and no more than 4 - marks_length - reach unmarked symbols
  * wrong (3 in place of 4 at width 4), the codeword that was written comes back or the call is refused with 7; another never comes.
  */
-uint32_t xrs_restore_word_within(
-    uint8_t width, uint8_t *word, size_t word_length, const uint8_t *marks, size_t marks_length, uint8_t reach);
+uint32_t xrs_restore_word_within(uint8_t width, uint8_t *word, size_t word_length, const uint8_t *marks, size_t marks_length, uint8_t reach);
 
 /*
  * xrs_restore_word and xrs_restore_word_within by another method: the places of wrong symbols are tried, one set after the other, where
@@ -205,8 +204,7 @@ uint32_t xrs_charge(uint16_t *left, size_t left_length);
  * record would change and no rewrite is left, own or common.
  */
 uint32_t xrs_bay_restore(uint8_t bay, uint16_t *left, size_t left_length, uint8_t *record, size_t record_length);
-uint32_t xrs_bay_restore_within(
-    uint8_t bay, uint16_t *left, size_t left_length, uint8_t *record, size_t record_length, uint8_t reach);
+uint32_t xrs_bay_restore_within(uint8_t bay, uint16_t *left, size_t left_length, uint8_t *record, size_t record_length, uint8_t reach);
 
 /* ---- Day sheets: codewords of width 7 whose data symbols are a day's compressor starts, its date and its pump, and then zeros. */
 

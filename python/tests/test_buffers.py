@@ -58,7 +58,7 @@ class Kinds(unittest.TestCase):
             mapped = mmap.mmap(-1, len(data))
             mapped[:] = data
             kinds = [data, bytearray(data), memoryview(data), memoryview(bytearray(data)), memoryview(b"x" + data)[1:]]
-            kinds += [array.array("B", data), memoryview(data).cast("B", (1, len(data))), memoryview(mapped)]
+            kinds += [array.array("B", data), memoryview(data).cast("B", (1, len(data))), memoryview(mapped), mapped]
             wanted = call(data)
             for kind in kinds:
                 with self.subTest(call=name, kind=kind):

@@ -36,8 +36,8 @@ class Version(unittest.TestCase):
 
 
 class Wheel(unittest.TestCase):
-    def build(self, folder, **settings):
-        with mock.patch.dict(os.environ, settings):
+    def build(self, folder, XRS_LIB_DIR=""):
+        with mock.patch.dict(os.environ, XRS_LIB_DIR=XRS_LIB_DIR):
             return os.path.join(folder, backend.build_wheel(folder))
 
     def test_the_wheel_has_the_package_and_the_library(self):

@@ -10,15 +10,20 @@ import ctypes
 import mmap
 import operator
 import sys
-from typing import Iterable, NamedTuple, SupportsIndex, Union
+from typing import TYPE_CHECKING, Any, Iterable, NamedTuple, SupportsIndex, Union
 
 if sys.version_info >= (3, 12):
-    from collections.abc import Buffer
+    from collections.abc import Buffer as Buffer  # by its name, so that type checkers see it in this module
 
     Writable = Buffer
 else:
-    Buffer = Union[bytes, bytearray, memoryview, array.array, mmap.mmap]
-    Writable = Union[bytearray, memoryview, array.array, mmap.mmap]
+    if TYPE_CHECKING:
+        Array = array.array[int]
+    else:
+        Array = array.array  # takes no [int] where it runs
+
+    Buffer = Union[bytes, bytearray, memoryview, Array, mmap.mmap]
+    Writable = Union[bytearray, memoryview, Array, mmap.mmap]
 
 Marks = Union[Buffer, Iterable[SupportsIndex]]
 
@@ -105,8 +110,8 @@ def lend(name: str, buffer: Buffer) -> Lent:
     return lent_view(viewed(name, buffer))
 
 
-def lend_to_write(name: str, buffer: Writable, *others: Lent) -> Lent:
-    """A buffer to be written, which must not overlap the others that are lent to the same call."""
+def lend_to_write(name: str, buffer: Buffer, *others: Lent) -> Lent:
+    """A buffer to be written, which must be writable and not overlap the others that are lent to the same call."""
     if type(buffer) is bytearray and buffer:
         lent = held(buffer, len(buffer))
     else:
@@ -132,9 +137,10 @@ def lend_marks(marks: Marks) -> Lent:
     """The marks of a call, which may also be numbers."""
     if type(marks) is tuple and not marks:
         return EMPTY
-    if isinstance(marks, (bytes, bytearray, memoryview)):
+    if isinstance(marks, (bytes, bytearray, memoryview, mmap.mmap)):
         return lend("marks", marks)
-    return lend("marks", bytes([byte(mark) for mark in marks]))
+    numbers: Any = marks  # whatever can be gone through, also a buffer of another kind
+    return lend("marks", bytes([byte(mark) for mark in numbers]))
 
 
 def byte(number: SupportsIndex) -> int:

@@ -189,10 +189,10 @@ def compare_sheets(
         first.address, first.length, numbers[0], second.address, second.length, numbers[1], target.address, target.length
     )
     del first, second, target
-    side, *totals = value_of(answer).to_bytes(7, "little")[:4]
+    side, equal, controller_higher, cupboard_higher = value_of(answer).to_bytes(7, "little")[:4]
     card, number = (controller, numbers[0]) if side == Side.CONTROLLER.value else (cupboard, numbers[1])
     part = memoryview(bytes_of(card)).cast("B")[(number - 1) * RECORD_SIZE : number * RECORD_SIZE]
-    return Comparison(bytes(signs), *totals, Side(side), part)
+    return Comparison(bytes(signs), equal, controller_higher, cupboard_higher, Side(side), part)
 
 
 @dataclass(frozen=True)

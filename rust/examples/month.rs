@@ -66,8 +66,7 @@ fn hot_water(quarter: usize) -> usize {
 /// The counts of a day, its date and the pump.
 fn symbols(chance: &mut Chance, day: u8, pump: u8) -> Vec<u8> {
     let rate = |quarter| if pump == PUMPS[0] { heating(day, quarter) } else { hot_water(quarter) };
-    let mut symbols: Vec<u8> =
-        (0..96).map(|quarter| (0..CHANCES).filter(|_| chance.below(100) < rate(quarter)).count() as u8).collect();
+    let mut symbols: Vec<u8> = (0..96).map(|quarter| (0..CHANCES).filter(|_| chance.below(100) < rate(quarter)).count() as u8).collect();
     symbols.extend([26, 1, day, pump]);
     symbols
 }

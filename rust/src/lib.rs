@@ -107,8 +107,10 @@ impl Refusal {
         let base = [Width, Length, ErasureCount, ErasurePlace, ErasureDistinct, Symbol, Correctable, Padding, Syndrome, Nonzero];
         let later = [SheetWidth, Date, Unused, Unique, FourErasures, Reach, RecordNumber, Bay, Rewrite, SameDay, Window];
         let mut known = base.into_iter().chain(later);
-        let found = known.find(|refusal| refusal.number() == number);
-        found.or((number != 0).then_some(Unknown(number)))
+        match known.find(|refusal| refusal.number() == number) {
+            None if number != 0 => Some(Unknown(number)),
+            found => found,
+        }
     }
 }
 
@@ -116,8 +118,6 @@ impl Refusal {
 ///
 /// ```
 /// assert_eq!(xrs::Refusal::Correctable.to_string(), "no codeword is near");
-/// let error: Box<dyn std::error::Error> = xrs::inverse(3, 0).unwrap_err().into();
-/// assert_eq!(error.to_string(), "the symbol 0 has no inverse");
 /// ```
 impl std::fmt::Display for Refusal {
     fn fmt(&self, out: &mut std::fmt::Formatter<'_>) -> std::fmt::Result {
@@ -148,6 +148,13 @@ impl std::fmt::Display for Refusal {
     }
 }
 
+/// With the feature `std`, which is there by default.
+///
+/// ```
+/// let error: Box<dyn std::error::Error> = xrs::inverse(3, 0).unwrap_err().into();
+/// assert_eq!(error.to_string(), "the symbol 0 has no inverse");
+/// ```
+#[cfg(feature = "std")]
 impl std::error::Error for Refusal {}
 
 mod raw {
@@ -161,14 +168,7 @@ mod raw {
         pub fn xrs_read_data(width: u8, word: *const u8, word_length: usize, data: *mut u8, data_length: usize) -> u32;
         pub fn xrs_syndromes(width: u8, word: *const u8, word_length: usize, marks: *const u8, marks_length: usize) -> u64;
         pub fn xrs_restore_word(width: u8, word: *mut u8, word_length: usize, marks: *const u8, marks_length: usize) -> u32;
-        pub fn xrs_restore_word_within(
-            width: u8,
-            word: *mut u8,
-            word_length: usize,
-            marks: *const u8,
-            marks_length: usize,
-            reach: u8,
-        ) -> u32;
+        pub fn xrs_restore_word_within(width: u8, word: *mut u8, word_length: usize, marks: *const u8, marks_length: usize, reach: u8) -> u32;
         pub fn xrs_restore_word_by_trials(width: u8, word: *mut u8, word_length: usize, marks: *const u8, marks_length: usize) -> u32;
         pub fn xrs_restore_word_by_trials_within(
             width: u8,
@@ -187,8 +187,7 @@ mod raw {
         pub fn xrs_look(card: *const u8, card_length: usize, number: u64, row: *mut u8, row_length: usize) -> u32;
         pub fn xrs_charge(left: *mut u16, left_length: usize) -> u32;
         pub fn xrs_bay_restore(bay: u8, left: *mut u16, left_length: usize, record: *mut u8, record_length: usize) -> u32;
-        pub fn xrs_bay_restore_within(bay: u8, left: *mut u16, left_length: usize, record: *mut u8, record_length: usize, reach: u8)
-            -> u32;
+        pub fn xrs_bay_restore_within(bay: u8, left: *mut u16, left_length: usize, record: *mut u8, record_length: usize, reach: u8) -> u32;
         pub fn xrs_write_sheet(width: u8, symbols: *const u8, symbols_length: usize, word: *mut u8, word_length: usize) -> u32;
         pub fn xrs_read_sheet(width: u8, word: *const u8, word_length: usize, symbols: *mut u8, symbols_length: usize) -> u32;
         pub fn xrs_compare_sheets(
@@ -547,7 +546,8 @@ impl Walk {
 
     /// Is there no further record?
     pub fn is_done(&self) -> bool {
-        self.next > self.length.div_ceil(RECORD_SIZE as u64)
+        let size = RECORD_SIZE as u64;
+        self.next > self.length / size + u64::from(self.length % size > 0)
     }
 
     /// Restores the next 16 records of the card in their order, fewer only at its end. Records that are refused and blank slots count, and
@@ -739,12 +739,7 @@ pub struct Comparison<'a> {
 /// assert_eq!(compared.part, cupboard);
 /// assert_eq!(xrs::compare_sheets(&controller, 1, &cupboard, 2), Err(xrs::Refusal::RecordNumber));
 /// ```
-pub fn compare_sheets<'a>(
-    controller: &'a [u8],
-    controller_number: u64,
-    cupboard: &'a [u8],
-    cupboard_number: u64,
-) -> Result<Comparison<'a>, Refusal> {
+pub fn compare_sheets<'a>(controller: &'a [u8], controller_number: u64, cupboard: &'a [u8], cupboard_number: u64) -> Result<Comparison<'a>, Refusal> {
     let mut signs = [0; SHEET_QUARTERS];
     let packed = unsafe {
         raw::xrs_compare_sheets(

@@ -5,10 +5,10 @@ use reference::card::{record, RECORD};
 use reference::compare::{compare, read, QUARTERS};
 use reference::sheet::SIZE;
 use std::fs;
-use std::path::{Path, PathBuf};
+use std::path::Path;
 use tools::answers::{hint, refusal_line, words};
 use tools::calls::{fails_as_it_should, runs_as_before, takes_arguments};
-use tools::programs::{folder, folder_with, full, names, Ended, Fault, Run, BATCH_SLOTS, EIO, ENOSPC};
+use tools::programs::{folder, folder_with, full, names, Ended, Fault, Folder, Run, BATCH_SLOTS, EIO, ENOSPC};
 use tools::sheets::{five_slots, random_symbols, sheet_record, worn_sheet};
 use tools::wear::{codeword, slot_of};
 use tools::Chance;
@@ -47,16 +47,17 @@ impl Asked<'_> {
 
 /// The text of two sheets of one pump and date.
 fn text(ours: &[u8], theirs: &[u8], totals: [u8; 3], chosen: &str) -> String {
-    let [year, month, day, pump] = ours[QUARTERS..] else { panic!("four symbols behind the counts") };
+    let [year, month, day, pump] = <[u8; 4]>::try_from(&ours[QUARTERS..]).expect("four symbols behind the counts");
     let [a, b] = [ours, theirs].map(|symbols| symbols[..QUARTERS].iter().map(|&count| u32::from(count)).sum::<u32>());
     let [equal, higher, lower] = totals;
-    let mut text = format!("date {}-{month:02}-{day:02}\npump {pump}\nstarts: controller {a}, cupboard {b}\n", 2000 + u32::from(year));
-    text += &format!("quarter hours: equal {equal}, controller higher {higher}, cupboard higher {lower}\nchosen: {chosen}\n");
-    for quarter in (0..QUARTERS).filter(|&quarter| ours[quarter] != theirs[quarter]) {
+    let sheet = format!("date {}-{month:02}-{day:02}\npump {pump}\nstarts: controller {a}, cupboard {b}\n", 2000 + u32::from(year));
+    let quarters = format!("quarter hours: equal {equal}, controller higher {higher}, cupboard higher {lower}\nchosen: {chosen}\n");
+    let line = |quarter: usize| {
         let [hour, minute] = [quarter / 4, quarter % 4 * 15];
-        text += &format!("{hour:02}:{minute:02} controller {}, cupboard {}\n", ours[quarter], theirs[quarter]);
-    }
-    text
+        format!("{hour:02}:{minute:02} controller {}, cupboard {}\n", ours[quarter], theirs[quarter])
+    };
+    let lines: String = (0..QUARTERS).filter(|&quarter| ours[quarter] != theirs[quarter]).map(line).collect();
+    sheet + &quarters + &lines
 }
 
 /// The end of cardcompare. Of old cards it is said last.
@@ -82,7 +83,7 @@ fn answered(controller: Asked, cupboard: Asked) -> Ended {
 }
 
 /// A folder with the two cards.
-fn cards(name: &str, controller: &[u8], cupboard: &[u8]) -> PathBuf {
+fn cards(name: &str, controller: &[u8], cupboard: &[u8]) -> Folder {
     let folder = folder_with(name, controller);
     fs::write(folder.join("other"), cupboard).expect("a card");
     folder

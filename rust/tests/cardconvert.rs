@@ -30,7 +30,11 @@ impl Way {
     /// The conversion by the reference, into an output of the right length.
     fn reference(self, card: &[u8]) -> Result<Vec<u8>, u8> {
         let length = card.len() / size(self.from) * size(self.to);
-        if self.to == MARKS { card::to_new(card, length) } else { card::to_old(card, length) }
+        if self.to == MARKS {
+            card::to_new(card, length)
+        } else {
+            card::to_old(card, length)
+        }
     }
 
     /// How the program must end. No record is refused with an earlier question than the card is, so the first offending one is
@@ -41,12 +45,13 @@ impl Way {
             Err(refusal) => {
                 let mut slots = card.chunks(size(self.from));
                 let number = 1 + slots.position(|slot| self.reference(slot).err() == Some(refusal)).expect("an offending record");
-                let mut said = format!("cardconvert: nothing is written; the first record refused: {number} {refusal} {}\n", words(refusal));
-                if refusal == 2 {
-                    let rest = card.len() % size(self.from);
-                    said += &format!("cardconvert: the card ends inside that record; bytes of it that are there: {rest}\n");
-                }
-                Ended::new(2, "", said)
+                let said = format!("cardconvert: nothing is written; the first record refused: {number} {refusal} {}\n", words(refusal));
+                let rest = card.len() % size(self.from);
+                let more = match refusal {
+                    2 => format!("cardconvert: the card ends inside that record; bytes of it that are there: {rest}\n"),
+                    _ => String::new(),
+                };
+                Ended::new(2, "", said + &more)
             }
         }
     }
@@ -66,7 +71,11 @@ impl Way {
     }
 
     fn back(self) -> Way {
-        if self.to == MARKS { OLD } else { NEW }
+        if self.to == MARKS {
+            OLD
+        } else {
+            NEW
+        }
     }
 
     /// A record that is converted.
@@ -134,8 +143,11 @@ fn worn_cards() {
     }
 }
 
+/// A refusal, and how a record is made that gets it.
+type Spoiling = (u8, fn(&mut [u8]));
+
 /// The refusals in the order of the questions, and how a record is made for which one is answered no.
-const FAULTS: [(u8, fn(&mut [u8])); 4] = [
+const FAULTS: [Spoiling; 4] = [
     (1, |record| record[0] = 9),
     (3, |record| record[1] = 6),
     (8, |record| *record.last_mut().expect("a tail") = 1),
@@ -215,7 +227,6 @@ fn a_large_card() {
         fs::write(folder.join("card"), &card).expect("the file");
         let said = "cardconvert: nothing is written; the first record refused: 1000000 1 the width is not 3, 4, 5 or 7\n";
         assert_eq!(way.run(&folder).end(), Ended::new(2, "", said));
-        fs::remove_dir_all(folder).expect("the folder");
     }
 }
 

@@ -94,11 +94,9 @@ fn almost_blank_slots() {
 /// A shorter last piece is a record that is refused with 2, not a blank slot.
 #[test]
 fn blank_bytes_at_the_end() {
-    for (length, wanted) in [
-        (RECORD - 1, "1 255 2 0\ntotal 0 1 0\n"),
-        (RECORD, "1 blank\ntotal 0 0 0\n"),
-        (RECORD + 1, "1 blank\n2 255 2 0\ntotal 0 1 0\n"),
-    ] {
+    for (length, wanted) in
+        [(RECORD - 1, "1 255 2 0\ntotal 0 1 0\n"), (RECORD, "1 blank\ntotal 0 0 0\n"), (RECORD + 1, "1 blank\n2 255 2 0\ntotal 0 1 0\n")]
+    {
         assert_eq!(listed_bytes(&vec![255; length]), wanted);
     }
 }
@@ -135,7 +133,8 @@ fn a_card_that_comes_in_drops() {
 fn the_card_is_not_written() {
     let mut chance = Chance::new();
     let card: Vec<u8> = (0..50).flat_map(|_| worn(&mut chance, 3)).collect();
-    let path = folder_with("unwritten", &card).join("card");
+    let folder = folder_with("unwritten", &card);
+    let path = folder.join("card");
     let file = File::options().read(true).write(true).open(&path).expect("the file");
     assert_eq!(Run::new("cardlist", &[]).input(file).end(), listed(&card, "standard input"));
     assert!(fs::read(path).expect("the file") == card);

@@ -32,7 +32,7 @@ fn syndromes(slot: &[u8], marks: &[u8]) -> Option<[u8; 5]> {
 
 /// The lines of a day sheet.
 fn day(symbols: &[u8]) -> String {
-    let [year, month, day, pump] = symbols[96..] else { panic!("four symbols behind the counts") };
+    let [year, month, day, pump] = <[u8; 4]>::try_from(&symbols[96..]).expect("four symbols behind the counts");
     let hour = |(hour, counts): (usize, &[u8])| format!("hour {hour}: {}\n", counts.iter().map(|&count| u32::from(count)).sum::<u32>());
     let hours: String = symbols[..96].chunks(4).enumerate().map(hour).collect();
     format!("date {}-{month:02}-{day:02}\npump {pump}\n{hours}", 2000 + u32::from(year))
@@ -54,7 +54,7 @@ fn text(number: u64, slot: &[u8]) -> (i32, String) {
     }
     if slot.len() == RECORD {
         let marks = &slot[2..2 + MARKS.min(slot[1].into())];
-        text += &format!("width {}\nerasures{}", slot[0], spaced(marks));
+        text = text + &format!("width {}\nerasures{}", slot[0], spaced(marks));
         text += &syndromes(slot, marks).map_or(String::new(), |sums| format!("syndromes{}", spaced(&sums)));
     }
     match restore(slot) {
@@ -67,8 +67,9 @@ fn text(number: u64, slot: &[u8]) -> (i32, String) {
 fn looked(number: u64, card: &[u8], file: &str) -> Ended {
     let hint = hint("cardlook", file, card.len());
     let before = number as usize - 1;
-    let Some(slot) = card.chunks(RECORD).nth(before) else {
-        return Ended::new(2, "", format!("cardlook: {file}: {}{hint}", refusal_line(number, 17)));
+    let slot = match card.chunks(RECORD).nth(before) {
+        Some(slot) => slot,
+        None => return Ended::new(2, "", format!("cardlook: {file}: {}{hint}", refusal_line(number, 17))),
     };
     let behind = card.len() - before / BATCH_SLOTS * BATCH_SLOTS * RECORD;
     let (status, text) = text(number, slot);

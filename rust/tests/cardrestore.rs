@@ -145,9 +145,10 @@ fn a_card_that_comes_in_drops() {
 fn through_a_pipe() {
     let card = repository("examples/worn.card");
     let line = format!("'{}' < '{card}' 2>/dev/null | '{}'", path("cardrestore"), path("cardlist"));
-    let output = Command::new("sh").args(["-c", &line]).output().expect("a shell");
+    let mut command = Command::new("sh");
+    command.args(["-c", &line]);
     let restored = restored_card(&fs::read(card).expect("an example"), LONGEST).0;
-    assert_eq!(Ended::of(output), Ended::new(0, list(&restored), ""));
+    assert_eq!(Run::of(command).end(), Ended::new(0, list(&restored), ""));
 }
 
 /// Slots that take turns on a large card.
@@ -171,12 +172,7 @@ fn a_million_slots() {
     let rounds = SLOTS / turns.len();
     let line = format!("restored {}, changed {}, refused {}, blank {}\n", 3 * rounds, rounds, rounds, rounds);
     assert_eq!(counts.line(), "restored 3, changed 1, refused 1, blank 1\n");
-    let mut program = Command::new(path("cardrestore"))
-        .stdin(Stdio::piped())
-        .stdout(Stdio::piped())
-        .stderr(Stdio::piped())
-        .spawn()
-        .expect("cardrestore is built by `./package`");
+    let mut program = Run::new("cardrestore", &[]).input(Stdio::piped()).begin();
     let (mut input, mut output) = (program.stdin.take().expect("a pipe"), program.stdout.take().expect("a pipe"));
     thread::scope(|scope| {
         let several = turns.concat();

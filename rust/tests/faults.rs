@@ -3,9 +3,9 @@
 
 use crate::{reference, tools};
 use reference::card::{list, record_of, size, to_new, to_old, MARKS, OLD_MARKS, OLD_RECORD, RECORD};
-use std::path::{Path, PathBuf};
+use std::path::Path;
 use tools::answers::{done, restored_card, words, LONGEST};
-use tools::programs::{folder_with, Ended, Fault, Run, BATCH_SLOTS, EAGAIN, EIO, ENOSPC};
+use tools::programs::{folder_with, Ended, Fault, Folder, Run, BATCH_SLOTS, EAGAIN, EIO, ENOSPC};
 use tools::sheets::five_slots;
 use tools::wear::{codeword, worn};
 use tools::Chance;
@@ -113,7 +113,7 @@ fn each_read_of_a_table() {
 }
 
 /// A conversion, a card for it, and the card that comes of it.
-fn conversions() -> [(&'static str, PathBuf, Vec<u8>); 2] {
+fn conversions() -> [(&'static str, Folder, Vec<u8>); 2] {
     let (old, new) = (fine_card(OLD_MARKS, SLOTS), fine_card(MARKS, SLOTS));
     let (from_old, from_new) = (to_new(&old, SLOTS * RECORD), to_old(&new, SLOTS * OLD_RECORD));
     [("to-new", old, from_old), ("to-old", new, from_new)].map(|(word, card, out)| (word, folder_with(word, &card), out.expect("a good card")))

@@ -30,4 +30,5 @@ mod slots;
 mod syndromes;
 mod trials;
 mod walk;
+mod weights;
 mod window;

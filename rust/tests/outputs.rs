@@ -4,9 +4,9 @@ use crate::{reference, tools};
 use reference::card::{record, record_of, to_new, to_old, MARKS, OLD_MARKS, OLD_RECORD, RECORD};
 use std::fs::{self, File};
 use std::os::unix::fs::PermissionsExt;
-use std::path::{Path, PathBuf};
+use std::path::Path;
 use tools::answers::{hint, restored, words, LONGEST};
-use tools::programs::{folder, folder_with, names, Ended, Fault, Run, EIO, ENOSPC};
+use tools::programs::{folder, folder_with, names, Ended, Fault, Folder, Run, EIO, ENOSPC};
 use tools::wear::{codeword, worn};
 use tools::Chance;
 
@@ -44,7 +44,7 @@ fn cases() -> [Case; 3] {
 
 impl Case {
     /// A folder with the file `card`, and the file `out` that is to be replaced.
-    fn folder(&self, name: &str) -> PathBuf {
+    fn folder(&self, name: &str) -> Folder {
         let folder = folder_with(name, &self.card);
         fs::write(folder.join("out"), BEFORE).expect("a file");
         folder

@@ -101,9 +101,8 @@ fn f_old_cards_into_new() {
 
 #[test]
 fn h_a_shorter_reach() {
-    let at = |reach: u8, symbols: &[(usize, u8)], marks: &[u8]| {
-        search::restore_at(3, &zeros_but(symbols), marks, Some(reach)).map(|(changed, _)| changed)
-    };
+    let at =
+        |reach: u8, symbols: &[(usize, u8)], marks: &[u8]| search::restore_at(3, &zeros_but(symbols), marks, Some(reach)).map(|(changed, _)| changed);
     assert_eq!((at(0, &[(5, 1)], &[]), at(1, &[(5, 1)], &[])), (Err(7), Ok(1)), "case F");
     assert_eq!((at(1, &[(0, 7), (5, 7)], &[]), at(2, &[(0, 7), (5, 7)], &[])), (Err(7), Ok(2)), "case G");
     for (count, longest) in [2, 1, 1, 0, 0, 0].into_iter().enumerate() {

@@ -3,11 +3,11 @@
 use crate::{reference, tools};
 use reference::card::{record, record_of, to_new, OLD_MARKS, RECORD};
 use std::fs::{self, File, Permissions};
-use std::io::Seek;
-use std::os::unix::fs::{MetadataExt, PermissionsExt};
+use std::io::{stderr, Seek, Write};
+use std::os::unix::fs::PermissionsExt;
 use std::process::Command;
 use tools::answers::{done, hint, words};
-use tools::programs::{folder, folder_with, full, names, path, repository, Ended, Run, PROGRAMS};
+use tools::programs::{folder, folder_with, full, names, nobody_is_there, path, repository, Ended, Run, PROGRAMS};
 use tools::sheets::five_slots;
 use tools::wear::codeword;
 use tools::Chance;
@@ -207,25 +207,32 @@ fn a_folder() {
     }
 }
 
-/// Where the tests run as root, who may read all, the programs run as nobody, from a folder that nobody can reach.
+/// Where the tests may read the card all the same, as root may, the programs run as nobody. They are copied into the folder of the card,
+/// which nobody need not find: it is the current one. Another process copies them, since no file can be run that is open for writing, also
+/// in a process that another test begins meanwhile.
 #[test]
 fn a_card_without_permission() {
-    let room = std::env::temp_dir().join(format!("cards-{}", std::process::id()));
-    fs::create_dir(&room).expect("a folder");
-    fs::set_permissions(&room, Permissions::from_mode(0o755)).expect("its mode");
-    fs::write(room.join("card"), sheets(1)).expect("a card");
-    fs::set_permissions(room.join("card"), Permissions::from_mode(0o000)).expect("its mode");
-    let root = fs::metadata("/proc/self").expect("this process").uid() == 0;
-    for call in &CALLS {
-        let copied = Command::new("cp").arg(path(call.name)).arg(room.join("program")).status().expect("cp");
-        assert!(copied.success(), "{} is built by `./package`", call.name);
-        let mut command = Command::new(room.join("program"));
-        command.args(call.with(&["card"]));
-        let run = Run::of(command).within(&room);
-        let ended = if root { run.as_nobody() } else { run }.end();
-        assert_eq!(ended, call.fails("card", "Permission denied", ""));
+    let folder = folder_with("closed", &sheets(1));
+    let set = |name: &str, mode: u32| fs::set_permissions(folder.join(name), Permissions::from_mode(mode)).expect("its mode");
+    set("", 0o755);
+    set("card", 0o000);
+    let opens = File::open(folder.join("card")).is_ok();
+    if opens && !nobody_is_there() {
+        let _ = writeln!(stderr(), "NOT TRIED: a card without permission: these tests may read it, and can't run a program as nobody");
+        return;
     }
-    fs::remove_dir_all(room).expect("the folder");
+    for call in &CALLS {
+        let mut run = call.run(&["card"]);
+        if opens {
+            let copied = Command::new("cp").arg(path(call.name)).arg(&*folder).status().expect("cp");
+            assert!(copied.success(), "{} is built by `./package`", call.name);
+            set(call.name, 0o755);
+            let mut command = Command::new(format!("./{}", call.name));
+            command.args(call.with(&["card"]));
+            run = Run::of(command).by_nobody();
+        }
+        assert_eq!(run.within(&folder).end(), call.fails("card", "Permission denied", ""));
+    }
 }
 
 /// Standard input that is closed: cardcheck above all must not say ok.
@@ -333,14 +340,14 @@ fn old_cards() {
 fn a_small_stack() {
     let card = sheets(900);
     let folder = folder_with("stack", &card);
-    let line = "ulimit -s 128 && exec \"$0\" \"$@\"";
     for call in &CALLS {
+        let run = |arguments: &[&str]| Run::with_small_stack(call.name, &call.with(arguments)).within(&folder);
         let wanted = done(call.name, &card, "card");
-        assert_eq!(call.shell(line, &["card"]).within(&folder).end(), wanted);
-        assert_eq!(call.shell(line, &["/no/such/card"]).end().status, Some(2));
-        assert_eq!(Run::shell(line, call.name, &["--help"]).end().status, Some(0));
+        assert_eq!(run(&["card"]).end(), wanted);
+        assert_eq!(run(&["/no/such/card"]).end().status, Some(2));
+        assert_eq!(Run::with_small_stack(call.name, &["--help"]).end().status, Some(0));
         if ["cardrestore", "cardconvert"].contains(&call.name) {
-            let ended = call.shell(line, &["-o", "out", "card"]).within(&folder).end();
+            let ended = run(&["-o", "out", "card"]).end();
             assert_eq!(ended, Ended { out: Vec::new(), ..wanted.clone() });
             assert!(fs::read(folder.join("out")).expect("the output") == wanted.out);
         }

@@ -37,7 +37,7 @@ fn every_byte_of_the_header() {
         let marked = record(width, &word, &marks[1..]);
         let all_marked = record(width, &word, marks);
         for at in 0..HEADER {
-            for byte in (0..=255).filter(|&byte| width < 7 || byte < 16 || byte > 125) {
+            for byte in (0..=255).filter(|&byte| width < 7 || !(16..=125).contains(&byte)) {
                 for mut bytes in [clean.clone(), marked.clone(), all_marked.clone()] {
                     bytes[at] = byte;
                     let _ = compare(&bytes);
@@ -97,7 +97,14 @@ fn card_of(slots: &str) -> Vec<u8> {
     let clean = record(3, &[0; 12], &[]);
     let mut bad = clean.clone();
     bad[1] = 9;
-    slots.chars().flat_map(|slot| match slot { 'c' => clean.clone(), 'x' => bad.clone(), _ => vec![255; RECORD] }).collect()
+    slots
+        .chars()
+        .flat_map(|slot| match slot {
+            'c' => clean.clone(),
+            'x' => bad.clone(),
+            _ => vec![255; RECORD],
+        })
+        .collect()
 }
 
 #[test]

@@ -31,8 +31,8 @@ fn cases_f_to_n() {
         symbols.iter().for_each(|&(place, symbol)| word[place] = symbol);
         word
     };
-    let accepted: [(char, [u8; 12], &[u8], u8, [u8; 12]); 5] = [
-        ('F', but(&[(5, 1)]), &[], 1, zeros),
+    let accepted = [
+        ('F', but(&[(5, 1)]), &[][..], 1, zeros),
         ('G', but(&[(0, 7), (5, 7)]), &[], 2, zeros),
         ('J', but(&[(7, 5)]), &[0, 1], 1, zeros),
         ('L', word_d, &[5], 0, word_d),
@@ -94,8 +94,9 @@ fn syndromes_of_width_4_with_marks() {
     for place in 0..20 {
         for (count, least) in [(1, 40), (2, 1), (3, 40)] {
             let marks: Vec<u8> = (0..count).map(|i| (place + 7 * i) % 20).collect();
-            let numbers: Vec<usize> = (1..20_000).map(|_| chance.below(1 << 20)).collect();
-            let accepted = with_syndromes(&mut chance, 4, &marks, numbers.into_iter().chain([0]));
+            let mut numbers: Vec<usize> = (1..20_000).map(|_| chance.below(1 << 20)).collect();
+            numbers.push(0);
+            let accepted = with_syndromes(&mut chance, 4, &marks, numbers.into_iter());
             assert!(accepted >= least, "{accepted} were accepted with the marks {marks:?}");
         }
     }
@@ -248,7 +249,7 @@ fn changes_of_two_symbols_are_undone() {
     let mut chance = Chance::new();
     for width in ODD_WIDTHS {
         let n = places(width);
-        for first in (0..n).filter(|&first| n < 132 || first < 8 || first > 129) {
+        for first in (0..n).filter(|&first| n < 132 || !(8..=129).contains(&first)) {
             for second in (0..n).filter(|&second| second != first) {
                 let codeword = random_codeword(&mut chance, width);
                 let word = spoiled(&mut chance, width, &codeword, &[first as u8, second as u8]);

@@ -117,7 +117,7 @@ fn other_widths_are_refused_last() {
             assert_eq!(write_sheet(width, &symbols, &vec![9; n]).0, Err(SheetWidth));
             assert_eq!(write_sheet(width, &symbols, &[9; N]).0, Err(Length));
         }
-        assert_eq!(write_sheet(width, &vec![q; SIZE], &vec![9; n]).0, Err(Symbol));
+        assert_eq!(write_sheet(width, &[q; SIZE], &vec![9; n]).0, Err(Symbol));
         let (_, word) = encode(width, &chance.symbols(items(width), order(width)), &vec![0; n]);
         assert_eq!(read_sheet(width, &word, &[9; SIZE]).0, Err(SheetWidth));
         assert_eq!(read_sheet(width, &vec![0; n], &[9; SIZE]).0, Err(SheetWidth));

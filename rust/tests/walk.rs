@@ -40,11 +40,11 @@ fn whole_walks() {
         let mut walk = Walk::begin(&card);
         assert_eq!(walk, Walk { length: card.len() as u64, next: 1 });
         let count = records(&card);
-        for done in 0..count.div_ceil(STEP) {
-            assert!(!walk.is_done() && walk.next == done * STEP + 1);
+        for first in (1..=count).step_by(STEP as usize) {
+            assert!(!walk.is_done() && walk.next == first);
             let (answer, after) = stepped(walk, &card);
             (walk, card) = (answer.expect("no step is refused"), after);
-            assert!(looks(&card) == seen, "the looks after {} steps over {count} records", done + 1);
+            assert!(looks(&card) == seen, "the looks behind the step from record {first} on, of {count}");
         }
         assert!(walk.is_done() && walk.next == count + 1, "{walk:?}");
         assert!(card == end, "{count} records");

@@ -26,8 +26,8 @@ impl Decoder {
             inverses[a] = row.iter().position(|&product| product == 1).expect("a symbol other than 0 has an inverse") as u8;
         }
         let mut columns = [[0; CHECKS]; PLACES];
-        for k in 0..CHECKS {
-            columns[k][k] = 1;
+        for (k, column) in columns[..CHECKS].iter_mut().enumerate() {
+            column[k] = 1;
         }
         let mut point = 1; // α^i, and its powers 0 to 4 are the column of data symbol i
         for column in &mut columns[CHECKS..] {

@@ -47,9 +47,7 @@ fn records(chance: &mut Chance) {
     let left: Vec<u16> = (0..5).map(|_| if some { [0, 1, 100, 65_535][chance.below(4)] } else { 0 }).collect();
     let paid = dock::restore(bay, &left, &record, reach);
     let line = call("bay_restore").number("bay", bay).numbers("left", &left).bytes("record", &record).reach(reach);
-    line.answered(paid, |line, (changed, left, record)| {
-        line.number("value", changed).numbers("after_left", &left).bytes("after", &record)
-    });
+    line.answered(paid, |line, (changed, left, record)| line.number("value", changed).numbers("after_left", &left).bytes("after", &record));
 }
 
 /// A card checked, and a record of it looked at.
@@ -91,7 +89,7 @@ fn converted(chance: &mut Chance) {
         _ => {}
     }
     new.extend(record_of(MARKS, 3, &[0; 12], &[0, 1, 2, 3, 4][..chance.below(6)]));
-    let length = old.len().div_ceil(OLD_RECORD) * RECORD;
+    let length = old.chunks(OLD_RECORD).len() * RECORD;
     let line = call("card_to_new").bytes("card", &old).number("length", length as u64);
     line.answered(to_new(&old, length), |line, card| line.bytes("after", &card));
     let length = new.len() / RECORD * OLD_RECORD + (chance.below(6) == 0) as usize;

@@ -98,12 +98,14 @@ fn sheets(chance: &mut Chance) {
     let word = match chance.below(8) {
         0 => vec![0; places(width.min(5))],
         1 => chance.symbols(132, 128),
-        _ => encode(7, &symbols, 132).unwrap_or(vec![0; 132]),
+        _ => encode(7, &symbols, 132).unwrap_or_else(|_| vec![0; 132]),
     };
     let read = sheet::read(width, &word, 100);
-    call("read_sheet").number("width", width).bytes("word", &word).number("length", 100u8).answered(read, |line, symbols| {
-        line.bytes("after", &symbols)
-    });
+    call("read_sheet")
+        .number("width", width)
+        .bytes("word", &word)
+        .number("length", 100u8)
+        .answered(read, |line, symbols| line.bytes("after", &symbols));
 }
 
 /// A worn word restored, with a reach every other time, and the syndromes of every third.

@@ -6,11 +6,11 @@ pub mod reading;
 use crate::reference::compare::QUARTERS;
 use crate::reference::sheet::exists;
 use crate::tools::calls;
-use crate::tools::programs::path;
+use crate::tools::programs::Run;
 use crate::tools::sheets::{random_symbols, sheet_record};
 use crate::tools::Chance;
 use std::path::Path;
-use std::process::{Child, Command, Stdio};
+use std::process::{Child, Stdio};
 
 /// The header of a text with the columns slot and changed, or without, as a line.
 pub fn header(with_slots: bool) -> String {
@@ -97,7 +97,5 @@ pub fn takes_arguments(name: &str, usage: &str) {
 
 /// A program that reads and writes pipes, in no more memory than a few batches need.
 pub fn streaming(name: &str, input: Stdio) -> Child {
-    let mut command = Command::new("sh");
-    command.args(["-c", "ulimit -v 50000; exec \"$0\"", &path(name)]).stdin(input).stdout(Stdio::piped()).stderr(Stdio::piped());
-    command.spawn().expect("the program is built by `./package`")
+    Run::shell("ulimit -v 50000 && exec \"$0\"", name, &[]).input(input).begin()
 }

@@ -63,8 +63,9 @@ pub fn card_of(text: &[u8]) -> (Vec<u8>, Option<(usize, &'static str)>) {
     let text = String::from_utf8_lossy(text);
     let mut lines = text.strip_suffix('\n').unwrap_or(&text).split('\n').map(|line| line.strip_suffix('\r').unwrap_or(line));
     let first = lines.next().expect("a line, if an empty one");
-    let Some(with_slots) = [true, false].into_iter().find(|&with_slots| header(with_slots).trim_end() == first) else {
-        return (Vec::new(), Some((1, HEADER)));
+    let with_slots = match [true, false].into_iter().find(|&with_slots| header(with_slots).trim_end() == first) {
+        Some(with_slots) => with_slots,
+        None => return (Vec::new(), Some((1, HEADER))),
     };
     let mut records = Vec::new();
     for (number, line) in (2..).zip(lines) {

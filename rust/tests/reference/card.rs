@@ -139,7 +139,6 @@ pub struct Listing {
 impl Listing {
     /// Adds the line of a piece with this byte 0 and this judgement.
     pub fn add(&mut self, first: u8, judged: Result<u8, u8>) {
-        self.number += 1;
         let (refusal, changed) = match judged {
             Ok(changed) => (0, changed),
             Err(refusal) => (refusal, 0),
@@ -149,13 +148,18 @@ impl Listing {
             Err(_) => self.refused += 1,
         }
         self.changed += changed as u64;
-        self.text += &format!("{} {first} {refusal} {changed}\n", self.number);
+        self.line(&format!("{first} {refusal} {changed}"));
     }
 
     /// Adds the line of a blank slot.
     pub fn add_blank(&mut self) {
+        self.line("blank");
+    }
+
+    /// Adds a line, with its number before these words.
+    fn line(&mut self, words: &str) {
         self.number += 1;
-        self.text += &format!("{} blank\n", self.number);
+        [&self.number.to_string(), " ", words, "\n"].iter().for_each(|part| self.text += part);
     }
 
     /// The whole text, with the line `more` where the card goes on.

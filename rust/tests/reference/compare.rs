@@ -8,7 +8,7 @@ use std::cmp::Ordering;
 pub const QUARTERS: usize = 96;
 
 /// What is handed back: a sign for each quarter hour, how often each of the three was given, and whether the cupboard's sheet was chosen.
-#[derive(Debug, PartialEq)]
+#[derive(Debug, PartialEq, Eq)]
 pub struct Comparison {
     pub signs: Vec<u8>,
     pub totals: [u8; 3],

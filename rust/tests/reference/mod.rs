@@ -5,6 +5,7 @@ pub mod card;
 pub mod compare;
 pub mod dock;
 pub mod masked;
+pub mod once;
 pub mod search;
 pub mod sheet;
 pub mod walk;

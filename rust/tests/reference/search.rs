@@ -1,10 +1,10 @@
 //! A restorer by search, which solves no equations. The errors that may have happened are cut into two parts of at most three places each.
 //! The syndromes of all first parts stand in a table, in which the syndromes that a second part leaves over are looked up.
 
+use super::once::Once;
 use super::{modulus, multiply, order, places, raise, WIDTHS};
 use std::collections::HashMap;
 use std::hash::{BuildHasherDefault, Hasher};
-use std::sync::OnceLock;
 
 /// The most marks that question 3 lets pass.
 pub fn most_marks(width: u8) -> usize {
@@ -99,9 +99,9 @@ enum Near {
 
 /// The search at a width, made once.
 fn decoder(width: u8) -> &'static Decoder {
-    static DECODERS: [OnceLock<Decoder>; WIDTHS.len()] = [const { OnceLock::new() }; WIDTHS.len()];
+    static DECODERS: [Once<Decoder>; WIDTHS.len()] = [Once::new(), Once::new(), Once::new(), Once::new()];
     let at = WIDTHS.iter().position(|&other| other == width).expect("a width of the code");
-    DECODERS[at].get_or_init(|| Decoder::new(width))
+    DECODERS[at].get(|| Decoder::new(width))
 }
 
 /// The search at one width.
@@ -170,7 +170,7 @@ fn meet(word: &[u8], target: Syndromes, firsts: &Table, seconds: impl Iterator<I
             for (p, x) in first.iter().chain(&second) {
                 sum[*p as usize] ^= x;
             }
-            if found.as_ref().is_some_and(|other| *other != sum) {
+            if matches!(&found, Some(other) if *other != sum) {
                 return Near::Several;
             }
             found = Some(sum);

@@ -1,8 +1,8 @@
 //! Day sheets, as document 02 describes them. A date exists where it is one of the days counted from 1 January 2000 on.
 
+use super::once::Once;
 use super::{ask, encode, places, syndromes};
 use std::collections::HashSet;
-use std::sync::OnceLock;
 
 /// Symbols of a sheet.
 pub const SIZE: usize = 100;
@@ -33,8 +33,8 @@ fn date(day: usize) -> [u8; 3] {
 
 /// Question 12.
 pub fn exists(year: u8, month: u8, day: u8) -> bool {
-    static DATES: OnceLock<HashSet<[u8; 3]>> = OnceLock::new();
-    DATES.get_or_init(|| (0..DAYS).map(date).collect()).contains(&[year, month, day])
+    static DATES: Once<HashSet<[u8; 3]>> = Once::new();
+    DATES.get(|| (0..DAYS).map(date).collect()).contains(&[year, month, day])
 }
 
 /// Questions 11 and 12.

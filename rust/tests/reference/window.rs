@@ -47,7 +47,10 @@ pub fn report(card: &[u8], first: u8, end: u8, length: usize) -> Result<Vec<u64>
 /// mean.
 fn row(sheets: &[&[u8]], window: &Range<usize>) -> [u64; ROW] {
     let counts = || sheets.iter().flat_map(|symbols| &symbols[window.clone()]);
-    let Some(&highest) = counts().max() else { return [0; ROW] };
+    let highest = match counts().max() {
+        Some(&highest) => highest,
+        None => return [0; ROW],
+    };
     let (number, sum) = (sheets.len() as u64, counts().map(|&count| count as u64).sum::<u64>());
     let full = counts().filter(|&&count| count == 127).count() as u64;
     let reaches = |symbols: &&&[u8]| symbols[window.clone()].contains(&highest);

@@ -50,7 +50,10 @@ pub fn words(refusal: u8) -> &'static str {
 /// The end of cardcheck. It reads no further than the batch of the first refused record, and knows the card's length only at its end.
 pub fn checked(card: &[u8], file: &str) -> Ended {
     let hint = hint("cardcheck", file, card.len());
-    let Err(number) = check(card) else { return Ended::new(0, "ok\n", hint) };
+    let number = match check(card) {
+        Ok(()) => return Ended::new(0, "ok\n", hint),
+        Err(number) => number,
+    };
     let before = number as usize - 1;
     let refusal = judge(card.chunks(RECORD).nth(before).expect("the record")).expect_err("a refused record");
     let behind = card.len() - before / BATCH_SLOTS * BATCH_SLOTS * RECORD;
@@ -118,7 +121,7 @@ pub fn table(card: &[u8], first: usize, end: usize) -> String {
     let numbers = report(card, first as u8, end as u8, REPORT).expect("a window");
     let (rows, last) = numbers.split_at(PUMPS * ROW);
     let line = |(pump, row): (usize, &[u64])| {
-        let [sheets, sum, full, highest, year, month, day, quotient, remainder] = *row else { panic!("nine numbers") };
+        let [sheets, sum, full, highest, year, month, day, quotient, remainder] = <[u64; ROW]>::try_from(row).expect("nine numbers");
         let century = if year < 100 { 20 } else { 21 };
         let date = format!("{century}{:02}-{month:02}-{day:02}", year % 100);
         (sheets > 0).then(|| format!("{pump} {sheets} {sum} {full} {highest} {date} {quotient} {remainder}\n"))

@@ -1,14 +1,16 @@
-//! Runs the packaged programs, also with faults, and tells how they ended.
+//! Runs the packaged programs, also with faults, and tells how they ended. Nothing of the environment in which the tests are started reaches
+//! them but the path.
 
+use crate::reference::once::Once;
 use std::ffi::OsStr;
-use std::fmt;
 use std::fs::{self, File};
-use std::io::Write;
+use std::io::{Error, Write};
+use std::ops::Deref;
 use std::os::unix::process::CommandExt;
 use std::path::{Path, PathBuf};
-use std::process::{Command, Output, Stdio};
-use std::sync::OnceLock;
-use std::thread;
+use std::process::{id, Child, Command, Output, Stdio};
+use std::sync::atomic::{AtomicUsize, Ordering};
+use std::{env, fmt, ptr, thread};
 
 pub const PROGRAMS: [&str; 9] =
     ["cardlist", "cardcheck", "cardrestore", "cardconvert", "cardstarts", "cardsheets", "cardwrite", "cardlook", "cardcompare"];
@@ -35,7 +37,7 @@ pub fn path(name: &str) -> String {
 }
 
 /// How a program ended: its status, none where a signal ended it; what it wrote on standard output, and what it said on standard error.
-#[derive(Clone, PartialEq)]
+#[derive(Clone, PartialEq, Eq)]
 pub struct Ended {
     pub status: Option<i32>,
     pub out: Vec<u8>,
@@ -92,16 +94,44 @@ impl Fault {
     }
 }
 
-/// The library of c/fault.c, compiled once, as it is found from a test's folder: the loader takes no name with a space.
+/// The library of c/fault.c, compiled once, as it is found from a test's folder: the loader takes no name with a space. It gets its name
+/// when it is whole, since other tests of the same repository may be using it.
 fn library() -> &'static str {
-    static LIBRARY: OnceLock<String> = OnceLock::new();
-    LIBRARY.get_or_init(|| {
+    static LIBRARY: Once<String> = Once::new();
+    LIBRARY.get(|| {
         let name = format!("{}-fault.so", env!("CARGO_CRATE_NAME"));
-        let flags = ["-std=c99", "-O1", "-Wall", "-Wextra", "-Werror", "-shared", "-fPIC", "-o", &name];
+        let begun = format!("{}-{name}", id());
+        let flags = ["-std=c99", "-O1", "-Wall", "-Wextra", "-Werror", "-shared", "-fPIC", "-o", &begun];
         let compiler = Command::new("cc").args(flags).arg(repository("c/fault.c")).current_dir(room()).status();
         assert!(compiler.expect("a C compiler").success(), "cc c/fault.c");
+        fs::rename(room().join(begun), room().join(&name)).expect("a new name");
         format!("../{name}")
     })
+}
+
+extern "C" {
+    fn setgroups(count: usize, groups: *const u32) -> i32;
+    fn setgid(group: u32) -> i32;
+    fn setuid(user: u32) -> i32;
+}
+
+/// Lets the command run as the user nobody. `CommandExt::uid` comes before the change to the current folder, of which nobody may not have
+/// the folders above; this comes behind it.
+fn as_nobody(command: &mut Command) {
+    const NOBODY: u32 = 65534;
+    let become_nobody = || match unsafe { setgroups(0, ptr::null()) == 0 && setgid(NOBODY) == 0 && setuid(NOBODY) == 0 } {
+        true => Ok(()),
+        false => Err(Error::last_os_error()),
+    };
+    // Safe: between fork and exec these three calls are made and no other, and they lend no memory.
+    unsafe { command.pre_exec(become_nobody) };
+}
+
+/// May a program run as nobody? Not where the system knows one user alone, as in some containers.
+pub fn nobody_is_there() -> bool {
+    let mut command = Command::new("true");
+    as_nobody(&mut command);
+    command.status().map_or(false, |status| status.success())
 }
 
 /// A program that is to run. Its standard input is empty where nothing else is said.
@@ -123,8 +153,16 @@ impl Run {
     }
 
     pub fn of(mut command: Command) -> Run {
-        command.stdin(Stdio::null());
+        command.stdin(Stdio::null()).env_clear().envs(env::var_os("PATH").map(|path| ("PATH", path)));
         Run { command, log: None }
+    }
+
+    /// With a stack of 128 KiB, and no environment: that is a part of the stack, as are up to 8 KiB that the system leaves out by chance, and
+    /// cardconvert needs nearly all of the rest.
+    pub fn with_small_stack(name: &str, arguments: &[&str]) -> Run {
+        let mut run = Run::shell("ulimit -s 128 && exec \"$0\" \"$@\"", name, arguments);
+        run.command.env_clear();
+        run
     }
 
     fn arguments(self, arguments: &[&str]) -> Run {
@@ -153,9 +191,9 @@ impl Run {
         self
     }
 
-    /// As the user nobody.
-    pub fn as_nobody(mut self) -> Run {
-        self.command.uid(65534).gid(65534);
+    /// As the user nobody, who must be able to reach the program from the current folder on.
+    pub fn by_nobody(mut self) -> Run {
+        as_nobody(&mut self.command);
         self
     }
 
@@ -177,14 +215,22 @@ impl Run {
     /// How it ended, and how often the fault happened, where there is one.
     pub fn end_counting(mut self) -> (Ended, Option<u64>) {
         let output = self.command.output().expect("the program is built by `./package`");
-        let faults = self.log.map(|log| fs::metadata(log).map_or(0, |file| file.len()));
+        let faults = self.log.map(|log| {
+            let count = fs::metadata(&log).map_or(0, |file| file.len());
+            let _ = fs::remove_file(log);
+            count
+        });
         (Ended::of(output), faults)
     }
 
+    /// Begins, and writes to pipes.
+    pub fn begin(mut self) -> Child {
+        self.command.stdout(Stdio::piped()).stderr(Stdio::piped()).spawn().expect("the program is built by `./package`")
+    }
+
     /// Through a pipe on what `make` writes.
-    pub fn fed(mut self, make: impl FnOnce(&mut dyn Write) + Send) -> Ended {
-        let piped = self.command.stdin(Stdio::piped()).stdout(Stdio::piped()).stderr(Stdio::piped());
-        let mut program = piped.spawn().expect("the program is built by `./package`");
+    pub fn fed(self, make: impl FnOnce(&mut dyn Write) + Send) -> Ended {
+        let mut program = self.input(Stdio::piped()).begin();
         let mut input = program.stdin.take().expect("a pipe");
         thread::scope(|scope| {
             scope.spawn(move || make(&mut input));
@@ -200,22 +246,44 @@ impl Run {
     }
 }
 
-/// Where tests may make files. An example that takes this module in has no such folder.
-fn room() -> &'static str {
-    option_env!("CARGO_TARGET_TMPDIR").expect("a test")
+/// Where tests may make files, and run programs as they are run there themselves. An example that takes this module in has no such folder.
+fn room() -> &'static Path {
+    match option_env!("CARGO_TARGET_TMPDIR") {
+        Some(room) => Path::new(room),
+        None => panic!("a folder is for tests alone"),
+    }
 }
 
-/// A folder of this test's own, empty. The thread of a test has its name, or the tests run one after the other.
-pub fn folder(name: &str) -> PathBuf {
+/// A folder of a test, which is removed at its end, also where the test fails.
+pub struct Folder(PathBuf);
+
+impl Deref for Folder {
+    type Target = Path;
+
+    fn deref(&self) -> &Path {
+        &self.0
+    }
+}
+
+impl Drop for Folder {
+    fn drop(&mut self) {
+        let _ = fs::remove_dir_all(&self.0);
+    }
+}
+
+/// An empty folder that nobody else has: no other process, and no other call of this one. The thread of a test has its name.
+pub fn folder(name: &str) -> Folder {
+    static COUNT: AtomicUsize = AtomicUsize::new(0);
     let test = thread::current().name().expect("a test").replace("::", "-");
-    let folder = Path::new(room()).join(format!("{}-{test}-{name}", env!("CARGO_CRATE_NAME")));
-    let _ = fs::remove_dir_all(&folder);
-    fs::create_dir_all(&folder).expect("a folder");
+    let count = COUNT.fetch_add(1, Ordering::Relaxed);
+    let folder = Folder(room().join(format!("{}-{}-{count}-{test}-{name}", env!("CARGO_CRATE_NAME"), id())));
+    let _ = fs::remove_dir_all(&*folder);
+    fs::create_dir_all(&*folder).expect("a folder");
     folder
 }
 
 /// The same with a file `card` that holds these bytes.
-pub fn folder_with(name: &str, card: &[u8]) -> PathBuf {
+pub fn folder_with(name: &str, card: &[u8]) -> Folder {
     let folder = folder(name);
     fs::write(folder.join("card"), card).expect("a card");
     folder
