@@ -5,26 +5,19 @@ use mathlib.Core.Path.{_≡_, refl, sym, ap, _∙_}
 use mathlib.Core.Bool.{true}
 use mathlib.Core.List.{List, [], _++_}
 use Prim.Native.Nat.{ℕ, zero, suc, _-_, _≤_}
-use native.Mathlib.Decide.{ℕ-discrete}
 use native.Mathlib.Nat.{le-refl}
 use native.Mathlib.Omega.{arith}
 use lib.Dec.{leb·zero}
 use lib.ListN.{length, drop, replicate, length-append, length-replicate}
 use lib.Seq.{take-at, drop-at, drop-drop}
-use Rattle.field.specs.Field.{order}
 use Rattle.field.specs.Question.{Outcome, accepted, refused, after, isWidth}
 use Rattle.field.specs.declared.Verdict.{Verdict}
 use Rattle.field.specs.declared.Verdict.the-variants.{Passed, Refused}
 use Rattle.code.specs.Word.{places, longest, Codeword}
-use Rattle.code.specs.Erasure.{changes}
-use Rattle.code.specs.Near.{radius, Near}
-use Rattle.code.specs.Call.{maxErasures, restoreAsked, withinOf, withinWritten}
-use Rattle.code.specs.Demands.{Passes, PassesWithin, Nearest}
-use Rattle.code.proofs.Questions.{symbols-holds}
+use Rattle.code.specs.Near.{radius}
+use Rattle.code.specs.Call.{withinOf, withinWritten}
 use Rattle.code.proofs.Lengths.{places-most}
-use Rattle.code.proofs.restoring.Filling.{agrees-changes}
-use Rattle.code.proofs.calls.Passing.{passes-within}
-use Rattle.code.proofs.Demands.{never-two, accepts}
+use Rattle.code.proofs.Demands.{accepts, codeword-stays}
 use Rattle.card.specs.declared.RestoredCopy.{RestoredCopy}
 use Rattle.card.specs.Record.{erasureBytes, recordSize, widthOf, erasuresOf, wordOf, allAre, allowedIn, askedIn}
 use Rattle.card.specs.inner.Parts.{headerSize, tailOf}
@@ -32,40 +25,6 @@ use Rattle.card.specs.Record.{recordAsked, clearRecord, onAccept, record
 use Rattle.card.specs.Record.{copyWritten, RestoresCopy}
 use Rattle.card.proofs.Layouts.{Asked, asked}
 use Rattle.card.proofs.Recording.{copy-accepted, copy-refused}
-
--- ---- a codeword without erasures is its own near codeword, and the only one
-
-module _ (m : ℕ) (h : isWidth m ≡ true) (c : List ℕ) (C : Codeword m c) where
-  codeword-passes : Passes m c []
-  unfolding restoreAsked
-  codeword-passes =
-      simp (
-        h,
-        eq-eqb (length c) (places m) (C .size),
-        leb·zero (maxErasures m),
-        symbols-holds (order m) [] c (λ k l o. C .symbols k (omega (arith, C .size))),
-      )
-
-  unchanged : changes m [] c c ≤ 0
-  unchanged = agrees-changes m [] c c (λ p l o. refl)
-
-  module _ (reach : ℕ) (l : reach ≤ radius m 0) where
-    passes : PassesWithin m c [] reach
-    passes = passes-within m c [] reach codeword-passes l
-
-    near : Near m [] c reach c
-    near = record { codeword = C; few = omega (arith, unchanged) }
-
-    nearest : Nearest m c [] reach c 0
-    nearest =
-        record {
-          near = near;
-          only = λ d N. never-two m c [] reach passes (omega arith) d c N near;
-          count = omega (arith, unchanged);
-        }
-
-    codeword-restored : (withinOf m c [] reach ≡ accepted 0) × (withinWritten m c [] reach ≡ c)
-    codeword-restored = accepts m c [] reach 0 c .1 (passes, nearest)
 
 -- ---- a record that holds a codeword and has no erasures
 
@@ -101,7 +60,7 @@ module _ (m : ℕ) (h : isWidth m ≡ true) (c : List ℕ) (C : Codeword m c) wh
   module _ (reach : ℕ) (l : reach ≤ radius m 0) where
     clear-restored : (withinOf m (wordOf (clearRecord m c)) [] reach ≡ accepted 0)
         × (withinWritten m (wordOf (clearRecord m c)) [] reach ≡ c)
-    clear-restored = rw clear-word (codeword-restored m h c C reach l)
+    clear-restored = rw clear-word (codeword-stays m h c C reach l)
 
     pub clear-accepted : recordWithinOf (clearRecord m c) reach ≡ accepted 0
     unfolding recordWithinOf

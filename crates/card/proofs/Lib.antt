@@ -21,3 +21,4 @@ pub mod Editions  -- a slot of the old edition, and the same slot in the new
 pub mod ThereAndBack  -- whole cards: `there-and-back`, `back-and-there`, `new-same`, `old-same`
 pub mod Findings  -- the questions over a card in parts: `found-in-parts`, `to-new-in-parts`, `to-old-in-parts`, `number-is`
 pub mod Coming  -- from batch to batch, whatever is carried (`came-more`), and that its numbers are small
+pub mod Demands  -- the statements of specs/Demands.antt

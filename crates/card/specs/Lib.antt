@@ -10,4 +10,5 @@ pub mod Checked  -- the card check as a line of text, also of a card in parts
 pub mod Conversion  -- cards between the two editions: questions, answer, output; there and back, and that each slot stays the same
 pub mod Leading  -- how many of a conversion's questions a slot or a card passes before the first that it does not
 pub mod Findings  -- a conversion's questions over a card in parts, and what is asked of them
+pub mod Demands  -- demand 3 at a record, and what is asked of card check, blank slots and listing
 pub mod inner  -- vocabulary of inner functions, which no contract of a call, demand or stated theorem cites

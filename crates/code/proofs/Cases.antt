@@ -8,8 +8,8 @@ use Rattle.code.specs.Word.{sum, at, Codeword}
 use Rattle.code.specs.inner.Place.{column}
 use Rattle.code.specs.Erasure.{total}
 use Rattle.code.specs.Call.{zeroSyndromes, restoreAsked}
+use Rattle.code.specs.Demands.{DistanceNotFive}
 use Rattle.code.specs.Cases.{Case, starred, fiveErasures, fourSymbols, widthFour, cases, Table}
-use Rattle.code.proofs.distance.DistanceLaw.{Distance}
 use Rattle.code.proofs.Columns.{combine}
 use Rattle.code.proofs.CaseTable.{table?, table-of, codeword-of}
 use Rattle.code.proofs.FiveErasures.{five-hold}
@@ -33,7 +33,7 @@ pub cases-hold : Table cases
 cases-hold = both-hold starred (fiveErasures ++ widthFour) (table-of starred starred-pass) (both-hold fiveErasures widthFour five-hold four-hold)
 
 -- four symbols of it are other than 0
-pub distance-not-five : Distance 4 5 → ⊥
+pub distance-not-five : DistanceNotFive
 unfolding total
 distance-not-five d =
     let z = d (at fourSymbols) (four-codeword .symbols) (four-codeword .zero-syndromes) (lit< tt) 2 (lit< tt) in

@@ -6,19 +6,30 @@ use mathlib.Core.List.{List, [], _∷_, map}
 use Prim.Native.Nat.{ℕ, _+_, _-_, _/_}
 use native.Mathlib.Omega.{arith}
 use lib.ListN.{length}
-use Rattle.field.specs.Question.{Outcome, accepted, after, isWidth}
+use Rattle.field.specs.Question.{Outcome, accepted, refused, after, isWidth}
 use Rattle.field.specs.declared.Verdict.{Verdict}
+use Rattle.field.specs.declared.Verdict.the-variants.{Passed, Refused as RefusedBy}
+use Rattle.field.proofs.Demands.{numbers-tell}
 use Rattle.field.proofs.Widths.{field-of}
 use Rattle.field.proofs.Evaluation.{five-cong}
 use Rattle.code.specs.Word.{places, at, syndrome, Codeword, encode, dataOf}
+use Rattle.code.specs.declared.Repair.{Repair}
+use Rattle.code.specs.declared.Repair.the-variants.{Restored, Refused}
 use Rattle.code.specs.Erasure.{syndromesWithout}
+use Rattle.code.specs.Near.{distance, radius, Restoration, none, one, several, restoration}
+use Rattle.code.specs.Call.{restoreAsked, decided, repair, RestoresWithin}
 use Rattle.code.specs.Call.{written, done, withinWritten, shown, allZero, zeroSyndromes, encodeOf, encodeWritten, isCodewordOf}
 use Rattle.code.specs.Demands.{Data, EncoderMakes, EncoderMade, ReadBack, TestsCodeword, Radii, NeverTwo, Accepts, RefusesSeven, RefusesFourteen, FewErasures}
 use Rattle.code.specs.Demands.{AsEarlier, LongerReach, ShorterReach, RefusedUnchanged, FewChanged, SameRestored, MethodsAgree, GivesPlain}
-use Rattle.code.specs.Demands.{GivesZero, SameGiven}
+use Rattle.code.specs.Demands.{GivesZero, SameGiven, DistanceOf, CodewordsApart, Passes, PassesWithin, Decoded, RestorerDecodes, ReachDecodes}
+use Rattle.code.specs.Demands.{EarlierRefused, SameDecoded, SameWithin, RefusalNumbers, CodewordStays}
 use Rattle.code.proofs.calls.Encoding.{encode-codeword, encode-data, codeword-data, codeword-encode}
-use Rattle.code.proofs.calls.Passing.{encode-passes, read-passes, test-codeword, zero-syndromes, five-zero, given, within-passes}
+use Rattle.code.proofs.calls.Passing.{encode-passes, read-passes, test-codeword, zero-syndromes, five-zero, given, within-passes, passes-radius}
+use Rattle.code.proofs.Members.{same-length}
+use Rattle.code.proofs.distance.Unique.{apart}
+use Rattle.code.proofs.distance.DistanceLaw as DistanceLaw
 use Rattle.code.proofs.restoring.Restoring as Restoring
+use Rattle.code.proofs.restoring.Staying as Staying
 
 -- ---- demand 2
 
@@ -61,6 +72,14 @@ tests-codeword m w p = judged (zeroSyndromes m w) (isCodewordOf m w)
     (ap (λ (v : Verdict). after v (accepted (cond (zeroSyndromes m w) 1 0))) p)
     (test-codeword m w p, λ C. zero-syndromes m w (C .zero-syndromes))
 
+-- ---- the distance
+
+pub distance-of : DistanceOf
+distance-of = DistanceLaw.distance-of
+
+pub codewords-apart : CodewordsApart
+codewords-apart m h c d C D few = apart (field-of m h) (distance m) (distance-of m h) C D few
+
 -- ---- demand 3
 
 pub radii : Radii
@@ -87,6 +106,12 @@ few-erasures = Restoring.few-erasures
 pub as-earlier : AsEarlier
 as-earlier = Restoring.as-earlier
 
+pub refusal-numbers : RefusalNumbers
+refusal-numbers = Staying.refusal-numbers
+
+pub codeword-stays : CodewordStays
+codeword-stays = Staying.codeword-stays
+
 pub longer-reach : LongerReach
 longer-reach = Restoring.longer-reach
 
@@ -106,6 +131,75 @@ same-restored = Restoring.same-restored
 
 pub methods-agree : MethodsAgree
 methods-agree m w es reach a b u v A B = (A .answer ∙ sym (B .answer), A .word ∙ sym (B .word))
+
+-- ---- demand 3 of the calls themselves
+
+-- an answer is given back by its outcome: the refusal number tells the question
+pub repair-tells : (a b : Repair) → repair a ≡ repair b → a ≡ b
+repair-tells (Restored k) (Restored l) e = ap Restored (cc)
+repair-tells (Restored k) (Refused p) e = let z : _≡_ {A = ℕ} 0 1 = cc in absurd (omega arith)
+repair-tells (Refused q) (Restored l) e = let z : _≡_ {A = ℕ} 0 1 = cc in absurd (omega arith)
+repair-tells (Refused q) (Refused p) e = ap Refused (numbers-tell q p (cc))
+
+pub reach-decodes : ReachDecodes
+reach-decodes m w es reach a u R =
+    record {
+      never-two = never-two m w es reach;
+      restored = λ k c. (
+        λ h. accepts m w es reach k c .0 (sym (R .answer) ∙ h .0, sym (R .word) ∙ h .1),
+        λ h. (let x = accepts m w es reach k c .1 h in (R .answer ∙ x .0, R .word ∙ x .1)),
+      );
+      none-near = (λ e. refuses-seven m w es reach .0 (sym (R .answer) ∙ e), λ h. R .answer ∙ refuses-seven m w es reach .1 h);
+      several-near = (λ e. refuses-fourteen m w es reach .0 (sym (R .answer) ∙ e), λ h. R .answer ∙ refuses-fourteen m w es reach .1 h);
+      refused-unchanged = λ n e. R .word ∙ refused-unchanged m w es reach n (sym (R .answer) ∙ e);
+    }
+
+-- the questions may be said in another way
+pub decoded-as : (P Q : Type 0) (m : ℕ) (w es : List ℕ) (reach : ℕ) (a : Repair) (u : List ℕ) → (P → Q) → (Q → P) → Decoded P m w es reach a u
+    → Decoded Q m w es reach a u
+decoded-as P Q m w es reach a u f g D =
+    record {
+      never-two = λ q. D .never-two (g q);
+      restored = λ k c. (
+        λ h. (let x = D .restored k c .0 h in (f (x .0), x .1)),
+        λ h. D .restored k c .1 (g (h .0), h .1),
+      );
+      none-near = (λ e. (let x = D .none-near .0 e in (f (x .0), x .1)), λ h. D .none-near .1 (g (h .0), h .1));
+      several-near = (λ e. (let x = D .several-near .0 e in (f (x .0), x .1)), λ h. D .several-near .1 (g (h .0), h .1));
+      refused-unchanged = D .refused-unchanged;
+    }
+
+pub restorer-decodes : RestorerDecodes
+restorer-decodes m w es a u R =
+    decoded-as (PassesWithin m w es (radius m (length es))) (Passes m w es) m w es (radius m (length es)) a u
+    (λ p. sym (passes-radius m w es) ∙ p) (λ p. passes-radius m w es ∙ p) (reach-decodes m w es (radius m (length es)) a u R)
+
+pub earlier-refused : EarlierRefused
+earlier-refused m w es a u n R h k =
+    let x = restoration m es w (radius m (length es)) in
+    let asked : repair a ≡ after (restoreAsked m w es) (decided m w es x) =
+    R .answer ∙ ap (λ (v : Verdict). after v (decided m w es x)) (passes-radius m w es) in (
+      λ e. go (restoreAsked m w es) x .0 (sym asked ∙ e),
+      λ e. asked ∙ go (restoreAsked m w es) x .1 e,
+    )
+  where
+    go : (v : Verdict) (x : Restoration) → (after v (decided m w es x) ≡ refused n) ↔ (done v ≡ refused n)
+    go (RefusedBy q) x = (λ e. e, λ e. e)
+    go Passed none = (λ e. absurd (h (cc)), λ e. absurd (let z : _≡_ {A = ℕ} 0 1 = cc in omega arith))
+    go Passed (one c) = (λ e. absurd (let z : _≡_ {A = ℕ} 0 1 = cc in omega arith), λ e. absurd (let z : _≡_ {A = ℕ} 0 1 = cc in omega arith))
+    go Passed several = (λ e. absurd (k (cc)), λ e. absurd (let z : _≡_ {A = ℕ} 0 1 = cc in omega arith))
+
+pub same-within : SameWithin
+same-within m w w′ es es′ reach a a′ u u′ R R′ l s o =
+    let S = same-restored m w w′ es es′ reach l s o in (
+      repair-tells a a′ (R .answer ∙ S .0 ∙ sym (R′ .answer)),
+      λ k e. R .word ∙ S .1 k (sym (R .answer) ∙ e) ∙ sym (R′ .word),
+    )
+
+pub same-decoded : SameDecoded
+same-decoded m w w′ es es′ a a′ u u′ R R′ l s o =
+    same-within m w w′ es es′ (radius m (length es)) a a′ u u′ R
+    (subst (λ (n : ℕ). RestoresWithin m w′ es′ (radius m n) a′ u′) (sym (same-length es es′ s)) R′) l s o
 
 -- ---- the display of the syndromes
 

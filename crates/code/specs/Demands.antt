@@ -15,10 +15,10 @@ use Rattle.field.specs.declared.Verdict.the-variants.{Passed}
 use Rattle.code.specs.declared.Repair.{Repair}
 use Rattle.code.specs.Word.{checks, five, places, items, at, syndrome, Codeword, dataOf}
 use Rattle.code.specs.Erasure.{member, distinct, symbolsFrom, changes}
-use Rattle.code.specs.Near.{distance, radius, Near, nearby}
+use Rattle.code.specs.Near.{distance, Distance, radius, Near, nearby}
 use Rattle.code.specs.Call.{maxErasures, encodeOf, encodeWritten, isCodewordAsked, isCodewordOf, readDataOf, readDataWritten, restoreAsked}
 use Rattle.code.specs.Call.{syndromesOf, syndromesGiven, withinAsked, withinOf, withinWritten}
-use Rattle.code.specs.Call.{written, wordAsked, restoreOf, restoreWritten, repair, RestoresWithin}
+use Rattle.code.specs.Call.{written, done, wordAsked, restoreOf, restoreWritten, repair, RestoresWithin, Restores}
 
 -- ---- demand 2
 
@@ -50,6 +50,20 @@ abbrev pub TestsCodeword : Type 0
 TestsCodeword =
     (m : ℕ) (w : List ℕ) → isCodewordAsked m w ≡ Passed
     → ((isCodewordOf m w ≡ accepted 1) ↔ Codeword m w) × ((isCodewordOf m w ≡ accepted 0) ↔ (Codeword m w → ⊥))
+
+-- ---- the distance
+
+-- a codeword with fewer symbols other than 0 than the distance is zero: the distance is 5 at an odd width, 4 at an even one
+abbrev pub DistanceOf : Type 0
+DistanceOf = (m : ℕ) → isWidth m ≡ true → Distance m (distance m)
+
+-- at width 4 it is not 5
+abbrev pub DistanceNotFive : Type 0
+DistanceNotFive = Distance 4 5 → ⊥
+
+-- two codewords that differ at fewer places than the distance are one
+abbrev pub CodewordsApart : Type 0
+CodewordsApart = (m : ℕ) → isWidth m ≡ true → (c d : List ℕ) → Codeword m c → Codeword m d → changes m [] c d < distance m → c ≡ d
 
 -- ---- demand 3
 
@@ -149,6 +163,18 @@ AsEarlier =
 abbrev pub RefusedUnchanged : Type 0
 RefusedUnchanged = (m : ℕ) (w es : List ℕ) (reach n : ℕ) → withinOf m w es reach ≡ refused n → withinWritten m w es reach ≡ w
 
+-- the numbers with which restoring a word is refused: those of the questions 1 to 3 and 5 to 8, 14 and 16
+abbrev pub RefusalNumbers : Type 0
+RefusalNumbers =
+    (m : ℕ) (w es : List ℕ) (reach n : ℕ) → withinOf m w es reach ≡ refused n
+    → (1 ≤ n) × (n ≤ 16) × (member n (1 ∷ 2 ∷ 3 ∷ 4 ∷ 5 ∷ 6 ∷ 7 ∷ 14 ∷ 16 ∷ []) ≡ true)
+
+-- a codeword without erasures is restored at every reach allowed, with no change, and stays
+abbrev pub CodewordStays : Type 0
+CodewordStays =
+    (m : ℕ) → isWidth m ≡ true → (c : List ℕ) → Codeword m c → (reach : ℕ) → reach ≤ radius m 0
+    → (withinOf m c [] reach ≡ accepted 0) × (withinWritten m c [] reach ≡ c)
+
 -- what is restored at a reach is restored equally at each longer one allowed
 abbrev pub LongerReach : Type 0
 LongerReach =
@@ -195,6 +221,54 @@ abbrev pub MethodsAgree : Type 0
 MethodsAgree =
     (m : ℕ) (w es : List ℕ) (reach : ℕ) (a b : Repair) (u v : List ℕ) → RestoresWithin m w es reach a u → RestoresWithin m w es reach b v
     → (repair a ≡ repair b) × (u ≡ v)
+
+-- ---- demand 3 of the calls themselves
+
+-- Of a call that was lent the word w with the erasures es, answered a and left u in the word's place: what demand 3 says of it at a reach.
+-- `passes` says that the input passes the questions before question 8
+pub record Decoded (passes : Type 0) (m : ℕ) (w es : List ℕ) (reach : ℕ) (a : Repair) (u : List ℕ) : Type 0 where
+  -- with fewer erasures than the distance there is never more than one near codeword
+  pub never-two : passes → length es < distance m → (c d : List ℕ) → Near m es w reach c → Near m es w reach d → c ≡ d
+  -- k places are restored and the word ends as c exactly when the input passes and c is the one near codeword, with k its count
+  pub restored : (k : ℕ) (c : List ℕ) → ((repair a ≡ accepted k) × (u ≡ c)) ↔ (passes × Nearest m w es reach c k)
+  -- refused with 7 exactly when the input passes and no codeword is near
+  pub none-near : (repair a ≡ refused 7) ↔ (passes × ((c : List ℕ) → Near m es w reach c → ⊥))
+  -- with 14 exactly when it passes and several are near
+  pub several-near : (repair a ≡ refused 14) ↔ (passes × TwoNear m es w reach)
+  -- and if it is refused at all, the word is as it was
+  pub refused-unchanged : (n : ℕ) → repair a ≡ refused n → u ≡ w
+
+-- so does every call that keeps the contract of the calls without a reach: the restorer decodes
+abbrev pub RestorerDecodes : Type 0
+RestorerDecodes =
+    (m : ℕ) (w es : List ℕ) (a : Repair) (u : List ℕ) → Restores m w es a u → Decoded (Passes m w es) m w es (radius m (length es)) a u
+
+-- and every call that keeps the contract of the calls with a reach
+abbrev pub ReachDecodes : Type 0
+ReachDecodes =
+    (m : ℕ) (w es : List ℕ) (reach : ℕ) (a : Repair) (u : List ℕ) → RestoresWithin m w es reach a u
+    → Decoded (PassesWithin m w es reach) m w es reach a u
+
+-- any other number is that of the first earlier question that is answered no
+abbrev pub EarlierRefused : Type 0
+EarlierRefused =
+    (m : ℕ) (w es : List ℕ) (a : Repair) (u : List ℕ) (n : ℕ) → Restores m w es a u → n ≢ 7 → n ≢ 14
+    → (repair a ≡ refused n) ↔ (done (restoreAsked m w es) ≡ refused n)
+
+-- the last sentence of demand 3, of two calls without a reach: words of one width and length that agree outside the same erasures get the
+-- same answers, case and question, and if they are accepted they end equal, at every place
+abbrev pub SameDecoded : Type 0
+SameDecoded =
+    (m : ℕ) (w w′ es es′ : List ℕ) (a a′ : Repair) (u u′ : List ℕ) → Restores m w es a u → Restores m w′ es′ a′ u′
+    → length w ≡ length w′ → SameErasures es es′ → AgreeOutside es w w′
+    → (a ≡ a′) × ((k : ℕ) → repair a ≡ accepted k → u ≡ u′)
+
+-- and of two calls at the same reach
+abbrev pub SameWithin : Type 0
+SameWithin =
+    (m : ℕ) (w w′ es es′ : List ℕ) (reach : ℕ) (a a′ : Repair) (u u′ : List ℕ) → RestoresWithin m w es reach a u
+    → RestoresWithin m w′ es′ reach a′ u′ → length w ≡ length w′ → SameErasures es es′ → AgreeOutside es w w′
+    → (a ≡ a′) × ((k : ℕ) → repair a ≡ accepted k → u ≡ u′)
 
 -- ---- the display of the syndromes
 

@@ -1,17 +1,29 @@
 -- The codewords near a word, and its restoration. The lists here are far too long to be computed; they say what is meant, and the proofs
 -- reason about them. Nobody has to believe the lists: `NeverTwo`, `Accepts`, `RefusesSeven` and `RefusedUnchanged` of Demands.antt say what
 -- the restorer does, on every input, without them. Assumes nothing.
+use mathlib.Core.Path.{_≡_}
 use mathlib.Core.Bool.{Bool, cond}
 use mathlib.Core.List.{List, [], _∷_, _++_, map}
-use Prim.Native.Nat.{ℕ, zero, suc, _+_, _-_, _/_, _%_, _≤_}
+use Prim.Native.Nat.{ℕ, zero, suc, _+_, _-_, _/_, _%_, _≤_, _<_}
 use lib.Dec.{leb}
 use Rattle.field.specs.Field.{order}
-use Rattle.code.specs.Word.{items, Codeword, encode}
-use Rattle.code.specs.Erasure.{changes}
+use Rattle.code.specs.Word.{checks, places, items, syndrome, Codeword, encode}
+use Rattle.code.specs.Erasure.{total, changes}
 
 -- the code's distance: two codewords differ at five places or more at an odd width, at four or more at an even one
 abbrev pub distance : ℕ → ℕ
 distance m = 4 + m % 2
+
+-- 1 where the number is not 0
+abbrev pub nonzero : ℕ → ℕ
+nonzero zero = 0
+nonzero (suc n) = 1
+
+-- the code's distance is at least d: a word with zero syndromes and fewer than d nonzero symbols is zero
+abbrev pub Distance : ℕ → ℕ → Type 0
+Distance m d =
+    (e : ℕ → ℕ) → ((p : ℕ) → p < places m → e p < order m) → ((k : ℕ) → k < checks → syndrome m e k ≡ 0)
+    → total (places m) (λ p. nonzero (e p)) < d → (p : ℕ) → p < places m → e p ≡ 0
 
 -- the radius r, the number of silent wrong symbols that are restored beside s erasures: at an odd width 2, 1, 1, 0, 0, 0 for s from 0 to 5,
 -- at an even one 1, 1, 0, 0 for s from 0 to 3

@@ -22,7 +22,7 @@ module _ (left : Rewrites) (c : Call) where
   abbrev uses : ℕ
   uses = cond (same (c .lent) (callWritten left c)) 0 1
 
-  size-on : length (callLeft left c .own) ≡ length (left .own)
+  pub size-on : length (callLeft left c .own) ≡ length (left .own)
   size-on = go (cost left c)
     where
       go : Cost left c → length (callLeft left c .own) ≡ length (left .own)

@@ -26,6 +26,9 @@ use Rattle.report.specs.Compare.{symbolsAt, numbersAsked, compareOf, com
 use Rattle.report.specs.Window.{slotAdded}
 use Rattle.report.specs.Demands.{Agreed, CompareAccepts, SignsStand, TotalsCount, TotalsMake, StandsAt, PartStands, RefusedNothing}
 use Rattle.report.specs.Demands.{AllCounted, TotalsStand, KindsCounted, MoreSaid, MeanStands, HighestStands, Ordered, PartsAdded, QuartersRead}
+use Rattle.report.specs.Demands.{CompareRefuses, EarlierMeans, DaysInOrder}
+use Rattle.report.proofs.Refusing as Refusing
+use Rattle.report.proofs.Order as Order
 use Rattle.report.proofs.Days.{slot-some, is-sheet}
 use Rattle.report.proofs.Comparing.{sheet-signs-long, sheet-signs-at, compared-number, compared-other}
 use Rattle.report.proofs.Order.{earlier-irreflexive, earlier-transitive, earlier-total}
@@ -91,6 +94,9 @@ module _ (c : List ℕ) (i : ℕ) (d : List ℕ) (j w : ℕ) (e : compareOf c i 
 
   counted : (s : ℕ) → compareTotal c i d j s ≡ occurs s (sheetSigns (symbolsAt c i) (symbolsAt d j))
   counted s = ap (λ (o : Outcome). shownTotal o (symbolsAt c i) (symbolsAt d j) s) e
+
+pub compare-refuses : CompareRefuses
+compare-refuses = Refusing.compare-refuses
 
 pub signs-stand : SignsStand
 signs-stand c i d j w e p h =
@@ -186,6 +192,12 @@ highest-stands w card p h l = row-highest w h card p l
 
 pub ordered : Ordered
 ordered = record { irreflexive = earlier-irreflexive; transitive = earlier-transitive; total = earlier-total }
+
+pub earlier-means : EarlierMeans
+earlier-means = Order.earlier-means
+
+pub days-in-order : DaysInOrder
+days-in-order = Order.days-in-order
 
 pub parts-added : PartsAdded
 parts-added w report a b j whole = in-parts (slotAdded w) a b j whole report

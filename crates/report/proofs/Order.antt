@@ -2,13 +2,15 @@
 use mathlib.Core.Path.{_≡_, refl, ap, ap₂, _∙_}
 use mathlib.Core.Logic.{_⊎_, inl, inr}
 use mathlib.Core.Bool.{Bool, true, false, cond}
-use Prim.Native.Nat.{ℕ, _≤_, _<_}
+use Prim.Native.Nat.{ℕ, _+_, _≤_, _<_}
 use native.Mathlib.Nat.{le-refl}
 use native.Mathlib.Omega.{arith}
 use borrow.Author.Tests.{eq-eqb, ne-eqb, eqb-true, eqb-false, lt-ltb, le-ltb, ltb-true, ltb-false}
 use lib.Dec.{eqb, ltb}
 use Rattle.report.specs.Window.{below, earlier}
 use Rattle.report.specs.declared.row.Date.{Date}
+use Rattle.report.specs.Demands.{EarlierMeans, DaysInOrder}
+use Rattle.sheet.specs.Calendar.{epoch, daysIn}
 
 -- ---- one number, and then the rest
 
@@ -19,7 +21,7 @@ module _ (x y : ℕ) (b : Bool) where
   pub below-other : (x ≡ y → ⊥) → below x y b ≡ ltb x y
   below-other n = ap (λ (c : Bool). cond c b (ltb x y)) (ne-eqb x y n)
 
-  below-less : x < y → below x y b ≡ true
+  pub below-less : x < y → below x y b ≡ true
   below-less h = below-other (λ e. omega arith) ∙ lt-ltb x y h
 
   pub below-means : below x y b ≡ true → (x < y) ⊎ ((x ≡ y) × (b ≡ true))
@@ -83,3 +85,41 @@ earlier-total a b p q =
     same : a .year ≡ b .year → a .month ≡ b .month → a .day ≡ b .day → a ≡ b
     same y m d =
         ap₂ (λ (u v : ℕ). record { year = u; month = v; day = a .day }) y m ∙ ap (λ (u : ℕ). record { year = b .year; month = b .month; day = u }) d
+
+-- by its numbers
+pub earlier-means : EarlierMeans
+unfolding earlier
+earlier-means a b = (to, from)
+  where
+    to : below (a .year) (b .year) (below (a .month) (b .month) (ltb (a .day) (b .day))) ≡ true
+        → (a .year < b .year) ⊎ ((a .year ≡ b .year) × ((a .month < b .month) ⊎ ((a .month ≡ b .month) × (a .day < b .day))))
+    to e = years (below-means (a .year) (b .year) (below (a .month) (b .month) (ltb (a .day) (b .day))) e)
+      where
+        months : (a .month < b .month) ⊎ ((a .month ≡ b .month) × (ltb (a .day) (b .day) ≡ true))
+            → (a .month < b .month) ⊎ ((a .month ≡ b .month) × (a .day < b .day))
+        months (inl h) = inl h
+        months (inr h) = inr (h .0, ltb-true (a .day) (b .day) (h .1))
+
+        years : (a .year < b .year) ⊎ ((a .year ≡ b .year) × (below (a .month) (b .month) (ltb (a .day) (b .day)) ≡ true))
+            → (a .year < b .year) ⊎ ((a .year ≡ b .year) × ((a .month < b .month) ⊎ ((a .month ≡ b .month) × (a .day < b .day))))
+        years (inl h) = inl h
+        years (inr h) = inr (h .0, months (below-means (a .month) (b .month) (ltb (a .day) (b .day)) (h .1)))
+
+    from : (a .year < b .year) ⊎ ((a .year ≡ b .year) × ((a .month < b .month) ⊎ ((a .month ≡ b .month) × (a .day < b .day))))
+        → below (a .year) (b .year) (below (a .month) (b .month) (ltb (a .day) (b .day))) ≡ true
+    from (inl h) = below-less (a .year) (b .year) _ h
+    from (inr (y, inl h)) = below-same (a .year) (b .year) _ y ∙ below-less (a .month) (b .month) _ h
+    from (inr (y, inr (m, h))) = below-same (a .year) (b .year) _ y ∙ below-same (a .month) (b .month) _ m ∙ lt-ltb (a .day) (b .day) h
+
+-- the day after a date is later
+pub days-in-order : DaysInOrder
+days-in-order d = go (ltb (d .day) (daysIn (epoch + d .year) (d .month))) (ltb (d .month) 12)
+  where
+    date : ℕ → ℕ → ℕ → Date
+    date = λ y m n. record { year = y; month = m; day = n }
+
+    go : (s t : Bool)
+        → earlier d (cond s (date (d .year) (d .month) (d .day + 1)) (cond t (date (d .year) (d .month + 1) 1) (date (d .year + 1) 1 1))) ≡ true
+    go true t = earlier-means d (date (d .year) (d .month) (d .day + 1)) .1 (inr (refl, inr (refl, omega arith)))
+    go false true = earlier-means d (date (d .year) (d .month + 1) 1) .1 (inr (refl, inl (omega arith)))
+    go false false = earlier-means d (date (d .year + 1) 1 1) .1 (inl (omega arith))

@@ -5,7 +5,7 @@ use mathlib.Core.Logic.{_↔_, _⊎_}
 use mathlib.Core.Bool.{true, false, cond}
 use mathlib.Core.List.{List, [], _++_}
 use Prim.Native.Nat.{ℕ, zero, suc, _+_, _-_, _*_, _≤_, _<_, min}
-use lib.Dec.{eqb}
+use lib.Dec.{eqb, ltb}
 use lib.ListN.{length, replicate}
 use denote.Ref.{RefT, now}
 use Rattle.field.specs.Question.{accepted, refused}
@@ -15,6 +15,7 @@ use Rattle.card.specs.Record.{erasureBytes, recordSize}
 use Rattle.card.specs.Slots.{recordCount, recordAt, isBlank, overFirst}
 use Rattle.card.specs.Card.{LiesAt}
 use Rattle.card.specs.Listing.{decimal, mostRecords}
+use Rattle.sheet.specs.Calendar.{epoch, daysIn}
 use Rattle.sheet.specs.Sheet.{quarters, pumpAt}
 use Rattle.report.specs.Day.{hasRecord, slotOf, Day, sheet, noSheet, dayOf}
 use Rattle.report.specs.Compare.{signOf, sameDay, chosenOf, symbolsAt, compareOf, compareSigns, compareTotal, comparePart, HandsBack}
@@ -42,9 +43,33 @@ pub record Agreed (c : List ℕ) (i : ℕ) (d : List ℕ) (j w : ℕ) : Type 0 w
   pub same : sameDay ss ts ≡ true
   pub chosen : w ≡ chosenOf k l
 
+-- both numbers are those of records and both records are day sheets, but not of one pump and date
+pub record Disagreed (c : List ℕ) (i : ℕ) (d : List ℕ) (j : ℕ) : Type 0 where
+  pub k : ℕ
+  pub l : ℕ
+  pub ss : List ℕ
+  pub ts : List ℕ
+  pub number : hasRecord c i ≡ true
+  pub other-number : hasRecord d j ≡ true
+  pub controller : dayOf (slotOf c i) ≡ sheet k ss
+  pub cupboard : dayOf (slotOf d j) ≡ sheet l ts
+  pub other : sameDay ss ts ≡ false
+
 -- these are compared, and nothing else is
 abbrev pub CompareAccepts : Type 0
 CompareAccepts = (c : List ℕ) (i : ℕ) (d : List ℕ) (j w : ℕ) → (compareOf c i d j ≡ accepted w) ↔ Agreed c i d j w
+
+-- what is refused, in its order: a number outside its card gives 17 before all else; then the controller's refusal, of restoring or reading,
+-- comes before the cupboard's; and 20 comes last, where both are day sheets
+pub record CompareRefused (c : List ℕ) (i : ℕ) (d : List ℕ) (j : ℕ) : Type 0 where
+  pub number : (compareOf c i d j ≡ refused 17) ↔ ((hasRecord c i ≡ false) ⊎ (hasRecord d j ≡ false))
+  pub controller : hasRecord c i ≡ true → hasRecord d j ≡ true → (n : ℕ) → dayOf (slotOf c i) ≡ noSheet n → compareOf c i d j ≡ refused n
+  pub cupboard : hasRecord c i ≡ true → hasRecord d j ≡ true → (k : ℕ) (ss : List ℕ) → dayOf (slotOf c i) ≡ sheet k ss
+      → (n : ℕ) → dayOf (slotOf d j) ≡ noSheet n → compareOf c i d j ≡ refused n
+  pub other-day : (compareOf c i d j ≡ refused 20) ↔ Disagreed c i d j
+
+abbrev pub CompareRefuses : Type 0
+CompareRefuses = (c : List ℕ) (i : ℕ) (d : List ℕ) (j : ℕ) → CompareRefused c i d j
 
 -- each quarter hour then has the sign of its two counts
 abbrev pub SignsStand : Type 0
@@ -194,6 +219,26 @@ pub record Ordered : Type 0 where
   pub irreflexive : (a : Date) → earlier a a ≡ false
   pub transitive : (a b c : Date) → earlier a b ≡ true → earlier b c ≡ true → earlier a c ≡ true
   pub total : (a b : Date) → earlier a b ≡ false → earlier b a ≡ false → a ≡ b
+
+-- the day after a date, by the calendar; years count from 2000
+abbrev pub dayAfter : Date → Date
+dayAfter d =
+    cond (ltb (d .day) (daysIn (epoch + d .year) (d .month)))
+    (record { year = d .year; month = d .month; day = d .day + 1 })
+    (cond (ltb (d .month) 12)
+    (record { year = d .year; month = d .month + 1; day = 1 })
+    (record { year = d .year + 1; month = 1; day = 1 }))
+
+-- the order is that of the calendar: each date is earlier than the day after it, and by `Ordered` than every later day
+abbrev pub DaysInOrder : Type 0
+DaysInOrder = (d : Date) → earlier d (dayAfter d) ≡ true
+
+-- said by its numbers: an earlier year, or the same year and an earlier month, or both the same and an earlier day
+abbrev pub EarlierMeans : Type 0
+EarlierMeans =
+    (a b : Date)
+    → (earlier a b ≡ true)
+    ↔ ((a .year < b .year) ⊎ ((a .year ≡ b .year) × ((a .month < b .month) ⊎ ((a .month ≡ b .month) × (a .day < b .day)))))
 
 -- a card may come in parts: the report of two, the first of whole slots, is that of the second from where the first has come to
 abbrev pub PartsAdded : Type 0

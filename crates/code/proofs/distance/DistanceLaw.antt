@@ -17,20 +17,10 @@ use Rattle.field.proofs.Sums.{sum-none, sum-suc}
 use Rattle.code.specs.Word.{checks, places, items, sum, syndrome}
 use Rattle.code.specs.Erasure.{total}
 use Rattle.code.specs.Near.{distance}
+pub use Rattle.code.specs.Near.{nonzero, Distance}
 use Rattle.code.proofs.Algebra.{power-times}
 use Rattle.code.proofs.Sums.{total-split, part-le}
 use Rattle.code.proofs.distance.Points.{Points, none, term, size, row, Apart, Proper, two, two-injective, three, run}
-
--- 1 where the number is not 0
-abbrev pub nonzero : ℕ → ℕ
-nonzero zero = 0
-nonzero (suc n) = 1
-
--- the code's distance is at least d: a word with zero syndromes and fewer than d nonzero symbols is zero
-abbrev pub Distance : ℕ → ℕ → Type 0
-Distance m d =
-    (e : ℕ → ℕ) → ((p : ℕ) → p < places m → e p < order m) → ((k : ℕ) → k < checks → syndrome m e k ≡ 0)
-    → total (places m) (λ p. nonzero (e p)) < d → (p : ℕ) → p < places m → e p ≡ 0
 
 zero-of-nonzero : (x : ℕ) → nonzero x ≤ 0 → x ≡ 0
 zero-of-nonzero zero h = refl
