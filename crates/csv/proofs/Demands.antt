@@ -3,9 +3,9 @@ use mathlib.Core.Path.{ap, _∙_}
 use Rattle.card.proofs.Folding.{in-parts as over-parts}
 use Rattle.csv.specs.Text.{slotTallied, sheetsText}
 use Rattle.csv.specs.Making.{cardOf}
-use Rattle.csv.specs.Demands.{InParts, LineSheet, LineReadBack, ShortReadBack, RecordDay, CanonicalPrinted, CardMadeAgain, TextPrintedAgain}
+use Rattle.csv.specs.Demands.{InParts, LineSheet, LineReadBack, ShortReadBack, RecordMade, RecordDay, CanonicalPrinted, CardMadeAgain, TextPrintedAgain}
 use Rattle.csv.proofs.SheetLines.{lines-in-parts}
-use Rattle.csv.proofs.SheetRecords.{record-day as day-of-record}
+use Rattle.csv.proofs.SheetRecords.{made-sheet, record-day as day-of-record}
 use Rattle.csv.proofs.ReadBack.{full-back, short-back}
 use Rattle.csv.proofs.LineSheets.{read-sheet}
 use Rattle.csv.proofs.ThereAndBack.{canonical-printed as printed, canonical-read}
@@ -23,6 +23,9 @@ line-read-back n k ss S = full-back ss S n k
 
 pub short-read-back : ShortReadBack
 short-read-back = short-back
+
+pub record-made : RecordMade
+record-made = made-sheet
 
 pub record-day : RecordDay
 record-day = day-of-record

@@ -12,16 +12,17 @@ use Rattle.field.specs.declared.Verdict.the-variants.{Passed, Refused}
 use Rattle.code.specs.Word.{longest, Codeword}
 use Rattle.code.specs.Near.{radius}
 use Rattle.code.specs.Call.{written}
-use Rattle.card.specs.Record.{erasureBytes, recordSize, wordOf, recordOf, recordWritten, copyWritten}
+use Rattle.card.specs.Record.{erasureBytes, recordSize, clearRecord, wordOf, recordOf, recordWritten, copyWritten}
 use Rattle.card.specs.Slots.{blankIn, isBlank}
 use Rattle.card.proofs.Again.{clear-size, clear-word, clear-accepted, clear-stays}
 use Rattle.card.proofs.Recording.{copy-accepted}
 use Rattle.sheet.specs.Sheet.{sheetWidth, sheetSize, sheetWord, symbolsOf}
-use Rattle.sheet.specs.Call.{writeSheetAsked, WritesSheet, readSheetAsked}
+use Rattle.sheet.specs.Call.{writeSheetAsked, writeSheetWritten, WritesSheet, readSheetAsked}
 use Rattle.sheet.specs.Demands.{SheetSymbols}
 use Rattle.sheet.proofs.Sheets.{write-passes, write-means, written-sheet, sheet-symbols, read-passes}
 use Rattle.report.specs.Day.{sheet, readDay, copyDay, dayOf}
 use Rattle.csv.specs.Record.{sheetRecord}
+use Rattle.csv.specs.Demands.{RecordMade}
 
 -- the codeword of a sheet
 word-long : (ss : List ℕ) → SheetSymbols ss → length (sheetWord ss) ≡ longest
@@ -38,13 +39,18 @@ module _ (ss old : List ℕ) (size : length old ≡ longest) (v : Verdict) (new 
       go (Refused q) e = size
 
   -- behind the header of a record without erasures
-  pub record-made : (bytes : List ℕ) → bytes ≡ (sheetWidth ∷ 0 ∷ replicate erasureBytes 255) ++ (new ++ []) → SheetSymbols ss → bytes ≡ sheetRecord ss
-  record-made bytes e S =
-      let word : new ≡ sheetWord ss = W .word ∙ ap (λ (u : Verdict). written u old (sheetWord ss)) (write-passes ss S (length old) size) in
-      let none : longest - length (sheetWord ss) ≡ 0 = omega (arith, word-long ss S) in
+  pub record-made : (bytes : List ℕ) → bytes ≡ (sheetWidth ∷ 0 ∷ replicate erasureBytes 255) ++ (new ++ [])
+      → bytes ≡ clearRecord sheetWidth (writeSheetWritten sheetWidth ss old)
+  record-made bytes e =
+      let none : longest - length new ≡ 0 = omega (arith, word-kept) in
       e
-      ∙ ap (λ (w : List ℕ). (sheetWidth ∷ 0 ∷ replicate erasureBytes 255) ++ (w ++ [])) word
-      ∙ ap (λ (n : ℕ). (sheetWidth ∷ 0 ∷ replicate erasureBytes 255) ++ (sheetWord ss ++ replicate n 0)) (sym none)
+      ∙ ap (λ (n : ℕ). (sheetWidth ∷ 0 ∷ replicate erasureBytes 255) ++ (new ++ replicate n 0)) (sym none)
+      ∙ ap (clearRecord sheetWidth) (W .word)
+
+-- of a sheet's symbols the record is the sheet's
+pub made-sheet : RecordMade
+made-sheet ss S =
+    ap (λ (u : Verdict). clearRecord sheetWidth (written u (replicate longest 0) (sheetWord ss))) (write-passes ss S longest refl)
 
 -- ---- as it is read
 

@@ -34,14 +34,14 @@ made-one s line = sym (append-nil (lineMade s line))
 pub last-none : (line : List ℕ) → length line ≡ 0 → (s : TextState) (old : List ℕ)
     → MakesLast line s old (record { state = s; taken = 0; used = 0 }) old
 unfolding linesRead linesMade
-last-none [] h s old = record { state = refl; records = writes-none old 0 (omega arith) }
+last-none [] h s old = record { state = refl; taken = refl; records = writes-none old 0 (omega arith) }
 last-none (x ∷ xs) h s old = absurd (omega arith)
 
-pub last-taken : (line : List ℕ) → (length line ≡ 0 → ⊥) → (s : TextState) {end : ℕ} {old new : List ℕ} {r : Made}
-    → TakesLine (lineRead s line) end (lineMade s line) 0 old r new → MakesLast line s old r new
+pub last-taken : (line : List ℕ) → (length line ≡ 0 → ⊥) → (s : TextState) {old new : List ℕ} {r : Made}
+    → TakesLine (lineRead s line) (length line) (lineMade s line) 0 old r new → MakesLast line s old r new
 last-taken [] h s T = absurd (h refl)
 last-taken (x ∷ xs) h s T =
-    record { state = T .state ∙ read-one s (x ∷ xs); records = written-as (made-one s (x ∷ xs)) (T .records) }
+    record { state = T .state ∙ read-one s (x ∷ xs); taken = T .taken; records = written-as (made-one s (x ∷ xs)) (T .records) }
 
 -- ---- the lines of a part
 
@@ -76,20 +76,9 @@ module _ {text : List ℕ} {s : TextState} {old : List ℕ} {done : Made} {new :
   pub making-long : length new ≡ length old
   making-long = writes-length (M .records)
 
-  pub making-stop : isFine (done .state .verdict) ≡ false → MakesRecords text s old done new
-  making-stop refused =
-      record {
-        lines = M .lines;
-        cut = M .cut;
-        state = M .state;
-        records = M .records;
-        inside = M .inside;
-        few = M .few;
-        all = λ yes. absurd (false≢true (sym refused ∙ yes));
-      }
-
-  pub making-end : linesFrom [] (drop (done .taken) text) ≡ lastLine (drop (done .taken) text) → MakesRecords text s old done new
-  making-end none =
+  pub making-end : isFine (done .state .verdict) ≡ true → linesFrom [] (drop (done .taken) text) ≡ lastLine (drop (done .taken) text)
+      → MakesRecords text s old done new
+  making-end fine none =
       record {
         lines = M .lines;
         cut = M .cut;
@@ -98,6 +87,7 @@ module _ {text : List ℕ} {s : TextState} {old : List ℕ} {done : Made} {new :
         inside = M .inside;
         few = M .few;
         all = λ yes. none;
+        stop = λ no. absurd (false≢true (sym no ∙ fine));
       }
 
   -- the next line ends at the place r
@@ -150,4 +140,25 @@ module _ {text : List ℕ} {s : TextState} {old : List ℕ} {done : Made} {new :
             sheets = M .sheets + K .count;
             whole = omega (arith, T .records .behind, K .size, M .whole);
             least = omega (arith, K .least, M .least, long, E .first, T .taken);
+          }
+
+      -- it is refused, and the making ends behind it
+      pub making-stop : isFine (done .state .verdict) ≡ true → isFine (next .state .verdict) ≡ false → MakesRecords text s old next last
+      unfolding making-more
+      making-stop fine refused =
+          let N = making-more in
+          record {
+            lines = N .lines;
+            cut = N .cut;
+            state = N .state;
+            records = N .records;
+            inside = N .inside;
+            few = N .few;
+            all = λ yes. absurd (false≢true (sym refused ∙ yes));
+            stop = λ no. record {
+              before = M .lines;
+              last = line;
+              split = refl;
+              fine = ap (λ (u : TextState). isFine (u .verdict)) (sym (M .state)) ∙ fine;
+            };
           }

@@ -11,7 +11,7 @@ use Rattle.report.specs.Day.{sheet as sheetDay, dayOf}
 use Rattle.csv.specs.declared.Counts.{Counts}
 use Rattle.csv.specs.Text.{sheetColumns, partSheets, partCounts, sheetsText}
 use Rattle.csv.specs.Reading.{sheet, readLine}
-use Rattle.csv.specs.Record.{sheetRecord}
+use Rattle.csv.specs.Record.{sheetRecord, recordMade}
 use Rattle.csv.specs.Making.{cardOf}
 use Rattle.csv.specs.RoundTrip.{shortColumns, AllSheets, sheetsCard, canonicalText}
 
@@ -34,6 +34,10 @@ LineReadBack = (n k : ℕ) (ss : List ℕ) → SheetSymbols ss → readLine true
 -- so is a line without these two columns
 abbrev pub ShortReadBack : Type 0
 ShortReadBack = (ss : List ℕ) → SheetSymbols ss → readLine false (shortColumns ss) ≡ sheet ss
+
+-- of the symbols of a sheet the record of that sheet is made
+abbrev pub RecordMade : Type 0
+RecordMade = (ss : List ℕ) → SheetSymbols ss → recordMade ss ≡ sheetRecord ss
 
 -- the record of a sheet is that sheet, with no place to change
 abbrev pub RecordDay : Type 0

@@ -93,8 +93,15 @@ cardOf text = linesMade textBegun (linesFrom [] text)
 
 -- ---- a text in parts, its records into a buffer
 
--- the lines that end in the text are taken, up to a refused one, and their records stand at the front of the buffer. Where none is refused,
--- what stands behind them has no end of a line.
+-- the last of these lines is refused, and none before it
+pub record EndsRefused (s : TextState) (lines : List (List ℕ)) : Type 0 where
+  pub before : List (List ℕ)
+  pub last : List ℕ
+  pub split : lines ≡ before ++ (last ∷ [])
+  pub fine : isFine (linesRead s before .verdict) ≡ true
+
+-- the lines that end in the text are taken, up to a refused one and no further, and their records stand at the front of the buffer. Where
+-- none is refused, what stands behind them has no end of a line.
 pub record MakesRecords (text : List ℕ) (s : TextState) (old : List ℕ) (r : Made) (new : List ℕ) : Type 0 where
   pub lines : List (List ℕ)
   pub cut : (more : List ℕ) → linesFrom [] (text ++ more) ≡ lines ++ linesFrom [] (drop (r .taken) text ++ more)
@@ -103,8 +110,10 @@ pub record MakesRecords (text : List ℕ) (s : TextState) (old : List ℕ) (r : 
   pub inside : r .taken ≤ length text
   pub few : r .state .lines ≤ s .lines + r .taken
   pub all : isFine (r .state .verdict) ≡ true → linesFrom [] (drop (r .taken) text) ≡ lastLine (drop (r .taken) text)
+  pub stop : isFine (r .state .verdict) ≡ false → EndsRefused s lines
 
 -- the last line, which may come without its end, is taken, if it has bytes
 pub record MakesLast (line : List ℕ) (s : TextState) (old : List ℕ) (r : Made) (new : List ℕ) : Type 0 where
   pub state : r .state ≡ linesRead s (lastLine line)
+  pub taken : r .taken ≡ length line
   pub records : Writes old 0 (linesMade s (lastLine line)) new (r .used)

@@ -33,7 +33,7 @@ returns c =
     let l = c .before .before .before .before .loop in
     let end = c .before .line-end in
     let text = c .before .before .before .before .before .before .before .args .text .now in
-    making-end (l .inv .2) (line-last text (l .done .taken) (end .result) (omega arith) (end .ensures .one))
+    making-end (l .inv .2) (l .inv .0) (line-last text (l .done .taken) (end .result) (omega arith) (end .ensures .one))
 
 take-line-requires : tie.Need-take-line-requires Inv-loop μ-loop
 take-line-requires c κs =
@@ -49,7 +49,7 @@ returns-2 c =
     let fine = c .before .is-fine in
     let refused : fine .result ≡ false = not-true (fine .result) (search needs) in
     let end = c .before .before .before .before .before .before .before .before .line-end in
-    making-stop (making-more (l .inv .2) (end .ensures) (omega arith) (x .ensures)) (sym (fine .ensures) ∙ refused)
+    making-stop (l .inv .2) (end .ensures) (omega arith) (x .ensures) (l .inv .0) (sym (fine .ensures) ∙ refused)
 
 loop-less : tie.Need-loop-less Inv-loop μ-loop
 loop-less c =
@@ -69,7 +69,7 @@ loop-again c =
 returns-3 : tie.Need-returns-3 Inv-loop μ-loop
 returns-3 c =
     let l = c .before .before .loop in
-    making-end (l .inv .2) (line-none (c .before .before .before .before .before .args .text .now) (l .done .taken) (omega arith))
+    making-end (l .inv .2) (l .inv .0) (line-none (c .before .before .before .before .before .args .text .now) (l .done .taken) (omega arith))
 
 pub make-records-spec : {M : Type 1} → statement M
 make-records-spec =

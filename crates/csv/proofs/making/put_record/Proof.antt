@@ -1,5 +1,7 @@
 -- `csv::making::put_record` meets its contract. Assumes nothing.
 use borrow.Author.Needs.{needs}
+use mathlib.Core.Path.{_∙_}
+use Rattle.csv.proofs.SheetRecords.{made-sheet}
 use Rattle.csv.proofs.Taking.{written-as}
 use Rattle.csv.proofs.making.put_record.Statement.{statement}
 use Rattle.csv.proofs.making.put_record.Tie as tie
@@ -8,7 +10,8 @@ returns : tie.Need-returns
 returns c =
     let at-put-bytes = c .before .before in
     let at-record-of = at-put-bytes .before .before .before in
-    written-as (at-record-of .record-of .ensures (at-record-of .before .before .before .pre .1)) (at-put-bytes .put-bytes .ensures)
+    let s = at-record-of .before .before .before in
+    written-as (at-record-of .record-of .ensures ∙ made-sheet (s .args .symbols .now) (s .pre .1)) (at-put-bytes .put-bytes .ensures)
 
 pub put-record-spec : {M : Type 1} → statement M
 put-record-spec =
