@@ -54,7 +54,8 @@ use Rattle.report.proofs.Demands.{compare-accepts, totals-make}
 use Rattle.exports.specs.Packed.{packed, packedBytes, packedTotals, checked}
 use Rattle.exports.specs.Counts.{countsSize, rewritesOf, lentCounts, countsAsked, chargeOf, chargeWritten, bayAsked, bayOf, bayCounts, bayWritten}
 use Rattle.exports.specs.Demands.{unpacked, Undone, PackingUndone, unchecked, CheckUndone, byteOf, SyndromesUndone, CompareUndone, countsAfter}
-use Rattle.exports.specs.Demands.{WordDecodes, RecordCallDecodes, chainHistory, ChainRuns, ChainThousand, ChainNotDenied}
+use Rattle.exports.specs.Demands.{WordDecodes, RecordCallDecodes, chainHistory, ChainRuns, ChainThousand, ChainNotDenied, PartFound}
+use Rattle.exports.proofs.Parting as Parting
 use Rattle.exports.proofs.Counting.{charge-written, asked-bay, asked-passed}
 
 -- ---- refusal numbers are 1 to 21
@@ -535,3 +536,8 @@ chain-not-denied xs cs c h l few =
       λ e. A .not-denied (A .answer ∙ sym answer ∙ e),
       ap₂ (λ (v : Verdict) (l : Rewrites). written v (c .lent) (callWritten l c)) p (C .rest) ∙ A .content,
     )
+
+-- ---- the part of a comparison
+
+pub part-found : PartFound
+part-found = Parting.part-found

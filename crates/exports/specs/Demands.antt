@@ -6,7 +6,7 @@ use mathlib.Core.Bool.{cond}
 use mathlib.Core.List.{List, [], _∷_}
 use Prim.Native.Nat.{ℕ, zero, suc, _+_, _*_, _/_, _%_, _<_}
 use lib.Dec.{eqb}
-use lib.ListN.{length}
+use lib.ListN.{length, take, drop}
 use Rattle.field.specs.Question.{Outcome, accepted, refused}
 use Rattle.field.specs.Answer.{sumOf, productOf, powerOf, inverseOf}
 use Rattle.code.specs.Word.{five}
@@ -25,10 +25,11 @@ use Rattle.dock.specs.declared.Reach.{Reach}
 use Rattle.dock.specs.Dock.{bays, ownCharge, Call, answerOf, contentOf}
 use Rattle.dock.specs.Run.{Entry, used, usedBy, ownSum, leftAfter, history}
 use Rattle.dock.specs.Dock.{charged}
-use Rattle.report.specs.Compare.{intoOf, intoTotal}
+use Rattle.report.specs.Compare.{compareOf, comparePart, intoOf, intoTotal}
 use Rattle.report.specs.Window.{windowOf}
 use Rattle.report.specs.declared.row.Window.{Window}
 use Rattle.exports.specs.Packed.{packed, packedBytes, packedTotals, checked}
+use Rattle.exports.specs.Part.{partOffset, partSize}
 use Rattle.exports.specs.Counts.{countsSize, rewritesOf, chargeOf, chargeWritten, bayOf, bayCounts, bayWritten}
 
 -- ---- packing loses nothing
@@ -154,3 +155,11 @@ ChainNotDenied =
     (bayOf (c .bay) (c .reach) counts (c .lent) ≡ answerOf c)
     × (bayOf (c .bay) (c .reach) counts (c .lent) ≢ refused 19)
     × (bayWritten (c .bay) (c .reach) counts (c .lent) ≡ contentOf c)
+
+-- ---- the part of a comparison
+
+-- the bytes from the offset on, so many as the size says, of the chosen card are the part, as it was lent
+abbrev pub PartFound : Type 0
+PartFound =
+    (c : List ℕ) (i : ℕ) (d : List ℕ) (j w x y : ℕ) → compareOf c i d j ≡ accepted w
+    → take (partSize (compareOf c i d j) y) (drop (partOffset (compareOf c i d j) i j x) (cond (eqb w 1) c d)) ≡ comparePart c i d j

@@ -16,9 +16,10 @@ ghost use Rattle.walk.specs.Walk.{walkAt, stepOf, stepState, stepWritten};
 ghost use Rattle.walk.specs.Look.{lookOf, lookWritten};
 ghost use Rattle.dock.specs.declared.Reach.the-variants.{Longest, Named};
 ghost use Rattle.sheet.specs.Call.{writeSheetOf, writeSheetWritten, readSheetOf, readSheetWritten};
-ghost use Rattle.report.specs.Compare.{choice, intoOf, intoTotal, intoWritten};
+ghost use Rattle.report.specs.Compare.{choice, compareOf, intoOf, intoTotal, intoWritten};
 ghost use Rattle.report.specs.Window.{windowFrom, windowOf, windowWritten};
 ghost use Rattle.exports.specs.Packed.{packed, packedBytes, packedTotals, checked};
+ghost use Rattle.exports.specs.Part.{partOffset, partSize};
 ghost use Rattle.exports.specs.Counts.{countsSize, rewritesOf, lentCounts, chargeOf, chargeWritten, bayAsked, bayOf, bayCounts, bayWritten};
 use card::CardCheck;
 use card::cards::check;
@@ -37,6 +38,7 @@ use field::Exponent;
 use field::Question;
 use field::Verdict;
 use report::compare::Choice;
+use report::compare::compare;
 use report::compare::compare_into;
 use report::row::Window;
 use report::window::window;
@@ -456,6 +458,39 @@ pub extern "C" fn xrs_compare_sheets<'a>(
     let c = compare_into(controller, i as usize, cupboard, j as usize, signs);
     let choice = c.choice;
     pack_totals(pack_choice(choice), c.equal, c.controller, c.cupboard)
+}
+
+// Where the part of the chosen record stands: on the controller's card for 1, on the cupboard's for 2, so many bytes from the offset on, as lent.
+#[no_mangle]
+pub extern "C" fn xrs_compare_part<'a>(
+    controller: &'a [u8],
+    i: u64,
+    cupboard: &'a [u8],
+    j: u64,
+    offset: &mut u64,
+    size: &mut u64,
+) -> u32
+    ensures answer { λ r. ⌜ r ≡ packed (compareOf (now (controller .entry)) i (now (cupboard .entry)) j) ⌝ }
+    ensures begins { λ r.
+        ⌜ now (offset .exit) ≡ partOffset (compareOf (now (controller .entry)) i (now (cupboard .entry)) j) i j (now (offset .entry)) ⌝ }
+    ensures lasts { λ r.
+        ⌜ now (size .exit) ≡ partSize (compareOf (now (controller .entry)) i (now (cupboard .entry)) j) (now (size .entry)) ⌝ }
+{
+    let c = compare(controller, i as usize, cupboard, j as usize);
+    let choice = c.choice;
+    match choice {
+        Choice::Controller => {
+            *offset = (i - 1) * 139;
+            *size = 139;
+            256
+        }
+        Choice::Cupboard => {
+            *offset = (j - 1) * 139;
+            *size = 139;
+            512
+        }
+        Choice::Refused(q) => wide(field::refusal_number(q)),
+    }
 }
 
 // Writes the report of the compressor starts in a window of the day, over the card, into `report`.
