@@ -5,7 +5,7 @@ pub mod Locating  -- of each codeword within two places a test names just its pl
 pub mod Times  -- a symbol times a column, by adding exponents
 pub mod Scanning  -- the search for roots, and the one root of a linear function
 pub mod Finding  -- the places found are those that the tests name
-pub mod Quadratic  -- the two roots of a quadratic, by search and by the half trace
+pub mod Quadratic  -- the two roots of a quadratic, by search and by the half-trace
 pub mod Adding  -- what is added at a few places makes a codeword
 pub mod PlainWays  -- the ways out of the search without erasures
 pub mod Ratios  -- erased places eliminated from the sums, and the ratio of what is left

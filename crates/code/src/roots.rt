@@ -6,12 +6,13 @@ ghost use lib.ListN.{length};
 ghost use Rattle.field.specs.Field.{order};
 ghost use Rattle.field.specs.Question.{isWidth};
 ghost use Rattle.code.specs.Word.{checks, longest, items};
-ghost use Rattle.code.specs.inner.Scan.{Carried, Scanned, LinearRatio, TwoRoots, halfWord, entryOf, HalfTrace};
+ghost use Rattle.code.specs.inner.Scan.{Carried, Scanned, LinearRatio, TwoRoots};
 use field::Exponent;
 use field::arithmetic::invert;
 use field::arithmetic::multiply;
 use field::arithmetic::ratio_exponent;
 use field::shift::shift;
+use field::trace::half_trace;
 
 // Where a search for roots stands: an exponent of α, and the quadratic's first two terms there.
 pub struct Scan {
@@ -40,8 +41,8 @@ fn root_from(width: u8, from: Exponent, square: u8, linear: u8, constant: u8, n:
                 linear: e,
             };
         }
-        d = shift(width, d, 2);
-        e = shift(width, e, 1);
+        d = shift(width, d, Exponent(2));
+        e = shift(width, e, Exponent(1));
         i += 1;
     }
     Scan {
@@ -110,51 +111,11 @@ fn scanned_roots(width: u8, square: u8, linear: u8, constant: u8, n: u16) -> Roo
     if n <= i {
         return RootPair { low, high: low };
     }
-    let d = shift(width, f.square, 2);
-    let e = shift(width, f.linear, 1);
+    let d = shift(width, f.square, Exponent(2));
+    let e = shift(width, f.linear, Exponent(1));
     let g = root_from(width, Exponent(i + 1), d, e, constant, n);
     let high = g.at;
     RootPair { low, high }
-}
-
-// The half traces of eight symbols of width 7.
-fn half_words(k: u64) -> u64
-    ensures { λ r. ⌜ (k < 16 → r ≡ halfWord k) ⌝ }
-{
-    match k {
-        0 => 563027263881216,
-        1 => 28147995895005286,
-        2 => 5629516714475542,
-        3 => 32088568258101360,
-        4 => 11822198133620776,
-        5 => 21392493373161550,
-        6 => 16888687584215102,
-        7 => 25333065736257624,
-        8 => 30399830068953198,
-        9 => 2814861437829128,
-        10 => 34340402432049272,
-        11 => 7881350888423454,
-        12 => 19140659199213638,
-        13 => 9570363959672864,
-        14 => 23081231562309712,
-        15 => 14636853410267190,
-        _ => 0,
-    }
-}
-
-// Entry i of a number that holds eight.
-fn entry(w: u64, i: u64) -> u64
-    ensures { λ r. ⌜ (r ≡ entryOf w i) × (r < 128) ⌝ }
-{
-    (w >> (i % 8 * 8)) % 128
-}
-
-// A root of x² + x = c at width 7, if there is one; the other is that plus 1.
-fn half_trace(c: u8) -> u8
-    ensures { λ r. ⌜ HalfTrace c r ⌝ }
-{
-    let i = (c % 128) as u64;
-    entry(half_words(i / 8), i) as u8
 }
 
 // The exponents in rising order.

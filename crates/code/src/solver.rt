@@ -10,7 +10,7 @@ ghost use Rattle.field.specs.Question.{isWidth};
 ghost use Rattle.field.specs.inner.Operand.{Operand};
 ghost use Rattle.field.specs.inner.Lanes.{Below, Multiples};
 ghost use Rattle.code.specs.Word.{at};
-ghost use Rattle.code.specs.inner.Matrix.{rows, unknowns, columns, Matrix, Operands, rowAdd, scale, Cleared, Pivot, columnOf, Means};
+ghost use Rattle.code.specs.inner.Matrix.{rows, unknowns, columns, Matrix, Operands, rowAdd, scale, Cleared, swapped, Pivot, columnOf, Means};
 use field::arithmetic::invert;
 use field::arithmetic::multiply;
 use field::row::add_multiple;
@@ -128,6 +128,18 @@ fn find_pivot(a: [[u8; COLUMNS]; ROWS], c: usize, r: usize) -> usize
     ROWS
 }
 
+// The matrix with rows i and p exchanged.
+fn swap_rows(a: [[u8; COLUMNS]; ROWS], i: usize, p: usize) -> [[u8; COLUMNS]; ROWS]
+    requires { ⌜ (i < rows) × (p < rows) ⌝ }
+    ensures { λ r. ⌜ r ≡ swapped a i p ⌝ }
+{
+    let mut out = a;
+    let row = out[i];
+    out[i] = out[p];
+    out[p] = row;
+    out
+}
+
 // The right-hand sides of as many rows as there can be unknowns: at the end of the elimination, the values of the unknowns.
 fn first_column(a: [[u8; COLUMNS]; ROWS]) -> [u8; UNKNOWNS]
     ensures { λ r. ⌜ r ≡ take unknowns (columnOf a 0) ⌝ }
@@ -154,10 +166,7 @@ pub fn solve(width: u8, a: [[u8; COLUMNS]; ROWS], s: usize) -> Solution
     while c < s {
         let p = find_pivot(t, c + 1, r);
         if p < ROWS {
-            let x = t[r];
-            t[r] = t[p];
-            t[p] = x;
-            t = clear_column(width, t, c + 1, r);
+            t = clear_column(width, swap_rows(t, r, p), c + 1, r);
             r += 1;
         }
         c += 1;

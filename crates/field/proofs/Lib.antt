@@ -4,6 +4,7 @@ pub mod Laws  -- the laws of the field, gathered in `IsField`
 pub mod Widths  -- 3, 4, 5 and 7 are such widths: `field-of`, `cubes-of`
 pub mod Ask  -- what the answers to the questions say
 pub mod Bytes  -- arithmetic on bytes is the field's, for symbols at a width
+pub mod HalfTrace  -- the half-trace is a root of x² + x = c
 pub mod Demands  -- the statements of specs/Demands.antt
 pub mod Below  -- what question 7's test means for a list
 pub mod Sums  -- laws of field sums

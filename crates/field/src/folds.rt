@@ -7,6 +7,7 @@ ghost use Prim.Native.Nat.{ℕ, _+_, _*_, _%_, _<_};
 ghost use Rattle.field.specs.Sum.{five, weighted, at};
 ghost use Rattle.field.specs.inner.Lanes.{lanes, Below, Times, Block};
 ghost use Rattle.field.specs.inner.Folds.{Seventh, Eighth, Folded, Halved, Packed};
+use crate::Exponent;
 use crate::lanes::by16;
 use crate::lanes::byte;
 use crate::lanes::eight;
@@ -117,32 +118,32 @@ fn eighths(w: [u64; 16]) -> u64
 fn by8(a: u64) -> u64
     ensures { λ r. ⌜ Times 8 a r ⌝ }
 {
-    shift(shift(a, 4), 4)
+    shift(shift(a, Exponent(4)), Exponent(4))
 }
 
 // The sums over the lanes, lane j times the power e·j of α, where e is 1, 2, 3, 4.
 fn sum1(a: u64) -> u64
     ensures { λ r. ⌜ ((f : ℕ → ℕ) → Below 128 8 f → a ≡ lanes 8 f → r ≡ weighted 7 8 f 1) ⌝ }
 {
-    let b = (a % 4294967296) ^ shift(a / 4294967296, 4);
-    let c = (b % 65536) ^ shift(b / 65536, 2);
-    (c % 256) ^ shift(c / 256, 1)
+    let b = (a % 4294967296) ^ shift(a / 4294967296, Exponent(4));
+    let c = (b % 65536) ^ shift(b / 65536, Exponent(2));
+    (c % 256) ^ shift(c / 256, Exponent(1))
 }
 
 fn sum2(a: u64) -> u64
     ensures { λ r. ⌜ ((f : ℕ → ℕ) → Below 128 8 f → a ≡ lanes 8 f → r ≡ weighted 7 8 f 2) ⌝ }
 {
     let b = (a % 4294967296) ^ by8(a / 4294967296);
-    let c = (b % 65536) ^ shift(b / 65536, 4);
-    (c % 256) ^ shift(c / 256, 2)
+    let c = (b % 65536) ^ shift(b / 65536, Exponent(4));
+    (c % 256) ^ shift(c / 256, Exponent(2))
 }
 
 fn sum3(a: u64) -> u64
     ensures { λ r. ⌜ ((f : ℕ → ℕ) → Below 128 8 f → a ≡ lanes 8 f → r ≡ weighted 7 8 f 3) ⌝ }
 {
-    let b = (a % 4294967296) ^ shift(by8(a / 4294967296), 4);
-    let c = (b % 65536) ^ shift(shift(b / 65536, 4), 2);
-    (c % 256) ^ shift(c / 256, 3)
+    let b = (a % 4294967296) ^ shift(by8(a / 4294967296), Exponent(4));
+    let c = (b % 65536) ^ shift(shift(b / 65536, Exponent(4)), Exponent(2));
+    (c % 256) ^ shift(c / 256, Exponent(3))
 }
 
 fn sum4(a: u64) -> u64
@@ -150,7 +151,7 @@ fn sum4(a: u64) -> u64
 {
     let b = (a % 4294967296) ^ by16(a / 4294967296);
     let c = (b % 65536) ^ by8(b / 65536);
-    (c % 256) ^ shift(c / 256, 4)
+    (c % 256) ^ shift(c / 256, Exponent(4))
 }
 
 // For k from 0 to 4 the field sum over i of α^(k·i) times symbol i.

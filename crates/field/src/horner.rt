@@ -6,6 +6,7 @@ ghost use Rattle.field.specs.Polynomial.{add};
 ghost use Rattle.field.specs.Field.{order, product, power, α};
 ghost use Rattle.field.specs.inner.Bytes.{widthFor, symbolFor, sumsFor};
 ghost use Rattle.field.specs.Sum.{five, at};
+use crate::Exponent;
 use crate::arithmetic::symbol_of;
 use crate::shift::shift;
 
@@ -19,10 +20,10 @@ fn step(width: u8, s: [u8; 5], c: u8) -> [u8; 5]
         )
         ⌝ }
 {
-    let s1 = shift(width, s[1], 1);
-    let s2 = shift(width, s[2], 2);
-    let s3 = shift(width, s[3], 3);
-    let s4 = shift(width, s[4], 4);
+    let s1 = shift(width, s[1], Exponent(1));
+    let s2 = shift(width, s[2], Exponent(2));
+    let s3 = shift(width, s[3], Exponent(3));
+    let s4 = shift(width, s[4], Exponent(4));
     let x = symbol_of(width, c);
     [s[0] ^ x, s1 ^ x, s2 ^ x, s3 ^ x, s4 ^ x]
 }

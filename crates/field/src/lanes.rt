@@ -4,27 +4,29 @@ ghost use lib.ListN.{length};
 ghost use Prim.Native.Nat.{ℕ, _+_, _%_, _≤_, _<_};
 ghost use Rattle.field.specs.Sum.{weighted, at};
 ghost use Rattle.field.specs.inner.Lanes.{lanes, Below, Times, Block};
+use crate::Exponent;
 
 // Each lane times the power k of α: its low 7 - k digits move up, the k above them come back at x^0 and at x^3.
-pub(crate) fn shift(a: u64, k: u64) -> u64
-    requires { ⌜ k ≤ 4 ⌝ }
-    ensures { λ r. ⌜ Times k a r ⌝ }
+pub(crate) fn shift(a: u64, k: Exponent) -> u64
+    requires { ⌜ k .0 ≤ 4 ⌝ }
+    ensures { λ r. ⌜ Times (k .0) a r ⌝ }
 {
-    let low = 127 >> k;
-    let top = (a & (0x0101010101010101 * (127 - low))) >> (7 - k);
-    ((a & (0x0101010101010101 * low)) << k) ^ top ^ (top << 3)
+    let n = k.0 as u64;
+    let low = 127 >> n;
+    let top = (a & (0x0101010101010101 * (127 - low))) >> (7 - n);
+    ((a & (0x0101010101010101 * low)) << n) ^ top ^ (top << 3)
 }
 
 fn by32(a: u64) -> u64
     ensures { λ r. ⌜ Times 32 a r ⌝ }
 {
-    shift(a, 1) ^ shift(a, 2)
+    shift(a, Exponent(1)) ^ shift(a, Exponent(2))
 }
 
 pub(crate) fn by16(a: u64) -> u64
     ensures { λ r. ⌜ Times 16 a r ⌝ }
 {
-    by32(a) ^ shift(a, 4)
+    by32(a) ^ shift(a, Exponent(4))
 }
 
 // The sum over the lanes.

@@ -13,6 +13,7 @@ pub mod parity;
 pub mod row;
 pub mod shift;
 pub mod table;
+pub mod trace;
 
 use arithmetic::multiply;
 use arithmetic::order_of;

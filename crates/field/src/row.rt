@@ -5,6 +5,7 @@ ghost use Prim.Native.Nat.{_+_, _*_, _%_, _<_};
 ghost use Rattle.field.specs.Polynomial.{add};
 ghost use Rattle.field.specs.Sum.{at};
 ghost use Rattle.field.specs.inner.Lanes.{lanes, lane, Below, eight, Multiples, named};
+use crate::Exponent;
 use crate::lanes::byte;
 use crate::lanes::shift;
 
@@ -63,12 +64,12 @@ pub fn multiples(row: [u8; 8]) -> [u64; 7]
     ensures { λ r. ⌜ Multiples (λ j. at row j % 128) r ⌝ }
 {
     let a = symbols(row);
-    let b = shift(a, 4);
-    let s1 = shift(a, 1);
-    let s2 = shift(a, 2);
-    let s3 = shift(a, 3);
-    let s5 = shift(b, 1);
-    let s6 = shift(b, 2);
+    let b = shift(a, Exponent(4));
+    let s1 = shift(a, Exponent(1));
+    let s2 = shift(a, Exponent(2));
+    let s3 = shift(a, Exponent(3));
+    let s5 = shift(b, Exponent(1));
+    let s6 = shift(b, Exponent(2));
     [a, s1, s2, s3, b, s5, s6]
 }
 

@@ -1,23 +1,20 @@
--- A quadratic with two roots among the powers of α: the search finds them, and so does the half trace. Assumes nothing.
+-- A quadratic with two roots among the powers of α: the search finds them, and so does the half-trace. Assumes nothing.
 use mathlib.Core.Path.{_≡_, refl, sym, ap, ap₂, _∙_, subst}
 use mathlib.Core.Logic.{_≢_, _⊎_, inl, inr}
-use mathlib.Core.Bool.{Bool, true, false, _||_}
-use Prim.Native.Nat.{ℕ, _+_, _-_, _*_, _/_, _%_, _≤_, _<_}
+use Prim.Native.Nat.{ℕ, _+_, _-_, _%_, _≤_, _<_}
 use native.Mathlib.Nat.{mod-eq-of-lt}
-use native.Mathlib.Decide.{ℕ-discrete}
 use native.Mathlib.Omega.{arith}
-use lib.Dec.{T, eqb, eqb→eq}
 use Rattle.field.specs.Polynomial.{add}
 use Rattle.field.specs.Field.{order, product, power, inverse, α}
-use Rattle.field.specs.inner.Operand.{arithmetic}
 use Rattle.field.specs.inner.Operand.{Operand}
 use Rattle.field.specs.inner.Bytes.{multiplied, inverted}
+use Rattle.field.specs.inner.HalfTrace.{halfTrace}
 use Rattle.field.proofs.Laws.{IsField}
 use Rattle.field.proofs.Widths.{field-of}
 use Rattle.field.proofs.Bytes.{multiplied-product, inverted-inverse}
-use Rattle.field.proofs.Check.{all, all-at}
+use Rattle.field.proofs.HalfTrace.{half-trace-root}
 use Rattle.code.specs.declared.roots.Scan.{Scan}
-use Rattle.code.specs.inner.Scan.{valueAt, Scanned, Factored, halfWords, halfWord, entryOf, HalfTrace}
+use Rattle.code.specs.inner.Scan.{valueAt, Scanned, Factored}
 use Rattle.code.proofs.Algebra.{add-cancel, square, power-times}
 use Rattle.code.proofs.finding.Finding.{least-root}
 
@@ -66,7 +63,7 @@ module _ {m : ℕ} (F : IsField m) {a b c i j : ℕ} (Q : Factored m a b c i j) 
       least-root m a b c (k + 1) n r S from j (omega arith) lj second-zero
       (λ t z lt. no-other t (omega arith) (λ e. omega arith) (λ e. omega arith))
 
-  -- ---- the half trace
+  -- ---- the half-trace
 
   linear-nonzero : b ≢ 0
   linear-nonzero e =
@@ -140,49 +137,19 @@ module _ {m : ℕ} (F : IsField m) {a b c i j : ℕ} (Q : Factored m a b c i j) 
           back : add (add (product m x r) 1) 1 ≡ product m x r
           back = F .add-assoc _ _ _ ∙ ap (add (product m x r)) (F .add-self 1) ∙ F .add-zero _
 
--- ---- the table of half traces
-
-traceOf : ℕ → ℕ
-traceOf c = entryOf (halfWord (c / 8)) c
-
-right : ℕ → Bool
-right y = eqb (traceOf (add (product 7 y y) y)) y || eqb (traceOf (add (product 7 y y) y)) (add y 1)
-
-computed : T (all right 128)
-unfolding arithmetic right traceOf entryOf halfWord halfWords
-computed = tt
-
-split : (a b : Bool) → T (a || b) → T a ⊎ T b
-split true b t = inl t
-split false b t = inr t
-
-pub half-right : (c i h : ℕ) → i ≡ c % 128 → h ≡ entryOf (halfWord (i / 8)) i → HalfTrace c h
-unfolding right traceOf
-half-right c i h ei eh y ly e = go (split (eqb (traceOf (add (product 7 y y) y)) y) (eqb (traceOf (add (product 7 y y) y)) (add y 1)) (all-at right 128 computed y ly))
-  where
-    same : h ≡ traceOf (add (product 7 y y) y)
-    same = eh ∙ ap (λ (n : ℕ). entryOf (halfWord (n / 8)) n) (ei ∙ ap (λ (n : ℕ). n % 128) e ∙ low)
-      where
-        low : add (product 7 y y) y % 128 ≡ add (product 7 y y) y
-        low = mod-eq-of-lt (field-of 7 refl .add-lt _ _ (field-of 7 refl .product-lt _ _) ly)
-
-    go : T (eqb (traceOf (add (product 7 y y) y)) y) ⊎ T (eqb (traceOf (add (product 7 y y) y)) (add y 1)) → (h ≡ y) ⊎ (h ≡ add y 1)
-    go (inl t) = inl (same ∙ eqb→eq _ _ t)
-    go (inr t) = inr (same ∙ eqb→eq _ _ t)
-
--- ---- the roots by the half trace, as the code makes them
+-- ---- the roots by the half-trace, as the code makes them
 
 abbrev F₇ : IsField 7
 F₇ = field-of 7 refl
 
 pub halved-roots : (a b c inv r q d s t e f low high : ℕ) → a < 128 → b < 128 → c < 128 → inv ≡ inverted 7 b → r ≡ multiplied 7 a inv
-    → q ≡ multiplied 7 c inv → d ≡ multiplied 7 q r → HalfTrace d s → t ≡ add s 1
+    → q ≡ multiplied 7 c inv → d ≡ multiplied 7 q r → s ≡ halfTrace (d % 128) → t ≡ add s 1
     → e < 127 → (r % 128 ≢ 0 → s % 128 ≢ 0 → product 7 (power 7 α e) (r % 128) ≡ s % 128)
     → f < 127 → (r % 128 ≢ 0 → t % 128 ≢ 0 → product 7 (power 7 α f) (r % 128) ≡ t % 128)
     → (e < f → (low ≡ e) × (high ≡ f)) → (f < e → (low ≡ f) × (high ≡ e))
     → (i j : ℕ) → i < j → j < 127 → Factored 7 a b c i j → (low ≡ i) × (high ≡ j)
-halved-roots a b c inv r q d s t e f low high la lb lc ei er eq ed H et le ge lf gf up down i j l h Q = pick (halved F₇ Q la l h lb inv r q d ei′ er′ eq′ ed′ e f le lf s t
-    (λ small n. gives e s ge small n) (λ small n. gives f t gf small n) (sym et) (H (product 7 (power 7 α i) r) (F₇ .product-lt _ _)
+halved-roots a b c inv r q d s t e f low high la lb lc ei er eq ed es et le ge lf gf up down i j l h Q = pick (halved F₇ Q la l h lb inv r q d ei′ er′ eq′ ed′ e f le lf s t
+    (λ small n. gives e s ge small n) (λ small n. gives f t gf small n) (sym et) (half-trace-root d s _ es (F₇ .product-lt (power 7 α i) r)
     (quadratic F₇ Q la l h lb inv r q d ei′ er′ eq′ ed′)))
   where
     operand : (n : ℕ) → n < 128 → Operand 7 n

@@ -1,9 +1,7 @@
--- The roots of a quadratic among the powers of α: by a search with shifts alone, or by the half trace. Assumes nothing.
+-- The roots of a quadratic among the powers of α: by a search with shifts alone, or by the half-trace. Assumes nothing.
 use mathlib.Core.Path.{_≡_}
-use mathlib.Core.Logic.{_≢_, _⊎_}
-use mathlib.Core.List.{List, [], _∷_}
-use Prim.Native.Nat.{ℕ, _*_, _/_, _%_, _^_, _≤_, _<_}
-use lib.ListN.{getD}
+use mathlib.Core.Logic.{_≢_}
+use Prim.Native.Nat.{ℕ, _*_, _≤_, _<_}
 use Rattle.field.specs.Polynomial.{add}
 use Rattle.field.specs.Field.{product, power, α}
 use Rattle.code.specs.declared.roots.Scan.{Scan}
@@ -42,19 +40,3 @@ pub record Factored (m a b c i j : ℕ) : Type 0 where
 -- r are the two roots below n of such a quadratic
 abbrev pub TwoRoots : ℕ → ℕ → ℕ → ℕ → ℕ → RootPair → Type 0
 TwoRoots m a b c n r = (i j : ℕ) → i < j → j < n → Factored m a b c i j → (r .low .0 ≡ i) × (r .high .0 ≡ j)
-
--- the half traces of the symbols of width 7, eight to a number: a root y of y² + y = c, where it has one
-unfoldable pub halfWords : List ℕ
-halfWords =
-    563027263881216 ∷ 28147995895005286 ∷ 5629516714475542 ∷ 32088568258101360 ∷ 11822198133620776 ∷ 21392493373161550 ∷ 16888687584215102 ∷ 25333065736257624 ∷ 30399830068953198 ∷ 2814861437829128 ∷ 34340402432049272 ∷ 7881350888423454 ∷ 19140659199213638 ∷ 9570363959672864 ∷ 23081231562309712 ∷ 14636853410267190 ∷ []
-
-unfoldable pub halfWord : ℕ → ℕ
-halfWord k = getD halfWords k 0
-
--- entry i of a number that holds eight, i counted modulo 8
-unfoldable pub entryOf : ℕ → ℕ → ℕ
-entryOf w i = w / 2 ^ (i % 8 * 8) % 128
-
--- h is one of the two roots of x² + x = c at width 7, if there are any
-abbrev pub HalfTrace : ℕ → ℕ → Type 0
-HalfTrace c h = (y : ℕ) → y < 128 → c ≡ add (product 7 y y) y → (h ≡ y) ⊎ (h ≡ add y 1)

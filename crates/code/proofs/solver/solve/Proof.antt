@@ -24,29 +24,8 @@ add-find-pivot c = search needs
 find-pivot-requires : tie.Need-find-pivot-requires Inv-loop μ-loop
 find-pivot-requires c κs = search needs
 
-mul-x : tie.Need-mul-x Inv-loop μ-loop
-mul-x c = search needs
-
-array-copy-out-x : tie.Need-array-copy-out-x Inv-loop μ-loop
-array-copy-out-x c = search needs
-
-mul-t : tie.Need-mul-t Inv-loop μ-loop
-mul-t c = search needs
-
-array-copy-out-t : tie.Need-array-copy-out-t Inv-loop μ-loop
-array-copy-out-t c = search needs
-
-mul-t-2 : tie.Need-mul-t-2 Inv-loop μ-loop
-mul-t-2 c = search needs
-
-array-set-from-t : tie.Need-array-set-from-t Inv-loop μ-loop
-array-set-from-t c = search needs
-
-mul-t-3 : tie.Need-mul-t-3 Inv-loop μ-loop
-mul-t-3 c = search needs
-
-array-set-from-t-2 : tie.Need-array-set-from-t-2 Inv-loop μ-loop
-array-set-from-t-2 c = search needs
+swap-rows-requires : tie.Need-swap-rows-requires Inv-loop μ-loop
+swap-rows-requires c κs = search needs
 
 add-clear-column : tie.Need-add-clear-column Inv-loop μ-loop
 add-clear-column c = search needs
@@ -68,8 +47,8 @@ loop-again c =
     let turn = c .before .before .before in
     let pivot = c .before .find-pivot .ensures in
     ⊎-elim
-    (λ w. rw (w .4, w .5)
-    (solving-on _ _ _ _ _ _ (turn .loop .inv) (omega arith) (omega arith) _ pivot (w .0 .taken) _ _ refl (w .3 .ensures)))
+    (λ w. rw (w .3, w .4)
+    (solving-on _ _ _ _ _ _ (turn .loop .inv) (omega arith) (omega arith) _ pivot (w .0 .taken) _ _ (w .1 .ensures) (w .2 .ensures)))
     (λ w. rw (w .1, w .2) (solving-past _ _ _ _ _ _ (turn .loop .inv) (omega arith) (omega arith) _ pivot (w .0 .left)))
     (c .if1 .came)
 
@@ -97,14 +76,7 @@ solve-spec =
     loop-holds
     add-find-pivot
     find-pivot-requires
-    mul-x
-    array-copy-out-x
-    mul-t
-    array-copy-out-t
-    mul-t-2
-    array-set-from-t
-    mul-t-3
-    array-set-from-t-2
+    swap-rows-requires
     add-clear-column
     clear-column-requires
     add-r

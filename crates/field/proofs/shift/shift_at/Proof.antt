@@ -18,8 +18,8 @@ wrap-requires c κs = search needs
 wrap-requires-2 : tie.Need-wrap-requires-2
 wrap-requires-2 c κs = search needs
 
-sub-wrap : tie.Need-sub-wrap
-sub-wrap c = search needs
+sub-t12 : tie.Need-sub-t12
+sub-t12 c = search needs
 
 wrap-requires-3 : tie.Need-wrap-requires-3
 wrap-requires-3 c κs = search needs
@@ -29,16 +29,16 @@ returns c = λ o e. c .wrap .ensures o e (c .before .if1 .taken)
 
 returns-2 : tie.Need-returns-2
 returns-2 c = λ o e.
-    (let first = c .before in
-    let a = first .before .before .args in
+    (let first = c .before .before in
+    let a = first .before .before .before .args in
     let m = a .width in
     let r = first .wrap2 .result in
     let er = first .wrap2 .ensures o e (search needs) in
     let small = field-of m (o .width) .product-lt (power m α 2) (a .a) in
-    product-twice m (o .width) (a .a) (a .k) r (c .wrap3 .result) (omega arith) er
+    product-twice m (o .width) (a .a) (a .k .0) r (c .wrap3 .result) (omega arith) er
     (c .wrap3 .ensures (record { width = o .width; symbol = subst (λ (x : ℕ). x < order m) (sym er) small }) e (omega arith)))
 
 pub shift-at-spec : {M : Type 1} → statement M
 shift-at-spec =
     tie.close
-    (tie.spec add-if1 wrap-requires wrap-requires-2 sub-wrap wrap-requires-3 returns returns-2)
+    (tie.spec add-if1 wrap-requires wrap-requires-2 sub-t12 wrap-requires-3 returns returns-2)

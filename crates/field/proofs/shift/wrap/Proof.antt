@@ -5,6 +5,9 @@ use Rattle.field.proofs.Shifts.{wrapped-product}
 use Rattle.field.proofs.shift.wrap.Statement.{statement}
 use Rattle.field.proofs.shift.wrap.Tie as tie
 
+cast-n : tie.Need-cast-n
+cast-n c = search needs
+
 sub-top : tie.Need-sub-top
 sub-top c = search needs
 
@@ -26,8 +29,8 @@ shl-result c = search needs
 returns : tie.Need-returns
 unfolding add
 returns c = λ o e room.
-    (let a = c .args in
-    wrapped-product (a .width) (o .width) (a .middle) (a .a) (a .k) (search needs) (o .symbol) e room)
+    (let a = c .before .args in
+    wrapped-product (a .width) (o .width) (a .middle) (a .a) (a .k .0) (search needs) (o .symbol) e room)
 
 pub wrap-spec : {M : Type 1} → statement M
-wrap-spec = tie.close (tie.spec sub-top shr-top shl-low sub-low shr-low shl-result returns)
+wrap-spec = tie.close (tie.spec cast-n sub-top shr-top shl-low sub-low shr-low shl-result returns)
