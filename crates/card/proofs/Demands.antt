@@ -30,10 +30,10 @@ use Rattle.card.specs.Record.{recordWithinOf, recordWithinWritten, Resto
 use Rattle.card.specs.Slots.{recordCount, recordAt, isBlank, overFirst}
 use Rattle.card.specs.Card.{isAccepted, passes, fine, checkOf}
 use Rattle.card.specs.Listing.{counted, slotFurther, mostRecords, listedPart, start}
-use Rattle.card.specs.Demands.{RecordPasses, RecordPassesWithin, Holds, RecordReachDecodes, RecordDecodes, RecordAccepts}
+use Rattle.card.specs.Demands.{RecordPasses, RecordPassesWithin, HoldsWord, RecordReachDecodes, RecordDecodes, RecordAccepts}
 use Rattle.card.specs.Demands.{RecordRefusesSeven, RecordUnchanged, SameRecord, PieceRefused, FewPlaces, BlankRefused, ShortNotBlank}
-use Rattle.card.specs.Demands.{LowestRefused, NoneRefused, ChecksCard, OneNear, CardDecodes, EmptyPasses, PieceFails, SlotsListed, SumMost}
-use Rattle.card.specs.Demands.{ListedInParts, ListedShort, ListedLong, InParts}
+use Rattle.card.specs.Demands.{LowestRefused, NoneRefused, CheckKept, OneNear, CardDecodes, EmptyPasses, PieceFails, SlotsListed, SumMost}
+use Rattle.card.specs.Demands.{ListedInParts, ListedShort, ListedLong, SlotsInParts}
 use Rattle.card.proofs.Layouts.{asked}
 use Rattle.card.proofs.Recording.{short-refused}
 use Rattle.card.proofs.Again.{accepted-means, written-clear, within-stays, refused-stays}
@@ -60,7 +60,7 @@ own-passed r o n a b c d =
     (own-step n (paddedIn erasureBytes r) Padding Passed o d (λ e. refl))))
 
 -- a record without erasures tells the word that it holds
-holds-tells : (m : ℕ) (c d r : List ℕ) → Holds m c r → Holds m d r → c ≡ d
+holds-tells : (m : ℕ) (c d r : List ℕ) → HoldsWord m c r → HoldsWord m d r → c ≡ d
 holds-tells m c d r C D =
     sym (take-at c (replicate (longest - length c) 0) (places m) (C .size))
     ∙ ap (λ (x : List ℕ). take (places m) (drop 7 x)) (sym (C .content) ∙ D .content)
@@ -87,20 +87,20 @@ module _ (r : List ℕ) (reach : ℕ) where
   unfolding recordWithinOf
   late-on n a b c d e = own-passed r inner n a b c d e
 
-  accepts-to : (k : ℕ) (c : List ℕ) → recordWithinOf r reach ≡ accepted k → Holds m c (recordWithinWritten r reach)
+  accepts-to : (k : ℕ) (c : List ℕ) → recordWithinOf r reach ≡ accepted k → HoldsWord m c (recordWithinWritten r reach)
       → RecordPassesWithin r reach × Nearest m (wordOf r) (erasuresOf r) reach c k
   accepts-to k c e H =
       let p = accepted-on k e in
       let found = withinWritten m (wordOf r) (erasuresOf r) reach in
       let A = accepts m (wordOf r) (erasuresOf r) reach k found .0 (p .1, refl) in
-      let F : Holds m found (recordWithinWritten r reach) =
+      let F : HoldsWord m found (recordWithinWritten r reach) =
       record { size = A .1 .near .codeword .size; content = written-clear r reach k e } in (
         record { own = p .0; word = A .0 },
         subst (λ (d : List ℕ). Nearest m (wordOf r) (erasuresOf r) reach d k) (holds-tells m found c (recordWithinWritten r reach) F H) (A .1),
       )
 
   accepts-from : (k : ℕ) (c : List ℕ) → RecordPassesWithin r reach → Nearest m (wordOf r) (erasuresOf r) reach c k
-      → (recordWithinOf r reach ≡ accepted k) × Holds m c (recordWithinWritten r reach)
+      → (recordWithinOf r reach ≡ accepted k) × HoldsWord m c (recordWithinWritten r reach)
   accepts-from k c P N =
       let A = accepts m (wordOf r) (erasuresOf r) reach k c .1 (P .word, N) in
       let e = on (P .own) ∙ A .0 in
@@ -110,8 +110,8 @@ pub record-reach-decodes : RecordReachDecodes
 record-reach-decodes r reach a u R =
     record {
       restored = λ k c. (
-        λ h. accepts-to r reach k c (sym (R .answer) ∙ h .0) (subst (Holds (widthOf r) c) (R .content) (h .1)),
-        λ h. (let x = accepts-from r reach k c (h .0) (h .1) in (R .answer ∙ x .0, subst (Holds (widthOf r) c) (sym (R .content)) (x .1))),
+        λ h. accepts-to r reach k c (sym (R .answer) ∙ h .0) (subst (HoldsWord (widthOf r) c) (R .content) (h .1)),
+        λ h. (let x = accepts-from r reach k c (h .0) (h .1) in (R .answer ∙ x .0, subst (HoldsWord (widthOf r) c) (sym (R .content)) (x .1))),
       );
       none-near = (
         λ e.
@@ -240,8 +240,8 @@ lowest-refused card x C k = (
 pub none-refused : NoneRefused
 none-refused card x C = (λ e. first-none card .0 (sym C ∙ ap checkOf e), λ N. check-tells x AllAccepted (C ∙ first-none card .1 N))
 
-pub checks-card : ChecksCard
-checks-card card x C = rw C (checks card)
+pub check-kept : CheckKept
+check-kept card x C = rw C (checks card)
 
 -- an accepted record has one near codeword, and a record with one is accepted
 near-of : (r : List ℕ) (k : ℕ) → recordOf r ≡ accepted k → OneNear r
@@ -350,5 +350,5 @@ listed-short = Lines.listing-short
 pub listed-long : ListedLong
 listed-long = Lines.listing-long
 
-pub in-parts : InParts
-in-parts A step a b j whole s = Folding.in-parts step a b j whole s
+pub slots-in-parts : SlotsInParts
+slots-in-parts A step a b j whole s = Folding.in-parts step a b j whole s

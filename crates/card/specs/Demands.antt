@@ -35,7 +35,7 @@ pub record RecordPassesWithin (r : List ℕ) (reach : ℕ) : Type 0 where
   pub word : PassesWithin (widthOf r) (wordOf r) (erasuresOf r) reach
 
 -- the record r holds the word c of the width m, and no erasures: byte 1 is 0, and the erasure bytes are 255
-pub record Holds (m : ℕ) (c r : List ℕ) : Type 0 where
+pub record HoldsWord (m : ℕ) (c r : List ℕ) : Type 0 where
   pub size : length c ≡ places m
   pub content : r ≡ clearRecord m c
 
@@ -43,7 +43,7 @@ pub record Holds (m : ℕ) (c r : List ℕ) : Type 0 where
 -- record passes the questions before question 8
 pub record RecordDecoded (passes : Type 0) (r : List ℕ) (reach : ℕ) (a : Repair) (u : List ℕ) : Type 0 where
   pub restored : (k : ℕ) (c : List ℕ)
-      → ((repair a ≡ accepted k) × Holds (widthOf r) c u) ↔ (passes × Nearest (widthOf r) (wordOf r) (erasuresOf r) reach c k)
+      → ((repair a ≡ accepted k) × HoldsWord (widthOf r) c u) ↔ (passes × Nearest (widthOf r) (wordOf r) (erasuresOf r) reach c k)
   pub none-near : (repair a ≡ refused 7) ↔ (passes × ((c : List ℕ) → Near (widthOf r) (erasuresOf r) (wordOf r) reach c → ⊥))
   pub several-near : (repair a ≡ refused 14) ↔ (passes × TwoNear (widthOf r) (erasuresOf r) (wordOf r) reach)
   pub refused-unchanged : (n : ℕ) → repair a ≡ refused n → u ≡ r
@@ -63,7 +63,7 @@ RecordDecodes = (r : List ℕ) (a : Repair) (u : List ℕ) → RestoresRecord r 
 abbrev pub RecordAccepts : Type 0
 RecordAccepts =
     (r : List ℕ) (a : Repair) (u : List ℕ) → RestoresRecord r a u → (k : ℕ) (c : List ℕ)
-    → ((repair a ≡ accepted k) × Holds (widthOf r) c u) ↔ (RecordPasses r × Nearest (widthOf r) (wordOf r) (erasuresOf r) (reachOf r) c k)
+    → ((repair a ≡ accepted k) × HoldsWord (widthOf r) c u) ↔ (RecordPasses r × Nearest (widthOf r) (wordOf r) (erasuresOf r) (reachOf r) c k)
 
 -- refused with 7 exactly when it passes and no codeword is near
 abbrev pub RecordRefusesSeven : Type 0
@@ -115,8 +115,8 @@ abbrev pub NoneRefused : Type 0
 NoneRefused = (card : List ℕ) (x : CardCheck) → checkOf x ≡ firstRefused card → (x ≡ AllAccepted) ↔ NoneBad card
 
 -- document 01's card check, which leaves the choice of the number open, is kept too
-abbrev pub ChecksCard : Type 0
-ChecksCard = (card : List ℕ) (x : CardCheck) → checkOf x ≡ firstRefused card → Checks card (checkOf x)
+abbrev pub CheckKept : Type 0
+CheckKept = (card : List ℕ) (x : CardCheck) → checkOf x ≡ firstRefused card → Checks card (checkOf x)
 
 -- a slot to pass over: it is blank, or its record passes and one codeword alone is near
 pub record OneNear (r : List ℕ) : Type 0 where
@@ -179,7 +179,7 @@ ListedLong =
     → listing (a ++ b) ≡ partLines start a ++ (moreLine ++ totalLine (partProgress start a .totals))
 
 -- a card may come in parts, whatever is carried from slot to slot
-abbrev pub InParts : Type 1
-InParts =
+abbrev pub SlotsInParts : Type 1
+SlotsInParts =
     (A : Type 0) (step : A → List ℕ → A) (a b : List ℕ) (j : ℕ) → length a ≡ j * recordSize → (s : A)
     → overSlots step s (a ++ b) ≡ overSlots step (overSlots step s a) b

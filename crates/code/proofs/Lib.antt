@@ -8,6 +8,7 @@ pub mod Blocks  -- bytes of a list in one number, and what a test of it says of 
 pub mod Questions  -- what the questions' tests mean, and their loops
 pub mod Lengths  -- the length of a word at each width
 pub mod Members  -- lists of places
+pub mod Places  -- arrays of places, by their numbers, and the loops over them
 pub mod Columns  -- syndromes by columns, with and without erasures
 -- the road: a folder for each part of it
 pub mod distance  -- near codewords are unique, since codewords are far apart

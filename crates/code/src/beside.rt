@@ -27,6 +27,7 @@ use crate::trial::Trial;
 use crate::trial::entry_times;
 use crate::trial::extended;
 use crate::trial::listed;
+use crate::trial::place_at;
 
 // The trial with the extra place p.
 fn try_place(width: u8, word: &[u8], t: Trial, p: Place) -> Correction
@@ -69,21 +70,22 @@ fn try_root(width: u8, word: &[u8], t: Trial, square: u8, linear: u8, constant: 
     try_place(width, word, t, place_of(e))
 }
 
-// Check places, from `low` on and below `high`. Syndromes at which no check place is wrong come from the erasures alone, and what is left of
-// them without these is 0: so what is left and is not 0 tells that the wrong one is among its syndromes.
+// Check places, from `low` on and below `high`: a place, or 5, where the check places end. Syndromes at which no check place is wrong come
+// from the erasures alone, and what is left of them without these is 0: so what is left and is not 0 tells that the wrong one is among its
+// syndromes.
 pub struct CheckRange {
-    pub low: u8,
-    pub high: u8,
+    pub low: Place,
+    pub high: Place,
 }
 
 // The range's places among the n from k on, if x is not 0.
-fn narrowed(f: CheckRange, k: u8, n: u8, x: u8) -> CheckRange
-    requires { ⌜ k + n ≤ checks ⌝ }
+fn narrowed(f: CheckRange, k: Place, n: u8, x: u8) -> CheckRange
+    requires { ⌜ k .0 + n ≤ checks ⌝ }
     ensures { λ r.
         ⌜
         (
-        (m : ℕ) (w es : List ℕ) → NoneOutside m w es (f .low) (f .high) → (x ≢ 0 → NoneOutside m w es k (k + n))
-        → NoneOutside m w es (r .low) (r .high)
+        (m : ℕ) (w es : List ℕ) → NoneOutside m w es (f .low .0) (f .high .0) → (x ≢ 0 → NoneOutside m w es (k .0) (k .0 + n))
+        → NoneOutside m w es (r .low .0) (r .high .0)
         )
         ⌝ }
 {
@@ -91,8 +93,8 @@ fn narrowed(f: CheckRange, k: u8, n: u8, x: u8) -> CheckRange
         return f;
     }
     let high = f.high;
-    let end = k + n;
-    if high < end {
+    let end = Place(k.0 + n);
+    if high.0 < end.0 {
         return CheckRange { low: k, high };
     }
     CheckRange { low: k, high: end }
@@ -101,13 +103,16 @@ fn narrowed(f: CheckRange, k: u8, n: u8, x: u8) -> CheckRange
 // The check places that are among the n from k on, for each row k that is not 0.
 fn range_of(rows: [u8; 5], n: u8) -> CheckRange
     requires { ⌜ (0 < n) × (n ≤ checks) ⌝ }
-    ensures { λ r. ⌜ ((m : ℕ) (w es : List ℕ) → Tell m w es n (at rows) → NoneOutside m w es (r .low) (r .high)) ⌝ }
+    ensures { λ r. ⌜ ((m : ℕ) (w es : List ℕ) → Tell m w es n (at rows) → NoneOutside m w es (r .low .0) (r .high .0)) ⌝ }
 {
     let end = 6 - n;
-    let mut f = CheckRange { low: 0, high: 5 };
+    let mut f = CheckRange {
+        low: Place(0),
+        high: Place(5),
+    };
     let mut k: u8 = 0;
     while k < end {
-        f = narrowed(f, k, n, rows[k as usize]);
+        f = narrowed(f, Place(k), n, rows[k as usize]);
         k += 1;
     }
     f
@@ -175,12 +180,11 @@ fn eliminated_rows(width: u8, t: Trial) -> [u8; 5]
 {
     let places = t.places;
     let count = t.count;
-    let p = places[0];
-    let q = places[1];
+    let p = place_at(places, 0);
     if count == 1 {
-        return without_one(width, t, Place(p));
+        return without_one(width, t, p);
     }
-    without_two(width, t, Place(p), Place(q))
+    without_two(width, t, p, place_at(places, 1))
 }
 
 // The check places that come into question beside the erasures.
@@ -188,28 +192,31 @@ fn candidate_checks(t: Trial, rows: [u8; 5]) -> CheckRange
     ensures { λ r.
         ⌜
         (
-        (m : ℕ) (w : List ℕ) → Ready m w t → Eliminated m (placesOf t) (t .sums) rows → NoneOutside m w (placesOf t) (r .low) (r .high)
+        (m : ℕ) (w : List ℕ) → Ready m w t → Eliminated m (placesOf t) (t .sums) rows → NoneOutside m w (placesOf t) (r .low .0) (r .high .0)
         )
         ⌝ }
 {
     let places = t.places;
     let count = t.count;
-    let p = places[0];
-    let q = places[1];
+    let p = place_at(places, 0);
+    let q = place_at(places, 1);
     if count == 1 {
-        if 5 <= p {
+        if 5 <= p.0 {
             return range_of(rows, 2);
         }
         return range_of(rows, 1);
     }
     if count == 2 {
-        if 5 <= p {
-            if 5 <= q {
+        if 5 <= p.0 {
+            if 5 <= q.0 {
                 return range_of(rows, 3);
             }
         }
     }
-    CheckRange { low: 0, high: 5 }
+    CheckRange {
+        low: Place(0),
+        high: Place(5),
+    }
 }
 
 // Do the erasures alone tell of no codeword? So it is where a check place that is not erased is outside the range: what rules the place
@@ -217,14 +224,16 @@ fn candidate_checks(t: Trial, rows: [u8; 5]) -> CheckRange
 fn erasures_excluded(t: Trial, f: CheckRange) -> bool
     requires { ⌜ t .count ≤ unknowns ⌝ }
     ensures { λ r.
-        ⌜ (r ≡ true → (m : ℕ) (w : List ℕ) → Ready m w t → NoneOutside m w (placesOf t) (f .low) (f .high) → NoneAt m w (placesOf t)) ⌝ }
+        ⌜ (r ≡ true → (m : ℕ) (w : List ℕ) → Ready m w t → NoneOutside m w (placesOf t) (f .low .0) (f .high .0) → NoneAt m w (placesOf t)) ⌝ }
 {
     let places = t.places;
     let count = t.count;
-    if 0 < f.low {
+    let low = f.low;
+    let high = f.high;
+    if 0 < low.0 {
         return !listed(places, count, Place(0));
     }
-    if f.high < 5 {
+    if high.0 < 5 {
         return !listed(places, count, Place(4));
     }
     false
@@ -236,13 +245,15 @@ fn try_checks(width: u8, word: &[u8], t: Trial, f: CheckRange) -> Correction
     ensures { λ r.
         ⌜
         (r .count ≤ unknowns)
-        × (Ready width (now (word .entry)) t → NoneOutside width (now (word .entry)) (placesOf t) (f .low) (f .high)
+        × (Ready width (now (word .entry)) t → NoneOutside width (now (word .entry)) (placesOf t) (f .low .0) (f .high .0)
         → Searched width (now (word .entry)) (placesOf t) 1 (NoneCheck width (now (word .entry)) (placesOf t)) r)
         ⌝ }
 {
+    let low = f.low;
     let high = f.high;
-    let mut p = f.low;
-    while p < high {
+    let end = high.0;
+    let mut p = low.0;
+    while p < end {
         let c = try_place(width, word, t, Place(p));
         if solved(c) {
             return c;
@@ -400,13 +411,12 @@ fn try_data(width: u8, word: &[u8], t: Trial, rows: [u8; 5]) -> Correction
 {
     let count = t.count;
     let places = t.places;
-    let p = places[0];
-    let q = places[1];
+    let p = place_at(places, 0);
     if count == 2 {
-        return try_data_beside_two(width, word, t, rows, Place(p), Place(q));
+        return try_data_beside_two(width, word, t, rows, p, place_at(places, 1));
     }
-    if p < 5 {
-        return try_data_beside_checks(width, word, t, Place(p), Place(p));
+    if p.0 < 5 {
+        return try_data_beside_checks(width, word, t, p, p);
     }
     try_root(width, word, t, 0, rows[0], rows[1])
 }
@@ -417,7 +427,7 @@ fn solve_erasures(width: u8, t: Trial, f: CheckRange) -> Correction
     ensures { λ r.
         ⌜
         (r .count ≤ unknowns)
-        × ((w : List ℕ) → Ready width w t → NoneOutside width w (placesOf t) (f .low) (f .high)
+        × ((w : List ℕ) → Ready width w t → NoneOutside width w (placesOf t) (f .low .0) (f .high .0)
         → Searched width w (placesOf t) 0 (NoneAt width w (placesOf t)) r)
         ⌝ }
 {

@@ -8,8 +8,9 @@ ghost use lib.ListN.{length, take};
 ghost use Rattle.field.specs.Question.{allBelow};
 ghost use Rattle.code.specs.Word.{longest};
 ghost use Rattle.code.specs.Erasure.{member, distinct, differ, changesBelow};
+ghost use Rattle.code.specs.inner.Place.{numbers};
 ghost use Rattle.code.specs.inner.Matrix.{rows, unknowns, columnOf};
-ghost use Rattle.code.specs.inner.Correction.{placesOf, Ready, SystemColumns, SystemMatrix, corrected, NoneAt, Searched, isSolved};
+ghost use Rattle.code.specs.inner.Correction.{placesOf, Ready, SystemColumns, SystemMatrix, correctedPlaces, corrected, NoneAt, Searched, isSolved};
 ghost use Rattle.code.specs.declared.solver.Solutions.the-variants.{None};
 use crate::place::Place;
 use crate::place::whole_column;
@@ -19,13 +20,15 @@ use crate::solver::ROWS;
 use crate::solver::Solutions;
 use crate::solver::UNKNOWNS;
 use crate::solver::solve;
+use crate::trial::Places;
 use crate::trial::Trial;
+use crate::trial::place_at;
 
 // Whether a codeword was found or several, and, where it was one, the symbols that belong at the first `count` places.
 pub struct Correction {
     pub found: Solutions,
     pub count: usize,
-    pub places: [u8; UNKNOWNS],
+    pub places: Places,
     pub values: [u8; UNKNOWNS],
 }
 
@@ -36,7 +39,7 @@ pub fn nothing() -> Correction
     Correction {
         found: Solutions::None,
         count: 0,
-        places: [0; UNKNOWNS],
+        places: [Place(0); UNKNOWNS],
         values: [0; UNKNOWNS],
     }
 }
@@ -54,14 +57,14 @@ pub fn solved(c: Correction) -> bool
 }
 
 // The columns at the first `count` places, then zeros.
-fn columns_of(width: u8, places: [u8; UNKNOWNS], count: usize) -> [[u8; ROWS]; UNKNOWNS]
+fn columns_of(width: u8, places: Places, count: usize) -> [[u8; ROWS]; UNKNOWNS]
     requires { ⌜ count ≤ unknowns ⌝ }
-    ensures { λ r. ⌜ SystemColumns width (take count places) r ⌝ }
+    ensures { λ r. ⌜ SystemColumns width (take count (numbers places)) r ⌝ }
 {
     let mut columns = [[0u8; ROWS]; UNKNOWNS];
     let mut j = 0;
     while j < count {
-        columns[j] = whole_column(width, Place(places[j]));
+        columns[j] = whole_column(width, place_at(places, j));
         j += 1;
     }
     columns
@@ -85,14 +88,9 @@ fn row_at(sum: u8, columns: [[u8; ROWS]; UNKNOWNS], k: usize) -> [u8; COLUMNS]
 }
 
 // The system of a trial: the columns at its places, and its syndromes on the right.
-fn matrix_of(
-    width: u8,
-    places: [u8; UNKNOWNS],
-    count: usize,
-    sums: [u8; 5],
-) -> [[u8; COLUMNS]; ROWS]
+fn matrix_of(width: u8, places: Places, count: usize, sums: [u8; 5]) -> [[u8; COLUMNS]; ROWS]
     requires { ⌜ count ≤ unknowns ⌝ }
-    ensures { λ r. ⌜ SystemMatrix width places count sums r ⌝ }
+    ensures { λ r. ⌜ SystemMatrix width (numbers places) count sums r ⌝ }
 {
     let columns = columns_of(width, places, count);
     [
@@ -139,8 +137,8 @@ fn change_at(erasures: &[u8], p: Place, x: u8, y: u8) -> u8
 // Writes the corrected word, at the places of the correction alone, and counts the changes outside the erasures.
 pub fn apply_correction(word: &mut [u8], erasures: &[u8], c: Correction) -> u8
     requires { ⌜
-        (c .count ≤ unknowns) × (length (now word) ≤ longest) × (allBelow (length (now word)) (take (c .count) (c .places)) ≡ true)
-        × (distinct (take (c .count) (c .places)) ≡ true)
+        (c .count ≤ unknowns) × (length (now word) ≤ longest) × (allBelow (length (now word)) (correctedPlaces c) ≡ true)
+        × (distinct (correctedPlaces c) ≡ true)
         ⌝ }
     ensures { λ r.
         ⌜
@@ -154,10 +152,10 @@ pub fn apply_correction(word: &mut [u8], erasures: &[u8], c: Correction) -> u8
     let mut i = c.count;
     while 0 < i {
         i -= 1;
-        let place = places[i];
-        let p = place as usize;
+        let place = place_at(places, i);
+        let p = place.0 as usize;
         let value = values[i];
-        k += change_at(erasures, Place(place), word[p], value);
+        k += change_at(erasures, place, word[p], value);
         word[p] = value;
     }
     k

@@ -97,7 +97,7 @@ fn correction_of(word: &[u8], f: FirstTwo, y: u8, z: u8) -> Correction
     Correction {
         found: Solutions::One,
         count,
-        places: [p.0, q.0, 0, 0, 0],
+        places: [p, q, Place(0), Place(0), Place(0)],
         values: [a, b, 0, 0, 0],
     }
 }

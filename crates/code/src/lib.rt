@@ -13,7 +13,7 @@ mod codeword;
 mod correction;
 mod errors;
 mod finder;
-mod place;
+pub mod place;
 pub mod question;
 mod restorer;
 mod roots;

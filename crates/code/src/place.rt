@@ -1,4 +1,4 @@
-// A place of a word, and the one conversion between places and exponents of α, each way.
+// A place of a word, and the one conversion between places and exponents of α, each way. `Place` serves the crates above too.
 ghost use mathlib.Core.Path.{_≡_};
 ghost use Prim.Native.Nat.{_+_, _*_, _≤_, _<_};
 ghost use mathlib.Core.Bool.{true};
@@ -16,7 +16,7 @@ use field::table::powers_from;
 pub struct Place(pub u8);
 
 // The exponent i of place 5 + i. No entry point.
-pub fn exponent_of(p: Place) -> Exponent
+pub(crate) fn exponent_of(p: Place) -> Exponent
     requires { ⌜ 5 ≤ p .0 ⌝ }
     ensures { λ r. ⌜ r ≡ exponentOf p ⌝ }
 {
@@ -25,7 +25,7 @@ pub fn exponent_of(p: Place) -> Exponent
 }
 
 // The place 5 + i of the exponent i, the other way. No entry point.
-pub fn place_of(e: Exponent) -> Place
+pub(crate) fn place_of(e: Exponent) -> Place
     requires { ⌜ e .0 + 5 < 256 ⌝ }
     ensures { λ r. ⌜ r ≡ placeOf e ⌝ }
 {
@@ -43,7 +43,7 @@ fn multiple(k: u8, e: Exponent) -> Exponent
 }
 
 // Row k of the column at place p.
-pub fn column(width: u8, p: Place, k: u8) -> u8
+pub(crate) fn column(width: u8, p: Place, k: u8) -> u8
     ensures { λ r. ⌜ (isWidth width ≡ true → r ≡ columnM width (p .0) k) ⌝ }
 {
     let place = p.0;
@@ -57,7 +57,7 @@ pub fn column(width: u8, p: Place, k: u8) -> u8
 }
 
 // The point of the data place p, which is row 1 of its column: at width 7 a read of the table of powers.
-pub fn point(width: u8, p: Place) -> u8
+pub(crate) fn point(width: u8, p: Place) -> u8
     requires { ⌜ 5 ≤ p .0 ⌝ }
     ensures { λ r. ⌜ (isWidth width ≡ true → r ≡ columnM width (p .0) 1) ⌝ }
 {
@@ -68,7 +68,7 @@ pub fn point(width: u8, p: Place) -> u8
 }
 
 // x times the column at the data place p: row after row a product with the point.
-pub fn point_times(width: u8, p: Place, x: u8) -> [u8; 5]
+pub(crate) fn point_times(width: u8, p: Place, x: u8) -> [u8; 5]
     requires { ⌜ 5 ≤ p .0 ⌝ }
     ensures { λ r. ⌜ (isWidth width ≡ true → x < order width → r ≡ five (λ k. product width (columnM width (p .0) k) x)) ⌝ }
 {
@@ -81,7 +81,7 @@ pub fn point_times(width: u8, p: Place, x: u8) -> [u8; 5]
 }
 
 // The column at place p whole: at width 7 a data place takes one read of the table of powers.
-pub fn whole_column(width: u8, p: Place) -> [u8; 5]
+pub(crate) fn whole_column(width: u8, p: Place) -> [u8; 5]
     ensures { λ r. ⌜ (isWidth width ≡ true → r ≡ five (columnM width (p .0))) ⌝ }
 {
     let place = p.0;

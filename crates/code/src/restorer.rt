@@ -12,6 +12,7 @@ use crate::asking::ask_within;
 use crate::correction::Correction;
 use crate::correction::apply_correction;
 use crate::finder::find_near;
+use crate::place::Place;
 use crate::search::search;
 use crate::solver::Solutions;
 use crate::trial::Trial;
@@ -40,7 +41,7 @@ fn find_correction(method: Method, width: u8, word: &[u8], t: Trial, reach: u8) 
 {
     match method {
         Method::Syndromes => find_near(width, word, t, reach as usize),
-        Method::Trials => search(width, word, t, 0, reach as usize),
+        Method::Trials => search(width, word, t, Place(0), reach as usize),
     }
 }
 

@@ -4,12 +4,12 @@ ghost use mathlib.Core.Logic.{_≢_};
 ghost use mathlib.Core.Bool.{true, false};
 ghost use mathlib.Core.List.{List, _∷_};
 ghost use Prim.Native.Nat.{ℕ, _+_, _≤_, _<_};
-ghost use lib.ListN.{length, take};
+ghost use lib.ListN.{length, getD, take};
 ghost use Rattle.field.specs.Polynomial.{add};
 ghost use Rattle.field.specs.Field.{order, product};
 ghost use Rattle.field.specs.Question.{isWidth, allBelow};
 ghost use Rattle.code.specs.Word.{checks, five, places, longest, at};
-ghost use Rattle.code.specs.inner.Place.{column as columnM};
+ghost use Rattle.code.specs.inner.Place.{numbers, column as columnM};
 ghost use Rattle.code.specs.Erasure.{member, syndromesWithout};
 ghost use Rattle.code.specs.Call.{allZero};
 ghost use Rattle.code.specs.inner.Matrix.{unknowns};
@@ -19,7 +19,6 @@ use crate::place::column;
 use crate::place::exponent_of;
 use crate::place::point_times;
 use crate::question::all_zero;
-use crate::question::contains;
 use crate::slice::copy;
 use crate::solver::UNKNOWNS;
 use crate::syndrome::word_syndromes;
@@ -27,23 +26,33 @@ use field::arithmetic::multiply;
 use field::arithmetic::ratio_exponent;
 use field::table::powers_from;
 
+// Room for as many places as the solver has unknowns.
+pub type Places = [Place; UNKNOWNS];
+
+// Place number i of them: the one way in which they are read.
+pub fn place_at(places: Places, i: usize) -> Place
+    requires { ⌜ i < unknowns ⌝ }
+    ensures { λ r. ⌜ r .0 ≡ getD (numbers places) i 0 ⌝ }
+{
+    places[i]
+}
+
 // Places taken as erased, the first `count` of them, and the five syndromes of the other places.
 pub struct Trial {
-    pub places: [u8; UNKNOWNS],
+    pub places: Places,
     pub count: usize,
     pub sums: [u8; 5],
 }
 
 // The first `count` places with p in front.
-fn prepended(places: [u8; UNKNOWNS], count: usize, p: Place) -> [u8; UNKNOWNS]
+fn prepended(places: Places, count: usize, p: Place) -> Places
     requires { ⌜ count < unknowns ⌝ }
-    ensures { λ r. ⌜ take (count + 1) r ≡ p .0 ∷ take count places ⌝ }
+    ensures { λ r. ⌜ take (count + 1) (numbers r) ≡ p .0 ∷ take count (numbers places) ⌝ }
 {
-    let first = p.0;
-    let mut out = [first; UNKNOWNS];
+    let mut out = [p; UNKNOWNS];
     let mut j = 0;
     while j < count {
-        out[j + 1] = places[j];
+        out[j + 1] = place_at(places, j);
         j += 1;
     }
     out
@@ -134,11 +143,19 @@ pub fn extended(width: u8, t: Trial, p: Place, x: u8) -> Trial
 }
 
 // Is p one of the first `count` places?
-pub fn listed(places: [u8; UNKNOWNS], count: usize, p: Place) -> bool
+pub fn listed(places: Places, count: usize, p: Place) -> bool
     requires { ⌜ count ≤ unknowns ⌝ }
-    ensures { λ r. ⌜ r ≡ member (p .0) (take count places) ⌝ }
+    ensures { λ r. ⌜ r ≡ member (p .0) (take count (numbers places)) ⌝ }
 {
-    contains(&places[..count], p.0)
+    let mut i = 0;
+    while i < count {
+        let q = place_at(places, i);
+        if q.0 == p.0 {
+            return true;
+        }
+        i += 1;
+    }
+    false
 }
 
 // The word, copied to the front of an array that has room for the longest.
@@ -156,34 +173,35 @@ fn copied(word: &[u8]) -> [u8; 132]
 fn filled(
     row: [u8; 132],
     n: usize,
-    places: [u8; UNKNOWNS],
+    places: Places,
     count: usize,
     values: [u8; UNKNOWNS],
 ) -> [u8; 132]
-    requires { ⌜ (count ≤ unknowns) × (n ≤ longest) × (allBelow n (take count places) ≡ true) ⌝ }
-    ensures { λ r. ⌜ take n r ≡ fill (take n row) (take count places) (take count values) ⌝ }
+    requires { ⌜ (count ≤ unknowns) × (n ≤ longest) × (allBelow n (take count (numbers places)) ≡ true) ⌝ }
+    ensures { λ r. ⌜ take n r ≡ fill (take n row) (take count (numbers places)) (take count values) ⌝ }
 {
     let mut out = row;
     let mut i = count;
     while 0 < i {
         i -= 1;
-        let p = places[i] as usize;
+        let place = place_at(places, i);
+        let p = place.0 as usize;
         out[p] = values[i];
     }
     out
 }
 
 // The five syndromes of the word without the symbols at the first `count` places: zeros take their place.
-fn masked_sums(width: u8, word: &[u8], places: [u8; UNKNOWNS], count: usize) -> [u8; 5]
+fn masked_sums(width: u8, word: &[u8], places: Places, count: usize) -> [u8; 5]
     requires { ⌜
         (count ≤ unknowns) × (checks ≤ length (now word)) × (length (now word) ≤ longest)
-        × (allBelow (length (now word)) (take count places) ≡ true)
+        × (allBelow (length (now word)) (take count (numbers places)) ≡ true)
         ⌝ }
     ensures { λ r.
         ⌜
         (
-        isWidth width ≡ true → Lent width (now (word .entry)) (take count places)
-        → r ≡ syndromesWithout width (take count places) (now (word .entry))
+        isWidth width ≡ true → Lent width (now (word .entry)) (take count (numbers places))
+        → r ≡ syndromesWithout width (take count (numbers places)) (now (word .entry))
         )
         ⌝ }
 {
@@ -192,14 +210,17 @@ fn masked_sums(width: u8, word: &[u8], places: [u8; UNKNOWNS], count: usize) -> 
     word_syndromes(width, &row[..n])
 }
 
-// The erasures, copied to the front of an array that has room for them.
-fn row_of_places(erasures: &[u8]) -> [u8; UNKNOWNS]
+// The erasures, which are lent as bytes, made places.
+fn row_of_places(erasures: &[u8]) -> Places
     requires { ⌜ length (now erasures) ≤ unknowns ⌝ }
-    ensures { λ r. ⌜ take (length (now (erasures .entry))) r ≡ now (erasures .entry) ⌝ }
+    ensures { λ r. ⌜ take (length (now (erasures .entry))) (numbers r) ≡ now (erasures .entry) ⌝ }
 {
-    let mut out = [0u8; UNKNOWNS];
-    let n = erasures.len();
-    copy(&mut out[..n], erasures);
+    let mut out = [Place(0); UNKNOWNS];
+    let mut i = 0;
+    while i < erasures.len() {
+        out[i] = Place(erasures[i]);
+        i += 1;
+    }
     out
 }
 

@@ -14,7 +14,7 @@ use Rattle.code.specs.Near.{radius, Near}
 use Rattle.code.specs.Demands.{Passes, Nearest}
 use Rattle.code.specs.Call.{encodeOf, isCodewordOf, readDataOf, syndromesOf, syndromesGiven, withinOf, restoreOf, restoreWritten}
 use Rattle.card.specs.Record.{widthOf, wordOf, erasuresOf, reachOf, recordOf, recordWritten, recordWithinOf}
-use Rattle.card.specs.Demands.{RecordPasses, Holds}
+use Rattle.card.specs.Demands.{RecordPasses, HoldsWord}
 use Rattle.card.specs.Card.{Check, noBad, bad, firstRefused}
 use Rattle.card.specs.Conversion.{toNewOf, toOldOf}
 use Rattle.sheet.specs.Call.{writeSheetOf, readSheetOf}
@@ -112,7 +112,7 @@ WordDecodes =
 -- the same of xrs_restore_record, which was lent the record r
 pub record RecordCallDecoded (r : List ℕ) (n : ℕ) (u : List ℕ) : Type 0 where
   pub restored : (k : ℕ) (c : List ℕ)
-      → ((n ≡ 256 * k) × Holds (widthOf r) c u) ↔ (RecordPasses r × Nearest (widthOf r) (wordOf r) (erasuresOf r) (reachOf r) c k)
+      → ((n ≡ 256 * k) × HoldsWord (widthOf r) c u) ↔ (RecordPasses r × Nearest (widthOf r) (wordOf r) (erasuresOf r) (reachOf r) c k)
   pub none-near : (n ≡ 7) ↔ (RecordPasses r × ((c : List ℕ) → Near (widthOf r) (erasuresOf r) (wordOf r) (reachOf r) c → ⊥))
   pub refused-unchanged : n % 256 ≢ 0 → u ≡ r
 

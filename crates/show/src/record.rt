@@ -24,6 +24,7 @@ use card::text::put_byte;
 use card::text::put_bytes;
 use card::words::put_refusal;
 use code::Repair;
+use code::place::Place;
 use code::word_length;
 use field::Question;
 use field::Verdict;
@@ -104,15 +105,15 @@ fn put_syndromes(out: &mut [u8], at: usize, bytes: &[u8]) -> usize
 }
 
 // The line of place p, where its symbol a would become b.
-fn put_place(out: &mut [u8], at: usize, p: usize, a: u8, b: u8) -> usize
+fn put_place(out: &mut [u8], at: usize, p: Place, a: u8, b: u8) -> usize
     requires { ⌜ at + longestPlace ≤ length (now out) ⌝ }
-    ensures { λ r. ⌜ Writes (now (out .entry)) at (placeLine p a b) (now (out .exit)) r ⌝ }
+    ensures { λ r. ⌜ Writes (now (out .entry)) at (placeLine (p .0) a b) (now (out .exit)) r ⌝ }
     ensures { λ r. ⌜ r ≤ at + longestPlace ⌝ }
 {
     if a == b {
         return at;
     }
-    let c = put_labelled(out, at, b"place ", p as u64);
+    let c = put_labelled(out, at, b"place ", p.0 as u64);
     let d = put_labelled(out, c, b": ", a as u64);
     let e = put_labelled(out, d, b" -> ", b as u64);
     put_byte(out, e, b'\n')
@@ -127,7 +128,7 @@ fn put_places(out: &mut [u8], at: usize, old: &[u8], new: &[u8]) -> usize
     let mut next = at;
     let mut p = 0;
     while p < 132 {
-        next = put_place(out, next, p, old[HEADER + p], new[HEADER + p]);
+        next = put_place(out, next, Place(p as u8), old[HEADER + p], new[HEADER + p]);
         p += 1;
     }
     next

@@ -8,7 +8,7 @@ use native.Mathlib.Nat.{le-refl}
 use native.Mathlib.Decide.{ℕ-discrete}
 use native.Mathlib.Omega.{arith}
 use borrow.Author.Tests.{ne-eqb}
-use lib.ListN.{length, getD, set, take}
+use lib.ListN.{length, getD, set}
 use Rattle.field.specs.Polynomial.{add}
 use Rattle.field.specs.Field.{product, power, α}
 use Rattle.field.specs.Question.{isWidth, allBelow}
@@ -19,7 +19,6 @@ use Rattle.code.specs.declared.correction.Correction.{Correction}
 use Rattle.code.specs.Word.{checks, places, items, five, at}
 use Rattle.code.specs.Erasure.{member}
 use Rattle.code.specs.Near.{distance, radius}
-use Rattle.code.specs.inner.Matrix.{unknowns}
 use Rattle.code.specs.inner.Correction.{Lent, NoneAt, NoneBeside, Searched, NoneWithin}
 use Rattle.code.proofs.Algebra.{add-of-eq, power-times}
 use Rattle.code.proofs.Members.{below-cons}
@@ -213,15 +212,6 @@ eliminated-double m es s rows p q e L = record {
 }
 
 -- ---- the erasures of a trial
-
-pub take-one : (xs : List ℕ) → length xs ≡ unknowns → take 1 xs ≡ getD xs 0 0 ∷ []
-take-one [] e = absurd (omega arith)
-take-one (x ∷ xs) e = refl
-
-pub take-two : (xs : List ℕ) → length xs ≡ unknowns → take 2 xs ≡ getD xs 0 0 ∷ getD xs 1 0 ∷ []
-take-two [] e = absurd (omega arith)
-take-two (x ∷ []) e = absurd (omega arith)
-take-two (x ∷ y ∷ xs) e = refl
 
 pub only-one : (p d : ℕ) → Only (p ∷ []) p d
 only-one p d k h n n′ = rw (ne-eqb k p n)

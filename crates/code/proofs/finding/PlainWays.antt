@@ -23,7 +23,7 @@ use Rattle.code.specs.declared.errors.FirstTwo.{FirstTwo}
 use Rattle.code.specs.declared.errors.Pair.{Pair}
 use Rattle.code.specs.declared.solver.Solutions.the-variants.{None, One}
 use Rattle.code.specs.Word.{checks, five, places, items, at}
-use Rattle.code.specs.inner.Place.{column}
+use Rattle.code.specs.inner.Place.{numbers, column}
 use Rattle.code.specs.Erasure.{maskedSyndrome}
 use Rattle.code.specs.Call.{allZero}
 use Rattle.code.specs.inner.Correction.{Lent, placesOf, Ready, Searched, NoneWithin}
@@ -46,14 +46,14 @@ use Rattle.code.proofs.finding.Adding.{pair-corrects}
 
 -- the correction that is made of at most two places, with a and b the symbols there
 pub correction-adds : (w : List ℕ) (f : FirstTwo) (a b : ℕ) (c : Correction) → f .count ≤ 2 → c .count ≡ f .count
-    → c .places ≡ f .first .0 ∷ f .second .0 ∷ 0 ∷ 0 ∷ 0 ∷ [] → c .values ≡ a ∷ b ∷ 0 ∷ 0 ∷ 0 ∷ []
+    → numbers (c .places) ≡ f .first .0 ∷ f .second .0 ∷ 0 ∷ 0 ∷ 0 ∷ [] → c .values ≡ a ∷ b ∷ 0 ∷ 0 ∷ 0 ∷ []
     → (ls : List ℕ) (e : ℕ → ℕ) → Lists f ls → a ≡ add (at w (f .first .0)) (e (f .first .0)) → b ≡ add (at w (f .second .0)) (e (f .second .0))
     → AddsAt w ls e c
 correction-adds w f a b c h en ep ev ls e L ea eb = go ls L
   where
     go : (ls : List ℕ) → Lists f ls → AddsAt w ls e c
     go [] L = record {
-      places = ap (λ (n : ℕ). take n (c .places)) (en ∙ L .count);
+      places = ap (λ (n : ℕ). take n (numbers (c .places))) (en ∙ L .count);
       values = ap (λ (n : ℕ). take n (c .values)) (en ∙ L .count);
     }
     go (p ∷ []) L = record {

@@ -23,7 +23,7 @@ use Rattle.code.specs.declared.trial.Trial.{Trial}
 use Rattle.code.specs.declared.solver.Solutions.{Solutions}
 use Rattle.code.specs.declared.solver.Solutions.the-variants.{None, One, Several}
 use Rattle.code.specs.Word.{at, five}
-use Rattle.code.specs.inner.Place.{column}
+use Rattle.code.specs.inner.Place.{numbers, column}
 use Rattle.code.specs.Erasure.{maskedSyndrome}
 use Rattle.code.specs.inner.Matrix.{rows, unknowns, columns, entry, columnOf, Matrix, Operands, rowAdd, dot, Values, Means}
 use Rattle.code.specs.inner.Correction.{fill, placesOf, Ready, systemEntry, SystemColumns, SystemRow, SystemMatrix, NoneAt, OneAt, SeveralAt, Searched}
@@ -190,13 +190,13 @@ getD-columns m k (l ∷ ls) (suc j) h = getD-columns m k ls j (le-of-suc-le-suc 
 -- ---- the system of a trial and the solver's answers
 
 -- the matrix a is that of the trial t of the word w; vs are the values that the solver gave
-module _ (m : ℕ) (t : Trial) (few : t .count ≤ unknowns) (a : List (List ℕ)) (A : SystemMatrix m (t .places) (t .count) (t .sums) a)
+module _ (m : ℕ) (t : Trial) (few : t .count ≤ unknowns) (a : List (List ℕ)) (A : SystemMatrix m (numbers (t .places)) (t .count) (t .sums) a)
     (vs w : List ℕ) (R : Ready m w t) where
   F : IsField m
   F = field-of m (R .width)
 
   size : length (placesOf t) ≡ t .count
-  size = length-take-le (t .count) (t .places) (omega (arith, A .room))
+  size = length-take-le (t .count) (numbers (t .places)) (omega (arith, A .room))
 
   entries : (k j : ℕ) → k < rows → j < columns → entry a k j ≡ systemEntry m (placesOf t) (at (t .sums) k) k j
   entries k j h l = A .each k h .entries (R .width) j l

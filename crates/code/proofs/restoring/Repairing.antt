@@ -78,12 +78,12 @@ module _ (n c : ℕ) (xs zs : List ℕ) (lx : c ≤ length xs) (lz : c ≤ lengt
       drop-cons (take c ys) (i - 1) 0 (omega (arith, length-take-le c ys l))
       ∙ ap₂ (λ (y k : ℕ). y ∷ drop k (take c ys)) (getD-take c ys (i - 1) 0 (omega arith)) back
 
-  pub put-on : (w row : List ℕ) → Put n c xs zs w row i → Put n c xs zs w (set row (getD xs (i - 1) 0) (getD zs (i - 1) 0)) (i - 1)
+  pub put-on : (w row : List ℕ) (q : ℕ) → q ≡ getD xs (i - 1) 0 → Put n c xs zs w row i → Put n c xs zs w (set row q (getD zs (i - 1) 0)) (i - 1)
   unfolding fill
-  put-on w row P = (
+  put-on w row q e P = (
     omega arith,
-    take-set-lt n row (getD xs (i - 1) 0) (getD zs (i - 1) 0) place-below
-        ∙ ap (λ (u : List ℕ). set u (getD xs (i - 1) 0) (getD zs (i - 1) 0)) (P .1)
+    take-set-lt n row q (getD zs (i - 1) 0) (omega (arith, place-below))
+        ∙ ap₂ (λ (u : List ℕ) (r : ℕ). set u r (getD zs (i - 1) 0)) (P .1) e
         ∙ sym (ap₂ (fill w) (part xs lx) (part zs lz)),
   )
 

@@ -96,25 +96,25 @@ pub written-size : {c : ℕ} {ps vs es w u : List ℕ} {k i : ℕ} → Written c
 written-size W = ap length (W .word) ∙ length-fill _ _ _
 
 module _ {c : ℕ} {ps vs es w u : List ℕ} {k i : ℕ} (lp : c ≤ length ps) (lv : c ≤ length vs) (bs : allBelow (length w) (take c ps) ≡ true)
-    (ds : distinct (take c ps) ≡ true) (W : Written c ps vs es w u k i) (h : 0 < i) where
-  -- the next place
-  abbrev p : ℕ
-  p = getD ps (i - 1) 0
-
+    (ds : distinct (take c ps) ≡ true) (W : Written c ps vs es w u k i) (h : 0 < i) (p : ℕ) (ep : p ≡ getD ps (i - 1) 0) where
+  -- p is the next place, and v what is written there
   abbrev v : ℕ
   v = getD vs (i - 1) 0
 
   pub written-below : p < length u
-  written-below = omega (arith, written-size W, place-below (length w) c ps vs lp lv bs i h (W .within))
+  written-below = omega (arith, ep, written-size W, place-below (length w) c ps vs lp lv bs i h (W .within))
 
   next : (ys : List ℕ) → c ≤ length ys → drop (i - 1) (take c ys) ≡ getD ys (i - 1) 0 ∷ drop i (take c ys)
   next = part (length w) c ps vs lp lv bs i h (W .within)
+
+  next-place : drop (i - 1) (take c ps) ≡ p ∷ drop i (take c ps)
+  next-place = next ps lp ∙ ap (λ (q : ℕ). q ∷ drop i (take c ps)) (sym ep)
 
   still : at u p ≡ at w p
   still =
       ap (λ (x : List ℕ). at x p) (W .word)
       ∙ fill-other w _ _ p (distinct-head p (drop i (take c ps))
-      (subst (λ (ls : List ℕ). distinct ls ≡ true) (next ps lp) (distinct-drop (i - 1) (take c ps) ds)))
+      (subst (λ (ls : List ℕ). distinct ls ≡ true) next-place (distinct-drop (i - 1) (take c ps) ds)))
 
   module _ (d : ℕ) (e : d ≡ cond (member p es) 0 (differ (at u p) v)) where
     counted : k + d ≡ changesBelow (length w) es w (set u p v)
@@ -127,6 +127,6 @@ module _ {c : ℕ} {ps vs es w u : List ℕ} {k i : ℕ} (lp : c ≤ length ps) 
     unfolding fill
     written-on = record {
       within = omega (arith, W .within);
-      word = ap (λ (x : List ℕ). set x p v) (W .word) ∙ sym (ap₂ (fill w) (next ps lp) (next vs lv));
+      word = ap (λ (x : List ℕ). set x p v) (W .word) ∙ sym (ap₂ (fill w) next-place (next vs lv));
       changed = counted;
     }

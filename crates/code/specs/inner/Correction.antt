@@ -14,7 +14,7 @@ use Rattle.code.specs.declared.correction.Correction.{Correction}
 use Rattle.code.specs.declared.solver.Solutions.{Solutions}
 use Rattle.code.specs.declared.solver.Solutions.the-variants.{None, One, Several}
 use Rattle.code.specs.Word.{checks, places, longest, at, five, Codeword}
-use Rattle.code.specs.inner.Place.{column}
+use Rattle.code.specs.inner.Place.{numbers, column}
 use Rattle.code.specs.Erasure.{member, distinct, syndromesWithout}
 use Rattle.code.specs.Near.{Near}
 use Rattle.code.specs.inner.Matrix.{rows, columns, unknowns}
@@ -38,9 +38,9 @@ pub record Lent (m : ℕ) (w ls : List ℕ) : Type 0 where
 
 -- ---- a trial: places taken as erased, the erasures and extra ones, with the syndromes of the rest
 
--- the places of a trial
+-- the places of a trial, by their numbers
 abbrev pub placesOf : Trial → List ℕ
-placesOf t = take (t .count) (t .places)
+placesOf t = take (t .count) (numbers (t .places))
 
 -- the trial is one of the word w
 pub record Ready (m : ℕ) (w : List ℕ) (t : Trial) : Type 0 where
@@ -70,9 +70,13 @@ pub record SystemMatrix (m : ℕ) (ps : List ℕ) (n : ℕ) (sums : List ℕ) (a
 
 -- ---- a correction: places, and the symbols that belong there
 
+-- the places of a correction, by their numbers
+abbrev pub correctedPlaces : Correction → List ℕ
+correctedPlaces c = take (c .count) (numbers (c .places))
+
 -- the corrected word
 abbrev pub corrected : List ℕ → Correction → List ℕ
-corrected w c = fill w (take (c .count) (c .places)) (take (c .count) (c .values))
+corrected w c = fill w (correctedPlaces c) (take (c .count) (c .values))
 
 -- no codeword agrees with w outside the places ls
 abbrev pub NoneAt : ℕ → List ℕ → List ℕ → Type 0
@@ -99,8 +103,8 @@ pub record SeveralAt (m : ℕ) (w ls : List ℕ) : Type 0 where
 -- the corrected word is the one codeword that agrees with w outside the places ls and certain extra ones, at most n; the places written are
 -- distinct
 pub record Corrects (m : ℕ) (w ls : List ℕ) (n : ℕ) (c : Correction) : Type 0 where
-  pub below : allBelow (places m) (take (c .count) (c .places)) ≡ true
-  pub distinct : distinct (take (c .count) (c .places)) ≡ true
+  pub below : allBelow (places m) (correctedPlaces c) ≡ true
+  pub distinct : distinct (correctedPlaces c) ≡ true
   pub codeword : Codeword m (corrected w c)
   pub extra : List ℕ
   pub few : length extra ≤ n

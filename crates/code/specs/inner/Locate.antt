@@ -16,6 +16,7 @@ use Rattle.code.specs.declared.errors.Pair.{Pair}
 use Rattle.code.specs.Word.{checks, places, at}
 use Rattle.code.specs.inner.Place.{column}
 use Rattle.code.specs.Erasure.{member}
+use Rattle.code.specs.inner.Correction.{correctedPlaces}
 
 -- ---- one data place
 
@@ -79,5 +80,5 @@ pub record Lists (f : FirstTwo) (ls : List ℕ) : Type 0 where
 
 -- c has the places ls, and adds e there
 pub record AddsAt (w ls : List ℕ) (e : ℕ → ℕ) (c : Correction) : Type 0 where
-  pub places : take (c .count) (c .places) ≡ ls
+  pub places : correctedPlaces c ≡ ls
   pub values : take (c .count) (c .values) ≡ map (λ p. add (at w p) (e p)) ls

@@ -1,11 +1,17 @@
 -- Places and exponents, and the columns of the code's matrix, whose row k gives syndrome k. Assumes nothing.
 use mathlib.Core.Bool.{cond}
+use mathlib.Core.List.{List, [], _∷_}
 use Prim.Native.Nat.{ℕ, _+_, _-_, _*_}
 use lib.Dec.{eqb, ltb}
 use Rattle.field.specs.Field.{power, α}
 use Rattle.field.specs.declared.Exponent.{Exponent}
 use Rattle.code.specs.declared.place.Place.{Place}
 use Rattle.code.specs.Word.{checks}
+
+-- places by their numbers: theorems on places speak of these
+abbrev pub numbers : List Place → List ℕ
+numbers [] = []
+numbers (p ∷ ps) = p .0 ∷ numbers ps
 
 -- the exponent i of place 5 + i: the one conversion between the two
 abbrev pub exponentOf : Place → Exponent

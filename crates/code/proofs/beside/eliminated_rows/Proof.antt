@@ -1,53 +1,56 @@
 -- `code::beside::eliminated_rows` meets its contract. Assumes nothing.
 use borrow.Author.Needs.{needs}
-use mathlib.Core.Path.{_≡_, ap, _∙_}
-use mathlib.Core.List.{[], _∷_}
-use Prim.Native.Nat.{ℕ}
+use mathlib.Core.Path.{_≡_}
 use native.Mathlib.Omega.{arith}
-use lib.ListN.{length, getD, take}
+use lib.ListN.{length}
 use Rattle.code.specs.inner.Matrix.{unknowns}
 use Rattle.code.specs.inner.Correction.{placesOf}
-use Rattle.code.proofs.finding.BesideWays.{take-one, take-two, eliminated-single, eliminated-double}
+use Rattle.code.proofs.Places.{held-length, first-place, first-places}
+use Rattle.code.proofs.finding.BesideWays.{eliminated-single, eliminated-double}
 use Rattle.code.proofs.beside.eliminated_rows.Statement.{statement}
 use Rattle.code.proofs.beside.eliminated_rows.Tie as tie
 
-array-read-p : tie.Need-array-read-p
-array-read-p c = search needs
+room : (s : tie.After-place-at) → length (s .before .before .args .t .places) ≡ unknowns
+room s = search (needs, held-length)
 
-array-read-q : tie.Need-array-read-q
-array-read-q c = search needs
+place-at-requires : tie.Need-place-at-requires
+place-at-requires c κs = search needs
 
 without-one-requires : tie.Need-without-one-requires
 without-one-requires c κs = search needs
 
 returns : tie.Need-returns
 returns c =
-    let a = c .before .before .before .args in
-    let ps = a .t .places in
-    let five : length ps ≡ unknowns = search needs in
-    let E : placesOf (a .t) ≡ getD ps 0 0 ∷ [] = ap (λ (n : ℕ). take n ps) (c .before .if1 .taken) ∙ take-one ps five in
-    λ w R. eliminated-single (a .width) (placesOf (a .t)) (a .t .sums) _ (getD ps 0 0) E (c .without-one .ensures w R)
+    let s = c .before .before in
+    let a = s .before .before .args in
+    let p = s .place-at in
+    let E = first-place (a .t .places) (a .t .count) (p .result .0) (room s) (c .before .if1 .taken) (p .ensures) in
+    λ w R. eliminated-single (a .width) (placesOf (a .t)) (a .t .sums) _ (p .result .0) E (c .without-one .ensures w R)
+
+place-at-requires-2 : tie.Need-place-at-requires-2
+place-at-requires-2 c κs = search needs
 
 without-two-requires : tie.Need-without-two-requires
 without-two-requires c κs = search needs
 
 returns-2 : tie.Need-returns-2
 returns-2 c =
-    let s = c .before .before .before in
-    let a = s .args in
-    let ps = a .t .places in
-    let five : length ps ≡ unknowns = search needs in
-    let two : a .t .count ≡ 2 = omega (arith, s .pre, c .before .if1 .left) in
-    let E : placesOf (a .t) ≡ getD ps 0 0 ∷ getD ps 1 0 ∷ [] = ap (λ (n : ℕ). take n ps) two ∙ take-two ps five in
-    λ w R. eliminated-double (a .width) (placesOf (a .t)) (a .t .sums) _ (getD ps 0 0) (getD ps 1 0) E (c .without-two .ensures w R)
+    let l = c .before .before in
+    let s = l .before in
+    let a = s .before .before .args in
+    let p = s .place-at in
+    let q = c .before .place-at2 in
+    let two : a .t .count ≡ 2 = omega (arith, s .before .before .pre, l .if1 .left) in
+    let E = first-places (a .t .places) (a .t .count) (p .result .0) (q .result .0) (room s) two (p .ensures) (q .ensures) in
+    λ w R. eliminated-double (a .width) (placesOf (a .t)) (a .t .sums) _ (p .result .0) (q .result .0) E (c .without-two .ensures w R)
 
 pub eliminated-rows-spec : {M : Type 1} → statement M
 eliminated-rows-spec =
     tie.close
     (tie.spec
-    array-read-p
-    array-read-q
+    place-at-requires
     without-one-requires
     returns
+    place-at-requires-2
     without-two-requires
     returns-2)

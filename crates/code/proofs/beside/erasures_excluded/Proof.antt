@@ -16,8 +16,8 @@ listed-requires c κs = search needs
 returns : tie.Need-returns
 returns c =
     let l = c .before in
-    let a = l .before .before .before .args in
-    λ h m w R out. none-alone m w (placesOf (a .t)) (a .f .low) (a .f .high) 0 out (omega arith) (λ b u. omega (arith, b, l .if1 .taken)) (omega arith)
+    let a = l .before .before .before .before .before .args in
+    λ h m w R out. none-alone m w (placesOf (a .t)) (a .f .low .0) (a .f .high .0) 0 out (omega arith) (λ b u. omega (arith, b, l .if1 .taken)) (omega arith)
     (sym (c .listed .ensures) ∙ not-true (c .listed .result) h)
 
 listed-requires-2 : tie.Need-listed-requires-2
@@ -26,8 +26,8 @@ listed-requires-2 c κs = search needs
 returns-2 : tie.Need-returns-2
 returns-2 c =
     let l = c .before in
-    let a = l .before .before .before .before .before .args in
-    λ h m w R out. none-alone m w (placesOf (a .t)) (a .f .low) (a .f .high) 4 out (omega arith) (λ b u. omega (arith, u, l .if2 .taken))
+    let a = l .before .before .before .before .before .before .before .args in
+    λ h m w R out. none-alone m w (placesOf (a .t)) (a .f .low .0) (a .f .high .0) 4 out (omega arith) (λ b u. omega (arith, u, l .if2 .taken))
     (omega (arith, field-of m (R .width) .one-lt)) (sym (c .listed2 .ensures) ∙ not-true (c .listed2 .result) h)
 
 returns-3 : tie.Need-returns-3

@@ -19,7 +19,7 @@ module _ (f : tie.After-candidate-checks) (R : Ready (start f .args .width) (sta
   left : Eliminated (start f .args .width) (placesOf (start f .args .t)) (start f .args .t .sums) (f .before .eliminated-rows .result)
   left = f .before .eliminated-rows .ensures _ R
 
-  outside : NoneOutside (start f .args .width) (start f .args .word .now) (placesOf (start f .args .t)) (f .candidate-checks .result .low) (f .candidate-checks .result .high)
+  outside : NoneOutside (start f .args .width) (start f .args .word .now) (placesOf (start f .args .t)) (f .candidate-checks .result .low .0) (f .candidate-checks .result .high .0)
   outside = f .candidate-checks .ensures _ _ R left
 
 eliminated-rows-requires : tie.Need-eliminated-rows-requires

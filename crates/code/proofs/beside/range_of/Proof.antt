@@ -11,7 +11,7 @@ use Rattle.code.proofs.beside.range_of.Tie as tie
 
 abbrev Inv-loop : tie.InvT-loop
 Inv-loop n rows end f₀ k₀ f k =
-    (k ≤ end) × (end + n ≡ 6) × ((m : ℕ) (w es : List ℕ) → Tell m w es n (at rows) → NoneOutside m w es (f .low) (f .high))
+    (k ≤ end) × (end + n ≡ 6) × ((m : ℕ) (w es : List ℕ) → Tell m w es n (at rows) → NoneOutside m w es (f .low .0) (f .high .0))
 
 abbrev μ-loop : tie.MeasureT-loop
 μ-loop n rows end f₀ k₀ f k = end - k

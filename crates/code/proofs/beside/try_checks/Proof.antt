@@ -10,10 +10,10 @@ use Rattle.code.proofs.beside.try_checks.Statement.{statement}
 use Rattle.code.proofs.beside.try_checks.Tie as tie
 
 abbrev Inv-loop : tie.InvT-loop
-Inv-loop width word t high p₀ p = Ready width word t → Sought (λ i. NoneBeside width word i (placesOf t)) p₀ p
+Inv-loop width word t end p₀ p = Ready width word t → Sought (λ i. NoneBeside width word i (placesOf t)) p₀ p
 
 abbrev μ-loop : tie.MeasureT-loop
-μ-loop width word t high p₀ p = high - p
+μ-loop width word t end p₀ p = end - p
 
 loop-holds : tie.Need-loop-holds Inv-loop μ-loop
 loop-holds c = λ R. sought-start _ _
@@ -50,10 +50,10 @@ nothing-requires c κs = search needs
 returns-2 : tie.Need-returns-2 Inv-loop μ-loop
 returns-2 c =
     let l = c .before .before in
-    let a = l .before .before .args in (
+    let a = l .before .before .before .before .args in (
       c .nothing .ensures .0,
       λ R out. searched-none (c .nothing .ensures .1)
-          (range-tried (a .width) (a .word .now) (placesOf (a .t)) (a .f .low) (a .f .high) (l .loop .p) out (c .before .loop-test .left) (l .loop .inv R)),
+          (range-tried (a .width) (a .word .now) (placesOf (a .t)) (a .f .low .0) (a .f .high .0) (l .loop .p) out (c .before .loop-test .left) (l .loop .inv R)),
     )
 
 pub try-checks-spec : {M : Type 1} → statement M

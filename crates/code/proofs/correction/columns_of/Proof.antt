@@ -1,26 +1,29 @@
 -- `code::correction::columns_of` meets its contract: the first j columns are filled in. Assumes nothing.
 use borrow.Author.Needs.{needs}
-use mathlib.Core.Path.{_≡_, subst}
+use mathlib.Core.Path.{_≡_, ap, _∙_, subst}
 use Prim.Native.Nat.{ℕ, _-_, _≤_}
 use native.Mathlib.Omega.{arith}
 use lib.ListN.{length, take}
+use Rattle.code.specs.Word.{five}
+use Rattle.code.specs.inner.Place.{numbers, column}
 use Rattle.code.specs.inner.Matrix.{unknowns}
 use Rattle.code.specs.inner.Correction.{SystemColumns}
+use Rattle.code.proofs.Places.{numbers-length}
 use Rattle.code.proofs.restoring.Correcting.{columns-start, columns-on}
 use Rattle.code.proofs.correction.columns_of.Statement.{statement}
 use Rattle.code.proofs.correction.columns_of.Tie as tie
 
 abbrev Inv-loop : tie.InvT-loop
-Inv-loop width count places columns₀ j₀ columns j = (j ≤ count) × SystemColumns width (take j places) columns
+Inv-loop width places count columns₀ j₀ columns j = (j ≤ count) × SystemColumns width (take j (numbers places)) columns
 
 abbrev μ-loop : tie.MeasureT-loop
-μ-loop width count places columns₀ j₀ columns j = count - j
+μ-loop width places count columns₀ j₀ columns j = count - j
 
 loop-holds : tie.Need-loop-holds Inv-loop μ-loop
-loop-holds c = (omega arith, columns-start _ (c .args .t2))
+loop-holds c = (omega arith, columns-start _ (numbers (c .args .places)))
 
-array-read-t12 : tie.Need-array-read-t12 Inv-loop μ-loop
-array-read-t12 c = search needs
+place-at-requires : tie.Need-place-at-requires Inv-loop μ-loop
+place-at-requires c κs = search needs
 
 whole-column-requires : tie.Need-whole-column-requires Inv-loop μ-loop
 whole-column-requires c κs = search needs
@@ -39,16 +42,20 @@ loop-less c = search needs
 
 loop-again : tie.Need-loop-again Inv-loop μ-loop
 loop-again c =
-    let turn = c .before .before in
+    let v = c .before in
+    let turn = v .before .before in
     let a = turn .before .args in
-    let n : length (a .t2) ≡ unknowns = search needs in
-    (omega arith, columns-on _ (a .t2) (turn .loop .j) (omega (arith, turn .before .pre)) (turn .loop .inv .1) (omega (arith, turn .before .pre)) (c .whole-column .ensures))
+    let n : length (a .places) ≡ unknowns = search needs in (
+      omega arith,
+      columns-on _ (numbers (a .places)) (turn .loop .j) (omega (arith, n, turn .before .pre, numbers-length (a .places))) (turn .loop .inv .1)
+          (omega (arith, turn .before .pre)) (λ w. c .whole-column .ensures w ∙ ap (λ (p : ℕ). five (column (a .width) p)) (v .place-at .ensures)),
+    )
 
 returns : tie.Need-returns Inv-loop μ-loop
 returns c =
     let a = c .before .before .args in
     let e : c .before .loop .j ≡ a .count = omega arith in
-    subst (λ (n : ℕ). SystemColumns (a .width) (take n (a .t2)) (c .before .loop .columns)) e (c .before .loop .inv .1)
+    subst (λ (n : ℕ). SystemColumns (a .width) (take n (numbers (a .places))) (c .before .loop .columns)) e (c .before .loop .inv .1)
 
 pub columns-of-spec : {M : Type 1} → statement M
 columns-of-spec =
@@ -57,7 +64,7 @@ columns-of-spec =
     Inv-loop
     μ-loop
     loop-holds
-    array-read-t12
+    place-at-requires
     whole-column-requires
     mul-columns
     array-set-from-columns

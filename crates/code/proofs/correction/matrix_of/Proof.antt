@@ -1,17 +1,22 @@
 -- `code::correction::matrix_of` meets its contract. Assumes nothing.
 use borrow.Author.Needs.{needs}
-use borrow.Kind.Array.{eInt, good-length}
-use mathlib.Core.Path.{refl}
-use Prim.Native.Nat.{_≤_}
+use mathlib.Core.Path.{_≡_, refl, _∙_}
+use mathlib.Core.List.{List}
+use Prim.Native.Nat.{ℕ, _≤_}
 use native.Mathlib.Omega.{arith}
 use lib.ListN.{length, take}
 use lib.Seq.{length-take-le}
 use Rattle.code.specs.Word.{at}
+use Rattle.code.specs.inner.Place.{numbers}
+use Rattle.code.specs.inner.Matrix.{unknowns}
 use Rattle.code.specs.inner.Correction.{SystemRow}
+use Rattle.code.proofs.Places.{numbers-length}
 use Rattle.code.proofs.restoring.Correcting.{each-row, system-row}
-use mir.Syntax.{w8}
 use Rattle.code.proofs.correction.matrix_of.Statement.{statement}
 use Rattle.code.proofs.correction.matrix_of.Tie as tie
+
+wide : (s : tie.Start) → length (s .args .places) ≡ unknowns
+wide s = search needs
 
 columns-of-requires : tie.Need-columns-of-requires
 columns-of-requires c κs = search needs
@@ -55,12 +60,13 @@ returns c =
     let made = r2 .before in
     let a = made .before .args in
     let s = made .columns-of .ensures in
-    let room = good-length (eInt w8) 5 (a .places) _ (made .before .good .1 .0) in
-    let few : length (take (a .count) (a .places)) ≤ 5 = omega (arith, room, made .before .pre, length-take-le (a .count) (a .places) (omega (arith, room, made .before .pre))) in
+    let ps : List ℕ = numbers (a .places) in
+    let room = numbers-length (a .places) ∙ wide (made .before) in
+    let few : length (take (a .count) ps) ≤ unknowns = omega (arith, room, made .before .pre, length-take-le (a .count) ps (omega (arith, room, made .before .pre))) in
     record {
       room = room;
       tall = refl;
-      each = each-row (λ k row. SystemRow (a .width) (take (a .count) (a .places)) (at (a .t4) k) k row) _ _ _ _ _
+      each = each-row (λ k row. SystemRow (a .width) (take (a .count) ps) (at (a .t4) k) k row) _ _ _ _ _
           (system-row s (omega arith) few (r2 .row-at .ensures)) (system-row s (omega arith) few (r3 .row-at2 .ensures))
           (system-row s (omega arith) few (r4 .row-at3 .ensures)) (system-row s (omega arith) few (r5 .row-at4 .ensures))
           (system-row s (omega arith) few (c .row-at5 .ensures));

@@ -5,6 +5,7 @@ use mathlib.Core.List.{List, []}
 use Prim.Native.Nat.{ℕ}
 use native.Mathlib.Omega.{arith}
 use lib.ListN.{take}
+use Rattle.code.specs.inner.Place.{numbers}
 use Rattle.code.specs.inner.Correction.{placesOf, Searched, NoneWithin}
 use Rattle.code.proofs.distance.DistanceLaw.{distance-of}
 use Rattle.code.proofs.finding.BesideWays.{cubes-beside, near-zero, near-same}
@@ -16,7 +17,7 @@ none : (l : tie.Else2) → placesOf (l .before .before .before .args .t) ≡ []
 none l =
     let t = l .before .before .before .args .t in
     let z : t .count ≡ 0 = omega (arith, l .if2 .left) in
-    ap (λ (n : ℕ). take n (t .places)) z
+    ap (λ (n : ℕ). take n (numbers (t .places))) z
 
 solve-trial-requires : tie.Need-solve-trial-requires
 solve-trial-requires c κs = search needs

@@ -4,13 +4,13 @@ use mathlib.Core.Path.{_≡_, refl, sym, _∙_, subst}
 use mathlib.Core.Bool.{true}
 use mathlib.Core.List.{List}
 use Prim.Native.Nat.{ℕ, _≤_}
-use lib.ListN.{length, take}
+use lib.ListN.{length}
 use native.Mathlib.Omega.{arith}
 use Rattle.field.specs.Question.{allBelow}
 use Rattle.code.specs.declared.solver.Solutions.the-variants.{None, One, Several}
 use Rattle.code.specs.Near.{radius}
 use Rattle.code.specs.Demands.{Passes}
-use Rattle.code.specs.inner.Correction.{placesOf, Ready, Workable, NoneWithin, Searched}
+use Rattle.code.specs.inner.Correction.{correctedPlaces, placesOf, Ready, Workable, NoneWithin, Searched}
 use Rattle.code.proofs.calls.Passing.{given, within-passes}
 use Rattle.code.proofs.restoring.Repairing.{workable, restores-clean, restores-found, restores-none, restores-several}
 use Rattle.code.proofs.restorer.correct_word.Statement.{statement}
@@ -84,7 +84,7 @@ apply-correction-requires c κs =
     let e : x .result .found ≡ One = search needs in (
       x .ensures .0,
       work (start (began s)) .short,
-      subst (λ (n : ℕ). allBelow n (take (x .result .count) (x .result .places)) ≡ true) (sym (ready (began s) .lent .size))
+      subst (λ (n : ℕ). allBelow n (correctedPlaces (x .result)) ≡ true) (sym (ready (began s) .lent .size))
           (found s .one e .below),
       found s .one e .distinct,
     )

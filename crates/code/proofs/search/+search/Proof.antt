@@ -48,11 +48,11 @@ claims n = (
 )
 
 abbrev Inv-loop : lts.InvT-loop
-Inv-loop width word t from left c places count p₀ p =
-    Ready width word t → Sought (λ i. member i (placesOf t) ≡ false → NoneFrom width word (i ∷ placesOf t) (i + 1) (left - 1)) from p
+Inv-loop width word t left c places count p₀ p =
+    Ready width word t → Sought (λ i. member i (placesOf t) ≡ false → NoneFrom width word (i ∷ placesOf t) (i + 1) (left - 1)) p₀ p
 
 abbrev μ-loop : lts.MeasureT-loop
-μ-loop width word t from left c places count p₀ p = length word - p
+μ-loop width word t left c places count p₀ p = length word - p
 
 module _ (n : ℕ) where
   solve-trial-requires : lts.Need-solve-trial-requires (claims n) (given n) reads.Post Inv-loop μ-loop
@@ -76,8 +76,11 @@ module _ (n : ℕ) where
       let none = searched-nothing (x .result) (y .result) (y .ensures) (l .if1 .left) in (
         x .ensures .0,
         λ R. searched-none none
-            (none-exact (a .width) (a .word .now) (placesOf (a .t)) (a .from) (a .left) (c .if2 .taken) (x .ensures .1 _ R .none none)),
+            (none-exact (a .width) (a .word .now) (placesOf (a .t)) (a .from .0) (a .left) (c .if2 .taken) (x .ensures .1 _ R .none none)),
       )
+
+  cast-p : lts.Need-cast-p (claims n) (given n) reads.Post Inv-loop μ-loop
+  cast-p c = search needs
 
   loop-holds : lts.Need-loop-holds (claims n) (given n) reads.Post Inv-loop μ-loop
   loop-holds c = λ R. sought-start _ _
@@ -94,8 +97,11 @@ module _ (n : ℕ) where
   extended-requires : lts.Need-extended-requires (claims n) (given n) reads.Post Inv-loop μ-loop
   extended-requires c κs = search needs
 
-  add-search : lts.Need-add-search (claims n) (given n) reads.Post Inv-loop μ-loop
-  add-search c = search needs
+  add-t21 : lts.Need-add-t21 (claims n) (given n) reads.Post Inv-loop μ-loop
+  add-t21 c = search needs
+
+  cast-t20 : lts.Need-cast-t20 (claims n) (given n) reads.Post Inv-loop μ-loop
+  cast-t20 c = search needs
 
   sub-search : lts.Need-sub-search (claims n) (given n) reads.Post Inv-loop μ-loop
   sub-search c = search needs
@@ -106,7 +112,7 @@ module _ (n : ℕ) where
   -- what the search with one place more has found, for the trial as it was
   deeper : (s : lts.After-search (claims n) (given n) reads.Post Inv-loop μ-loop) →
       let l = s .before .before .before .before .before .before in
-      let a = l .before .before .before .before .before .before .before .args in
+      let a = l .before .before .before .before .before .before .before .before .args in
       Ready (a .width) (a .word .now) (a .t)
       → Searched (a .width) (a .word .now) (placesOf (a .t)) (suc (a .left - 1))
       (member (l .loop .p) (placesOf (a .t)) ≡ false → NoneFrom (a .width) (a .word .now) (l .loop .p ∷ placesOf (a .t)) (l .loop .p + 1) (a .left - 1))
@@ -114,7 +120,7 @@ module _ (n : ℕ) where
   deeper s R =
       let then = s .before .before .before in
       let l = then .before .before .before in
-      let start = l .before .before .before .before .before .before .before in
+      let start = l .before .before .before .before .before .before .before .before in
       let a = start .args in
       let u = s .before .extended in
       let fresh = not-true _ (sym (ap not (then .before .listed .ensures)) ∙ then .if3 .taken) in
@@ -129,7 +135,7 @@ module _ (n : ℕ) where
   returns-3 c =
       let s = c .before .before in
       let y = c .before .solved2 in
-      let left = s .before .before .before .before .before .before .before .before .if2 .left in
+      let left = s .before .before .before .before .before .before .before .before .before .if2 .left in
       (s .search .ensures .0, λ R. searched-found (omega arith) (y .result) (y .ensures) (c .if4 .taken) (deeper s R))
 
   add-p : lts.Need-add-p (claims n) (given n) reads.Post Inv-loop μ-loop
@@ -153,14 +159,14 @@ module _ (n : ℕ) where
   returns-4 : lts.Need-returns-4 (claims n) (given n) reads.Post Inv-loop μ-loop
   returns-4 c =
       let l = c .before in
-      let else = l .before .before in
+      let else = l .before .before .before in
       let y = else .before .before .solved in
       let x = else .before .before .before .solve-trial in
       let a = else .before .before .before .before .before .args in
       let none = searched-nothing (x .result) (y .result) (y .ensures) (else .before .if1 .left) in (
         x .ensures .0,
         λ R. searched-none none
-            (none-from (a .width) (a .word .now) (placesOf (a .t)) (a .from) (a .left) (omega (arith, else .if2 .left))
+            (none-from (a .width) (a .word .now) (placesOf (a .t)) (a .from .0) (a .left) (omega (arith, else .if2 .left))
             (x .ensures .1 _ R .none none)
             (λ p h b. l .loop .inv R p h (omega (arith, R .lent .size, c .loop-test .left)))),
       )
@@ -180,12 +186,14 @@ pub +search-spec : {M : Type 1} → statement M
     (solved-requires n)
     (returns n)
     (returns-2 n)
+    (cast-p n)
     (loop-holds n)
     (cast-t17 n)
     (listed-requires n)
     (shared-slice-read-extended n)
     (extended-requires n)
-    (add-search n)
+    (add-t21 n)
+    (cast-t20 n)
     (sub-search n)
     (search-requires n)
     (solved-requires-2 n)

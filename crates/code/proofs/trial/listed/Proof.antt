@@ -1,28 +1,62 @@
 -- `code::trial::listed` meets its contract. Assumes nothing.
 use borrow.Author.Needs.{needs}
-use borrow.Kind.Array.{eInt, good-length}
-use mathlib.Core.Path.{sym}
+use mathlib.Core.Path.{_≡_}
+use Prim.Native.Nat.{_-_, _≤_}
 use native.Mathlib.Omega.{arith}
+use lib.ListN.{length, take, drop}
 use lib.Seq.{length-take-le}
-use mir.Syntax.{w8}
+use Rattle.code.specs.Erasure.{member}
+use Rattle.code.specs.inner.Place.{numbers}
+use Rattle.code.specs.inner.Matrix.{unknowns}
+use Rattle.code.proofs.Questions.{member-end}
+use Rattle.code.proofs.Places.{numbers-length, listed-on, listed-stop}
 use Rattle.code.proofs.trial.listed.Statement.{statement}
 use Rattle.code.proofs.trial.listed.Tie as tie
 
-array-share-prefix-places : tie.Need-array-share-prefix-places
-array-share-prefix-places c = omega (arith, c .pre, good-length (eInt w8) 5 (c .args .t1) _ (c .good .0))
+abbrev Inv-loop : tie.InvT-loop
+Inv-loop places count p i₀ i = (i ≤ count) × (member (p .0) (take count (numbers places)) ≡ member (p .0) (drop i (take count (numbers places))))
 
-slice-aggregate-contains : tie.Need-slice-aggregate-contains
-slice-aggregate-contains c =
-    let s = c .before in
-    sym (length-take-le (s .args .count) (s .args .t1) (omega (arith, s .pre, good-length (eInt w8) 5 (s .args .t1) _ (s .good .0))))
+abbrev μ-loop : tie.MeasureT-loop
+μ-loop places count p i₀ i = count - i
 
-contains-requires : tie.Need-contains-requires
-contains-requires c κs = search needs
+room : (s : tie.Start Inv-loop μ-loop) → s .args .count ≤ length (numbers (s .args .places))
+room s =
+    let five : length (s .args .places) ≡ unknowns = search needs in
+    omega (arith, s .pre, five, numbers-length (s .args .places))
 
-returns : tie.Need-returns
-returns c = search needs
+returns : tie.Need-returns Inv-loop μ-loop
+returns c =
+    let v = c .before .before .before in
+    let l = v .before .before in
+    listed-stop (l .before .args .p .0) (numbers (l .before .args .places)) (l .before .args .count) (l .loop .i) (v .place-at .result .0) (room (l .before))
+    (l .loop .inv .1) (v .place-at .ensures) (v .before .loop-test .taken) (c .if1 .taken)
+
+loop-again : tie.Need-loop-again Inv-loop μ-loop
+loop-again c =
+    let v = c .before .before .before in
+    let l = v .before .before in (
+      omega arith,
+      listed-on (l .before .args .p .0) (numbers (l .before .args .places)) (l .before .args .count) (l .loop .i) (v .place-at .result .0) (room (l .before))
+          (l .loop .inv .1) (v .place-at .ensures) (v .before .loop-test .taken) (c .if1 .left),
+    )
+
+returns-2 : tie.Need-returns-2 Inv-loop μ-loop
+returns-2 c =
+    let l = c .before in
+    let a = l .before .args in
+    member-end (a .p .0) (take (a .count) (numbers (a .places))) (l .loop .i) (l .loop .inv .1)
+    (omega (arith, length-take-le (a .count) (numbers (a .places)) (room (l .before)), c .loop-test .left))
 
 pub listed-spec : {M : Type 1} → statement M
 listed-spec =
     tie.close
-    (tie.spec array-share-prefix-places slice-aggregate-contains contains-requires returns)
+    (tie.spec
+    Inv-loop
+    μ-loop
+    (λ c. search needs)
+    (λ c κs. search needs)
+    returns
+    (λ c. search needs)
+    (λ c. search needs)
+    loop-again
+    returns-2)

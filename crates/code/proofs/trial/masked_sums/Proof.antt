@@ -6,6 +6,8 @@ use Prim.Native.Nat.{ℕ}
 use native.Mathlib.Omega.{arith}
 use lib.ListN.{length, take}
 use lib.Seq.{length-take-le}
+use Rattle.code.specs.inner.Place.{numbers}
+use Rattle.code.proofs.Places.{numbers-length}
 use Rattle.code.proofs.restoring.Repairing.{filled-word, filled-size, masked-sums, zero-values}
 use Rattle.code.proofs.trial.masked_sums.Statement.{statement}
 use Rattle.code.proofs.trial.masked_sums.Tie as tie
@@ -37,10 +39,11 @@ returns c = λ v W.
     (let s = c .before .before in
     let a = start s .args in
     let five : length (a .places) ≡ 5 = search needs in
+    let ps : List ℕ = numbers (a .places) in
     let zs : List ℕ = take (a .count) (0 ∷ 0 ∷ 0 ∷ 0 ∷ 0 ∷ []) in
-    let same : length zs ≡ length (take (a .count) (a .places)) = length-take-le (a .count) (0 ∷ 0 ∷ 0 ∷ 0 ∷ 0 ∷ []) (omega (arith, start s .pre))
-    ∙ sym (length-take-le (a .count) (a .places) (omega (arith, start s .pre))) in
-    masked-sums (a .width) v (a .word .now) (take (a .count) (a .places)) zs _ W same (zero-values (a .count))
+    let same : length zs ≡ length (take (a .count) ps) = length-take-le (a .count) (0 ∷ 0 ∷ 0 ∷ 0 ∷ 0 ∷ []) (omega (arith, start s .pre))
+    ∙ sym (length-take-le (a .count) ps (omega (arith, start s .pre, numbers-length (a .places)))) in
+    masked-sums (a .width) v (a .word .now) (take (a .count) ps) zs _ W same (zero-values (a .count))
     (filled-word _ _ _ _ _ (s .before .copied .ensures) (s .filled .ensures)) (c .word-syndromes .result) (c .word-syndromes .ensures v))
 
 pub masked-sums-spec : {M : Type 1} → statement M

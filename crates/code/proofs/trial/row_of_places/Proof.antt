@@ -1,24 +1,52 @@
 -- `code::trial::row_of_places` meets its contract. Assumes nothing.
 use borrow.Author.Needs.{needs}
-use mathlib.Core.Path.{refl, sym}
-use lib.ListN.{length, replicate}
-use lib.Seq.{length-take-le}
-use Rattle.code.proofs.Loops.{front-copied}
+use mathlib.Core.Path.{_≡_, refl, sym, ap, _∙_}
+use Prim.Native.Nat.{ℕ, _-_, _≤_}
+use native.Mathlib.Nat.{le-refl}
+use native.Mathlib.Omega.{arith}
+use lib.ListN.{length, take, length-set}
+use lib.Seq.{take-all}
+use Rattle.code.specs.inner.Place.{numbers}
+use Rattle.code.specs.inner.Matrix.{unknowns}
+use Rattle.code.proofs.Places.{made-on}
 use Rattle.code.proofs.trial.row_of_places.Statement.{statement}
 use Rattle.code.proofs.trial.row_of_places.Tie as tie
 
-array-borrow-prefix-out : tie.Need-array-borrow-prefix-out
-array-borrow-prefix-out c = search needs
+abbrev Inv-loop : tie.InvT-loop
+Inv-loop erasures out₀ i₀ out i = (length out ≡ unknowns) × (i ≤ length erasures) × (take i (numbers out) ≡ take i erasures)
 
-slice-aggregate-copy : tie.Need-slice-aggregate-copy
-slice-aggregate-copy c = sym (length-take-le (length (c .before .before .args .erasures .now)) (replicate 5 0) (search needs))
+abbrev μ-loop : tie.MeasureT-loop
+μ-loop erasures out₀ i₀ out i = length erasures - i
 
-copy-requires : tie.Need-copy-requires
-copy-requires c κs = length-take-le (length (c .before .before .args .erasures .now)) (replicate 5 0) (search needs)
+loop-holds : tie.Need-loop-holds Inv-loop μ-loop
+loop-holds c = (refl, omega arith, refl)
 
-returns : tie.Need-returns
-returns c = front-copied _ (c .before .before .before .before .args .erasures .now) _ _ (c .before .copy .ensures) refl
+loop-again : tie.Need-loop-again Inv-loop μ-loop
+loop-again c =
+    let l = c .before .before .loop in
+    let s = c .before .before .before in (
+      simp length-set (l .inv .0),
+      omega arith,
+      made-on (s .args .erasures .now) (l .out) (l .i) _ (l .inv .2) (omega arith) (omega (arith, l .inv .0, s .pre)) refl,
+    )
+
+returns : tie.Need-returns Inv-loop μ-loop
+returns c =
+    let l = c .before .loop in
+    let es = c .before .before .args .erasures .now in
+    let e : l .i ≡ length es = omega arith in
+    ap (λ (n : ℕ). take n (numbers (l .out))) (sym e) ∙ l .inv .2 ∙ ap (λ (n : ℕ). take n es) e ∙ take-all (length es) es (le-refl (length es))
 
 pub row-of-places-spec : {M : Type 1} → statement M
 row-of-places-spec =
-    tie.close (tie.spec array-borrow-prefix-out slice-aggregate-copy copy-requires returns)
+    tie.close
+    (tie.spec
+    Inv-loop
+    μ-loop
+    loop-holds
+    (λ c. search needs)
+    (λ c. search needs)
+    (λ c. search needs)
+    (λ c. search needs)
+    loop-again
+    returns)

@@ -7,10 +7,13 @@ use Rattle.show.proofs.record.put_place.Statement.{statement}
 use Rattle.show.proofs.record.put_place.Tie as tie
 
 returns : tie.Need-returns
-returns c = let a = c .before .before .args in (rw (place-same (a .p) (a .a) (a .b) (c .if1 .taken)) (writes-none _ _ (omega arith)), omega arith)
+returns c = let a = c .before .before .args in (rw (place-same (a .p .0) (a .a) (a .b) (c .if1 .taken)) (writes-none _ _ (omega arith)), omega arith)
 
 slice-aggregate-put-labelled : tie.Need-slice-aggregate-put-labelled
 slice-aggregate-put-labelled c = search needs
+
+cast-put-labelled : tie.Need-cast-put-labelled
+cast-put-labelled c = search needs
 
 put-labelled-requires : tie.Need-put-labelled-requires
 put-labelled-requires c κs = search needs
@@ -39,10 +42,10 @@ returns-2 c =
     let b6 = b2 .before .before .before .before in
     let b11 = b6 .before .before .before .before .before in
     let b16 = b11 .before .before .before .before .before in
-    let b19 = b16 .before .before .before in
-    let b21 = b19 .before .before in
-    let a = b21 .args in (
-      place-writes (a .p) (a .a) (a .b) (b19 .if1 .left) (b16 .put-labelled .ensures .0) (b11 .put-labelled2 .ensures .0) (b6
+    let b20 = b16 .before .before .before .before in
+    let b22 = b20 .before .before in
+    let a = b22 .args in (
+      place-writes (a .p .0) (a .a) (a .b) (b20 .if1 .left) (b16 .put-labelled .ensures .0) (b11 .put-labelled2 .ensures .0) (b6
           .put-labelled3 .ensures .0) (b2 .put-byte .ensures),
       omega (arith, b16 .put-labelled .ensures .1, b11 .put-labelled2 .ensures .1, b6 .put-labelled3 .ensures .1, b2 .put-byte .ensures .behind),
     )
@@ -53,6 +56,7 @@ put-place-spec =
     (tie.spec
     returns
     slice-aggregate-put-labelled
+    cast-put-labelled
     put-labelled-requires
     slice-aggregate-put-labelled-2
     put-labelled-requires-2

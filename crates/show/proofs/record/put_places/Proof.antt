@@ -24,6 +24,9 @@ abbrev μ-loop : tie.MeasureT-loop
 loop-holds : tie.Need-loop-holds Inv-loop μ-loop
 loop-holds c = (omega arith, refl, texts-none _ _ _ (omega arith), omega arith)
 
+cast-t10 : tie.Need-cast-t10 Inv-loop μ-loop
+cast-t10 c = search needs
+
 add-put-place : tie.Need-add-put-place Inv-loop μ-loop
 add-put-place c = search needs
 
@@ -70,6 +73,7 @@ put-places-spec =
     Inv-loop
     μ-loop
     loop-holds
+    cast-t10
     add-put-place
     shared-slice-read-put-place
     add-put-place-2
