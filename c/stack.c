@@ -96,6 +96,7 @@ static void bay_within(void) {
 static void write_sheet(void) { answer = xrs_write_sheet(7, word + 5, XRS_SHEET_SIZE, out, 132); }
 static void read_sheet(void) { answer = xrs_read_sheet(7, card + 7, 132, out, XRS_SHEET_SIZE); }
 static void compare(void) { answer = xrs_compare_sheets(card, sizeof card, 1, card, sizeof card, 2, out, XRS_SHEET_QUARTERS); }
+static void part(void) { answer = xrs_compare_part(card, sizeof card, 1, card, sizeof card, 2, report, report + 1); }
 static void window(void) { answer = xrs_window(card, sizeof card, 0, 96, report, XRS_REPORT_SIZE); }
 
 static const struct {
@@ -127,6 +128,7 @@ static const struct {
     {"xrs_write_sheet", write_sheet},
     {"xrs_read_sheet", read_sheet},
     {"xrs_compare_sheets", compare},
+    {"xrs_compare_part", part},
     {"xrs_window", window},
 };
 

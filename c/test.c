@@ -682,6 +682,14 @@ static void compares(const char *name, uint64_t answer, uint32_t refusal, uint32
     check(name, right);
 }
 
+/* The part of records 2 and 1: the side, and where the part lies; on a refusal both numbers stay. */
+static void parts(const char *name, const uint8_t *first, const uint8_t *second, size_t length, uint32_t refusal, uint32_t side, uint64_t want) {
+    uint64_t offset = 7, size = 9;
+    uint32_t answer = xrs_compare_part(first, 278, 2, second, length, 1, &offset, &size);
+    answers(name, answer, refusal, side);
+    check("its offset and size", refusal ? offset == 7 && size == 9 : offset == want && size == XRS_RECORD_SIZE);
+}
+
 static void compared_sheets(void) {
     static const uint32_t none[3] = {0}, totals[3] = {93, 1, 2};
     uint8_t symbols[XRS_SHEET_SIZE], first[2 * XRS_RECORD_SIZE], second[XRS_RECORD_SIZE], want[97] = {0}, old[97];
@@ -702,8 +710,10 @@ static void compared_sheets(void) {
     row = lend(&signs, old, 96);
     compares("compare two sheets", xrs_compare_sheets(controller, 278, 2, cupboard, 139, 1, row, 96), XRS_ACCEPTED, 1, totals);
     check("the signs, and both cards as they were", holds(&signs, want) && holds(&a, first) && holds(&b, second));
+    parts("the controller's part", controller, cupboard, 139, XRS_ACCEPTED, 1, XRS_RECORD_SIZE);
     first[XRS_RECORD_SIZE + 7] ^= 1;
     controller = lend(&a, first, 278);
+    parts("the cupboard's part", controller, cupboard, 139, XRS_ACCEPTED, 2, 0);
     compares("compare with a wrong symbol", xrs_compare_sheets(controller, 278, 2, cupboard, 139, 1, row, 96), XRS_ACCEPTED, 2, totals);
     check("a card that is not repaired", holds(&a, first) && holds(&b, second));
 
@@ -714,8 +724,11 @@ static void compared_sheets(void) {
     compares("compare with 97 signs", xrs_compare_sheets(first, 278, 2, second, 139, 1, row, 97), XRS_REFUSED_LENGTH, 0, none);
     compares("compare a blank slot", xrs_compare_sheets(first, 278, 1, second, 138, 1, row, 96), XRS_REFUSED_WIDTH, 0, none);
     compares("compare with a short piece", xrs_compare_sheets(first, 278, 2, second, 138, 1, row, 96), XRS_REFUSED_LENGTH, 0, none);
+    parts("the part of a short piece", first, second, 138, XRS_REFUSED_LENGTH, 0, 0);
+    parts("the part of an empty card", first, second, 0, XRS_REFUSED_RECORD_NUMBER, 0, 0);
     symbols[XRS_SHEET_PUMP]++;
     make_sheet(second, symbols);
+    parts("the part of two pumps", first, second, 139, XRS_REFUSED_SAME_DAY, 0, 0);
     compares("compare two pumps", xrs_compare_sheets(first, 278, 2, second, 139, 1, row, 96), XRS_REFUSED_SAME_DAY, 0, none);
     make_record(second, words[0], old, 0);
     compares("compare with width 3", xrs_compare_sheets(first, 278, 2, second, 139, 1, row, 96), XRS_REFUSED_SHEET_WIDTH, 0, none);

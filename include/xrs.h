@@ -237,12 +237,21 @@ uint32_t xrs_read_sheet(uint8_t width, const uint8_t *word, size_t word_length, 
  * The records are restored in a copy and read as xrs_read_sheet reads; both cards stay as they are. Into signs (XRS_SHEET_QUARTERS bytes)
  * go 0 where the counts of a quarter hour are equal, 1 where the controller's is higher, 2 where the cupboard's is. XRS_BYTE(answer, 1) is
  * 1 where the controller's record is chosen and 2 where the cupboard's is: the one with fewer unmarked places changed, the controller's
- * where they are as many; it is to be found, not repaired, on its card. Bytes 2, 3 and 4 are the number of signs 0, 1 and 2, which make 96.
+ * where they are as many; xrs_compare_part says where on its card it lies. Bytes 2, 3 and 4 are the number of signs 0, 1 and 2, which make
+ * 96.
  * Refused with 17 for either number, with 2 for signs, then like xrs_restore_record and xrs_read_sheet, all of the controller's questions
  * before the cupboard's, and last with 20.
  */
 uint64_t xrs_compare_sheets(const uint8_t *controller, size_t controller_length, uint64_t controller_number, const uint8_t *cupboard,
     size_t cupboard_length, uint64_t cupboard_number, uint8_t *signs, size_t signs_length);
+
+/*
+ * Where the record that xrs_compare_sheets chooses lies on its card, as it was lent and not repaired: *size bytes (XRS_RECORD_SIZE) from byte
+ * *offset on, counted from 0. The value is 1 where that is the controller's card and 2 where it is the cupboard's. Refused like
+ * xrs_compare_sheets, but for the signs; both numbers are then as they were. They must be two different ones.
+ */
+uint32_t xrs_compare_part(const uint8_t *controller, size_t controller_length, uint64_t controller_number, const uint8_t *cupboard,
+    size_t cupboard_length, uint64_t cupboard_number, uint64_t *offset, uint64_t *size);
 
 /* The numbers of a report: nine for each pump, 0 to 127, then three. */
 #define XRS_REPORT_SIZE 1155

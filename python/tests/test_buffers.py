@@ -179,7 +179,7 @@ class Refused(unittest.TestCase):
             except xrs.Refusal:
                 grows.append(1)
         self.assertGreater(len(grows), 10)
-        for call in (lambda: xrs.window(grows, 5, 5), lambda: xrs.compare_sheets(grows, 1, grows, 1)):
+        for call in (lambda: xrs.window(grows, 5, 5), lambda: xrs.compare_sheets(grows, 1, grows, 1), lambda: xrs.compare_part(grows, 1, grows, 1)):
             try:
                 call()
             except xrs.Refusal:

@@ -46,6 +46,8 @@ class Numbers(Case):
             self.refused(17, xrs.look, card, wrong)
             self.refused(17, xrs.compare_sheets, card, wrong, card, 1)
             self.refused(17, xrs.compare_sheets, card, 1, card, wrong)
+            self.refused(17, xrs.compare_part, card, wrong, card, 1)
+            self.refused(17, xrs.compare_part, card, 1, card, wrong)
         for wrong in (0, -1, 3, 1 << 64, (1 << 64) + 1):
             self.refused(17, xrs.Walk(card, next=wrong).step)
         for wrong in (0, 138, -1, 1 << 64, (1 << 64) + 139):
@@ -215,6 +217,8 @@ class Sheets(Case):
         self.assertIs(found.chosen, xrs.Side.CUPBOARD)
         self.assertIs(found.part.obj, second)
         self.assertEqual(found.part, second[139:])
+        self.assertIs(xrs.compare_part(first, 1, second, 2).obj, second)
+        self.assertEqual(xrs.compare_part(first, 1, second, 2), second[139:])
 
 
 class Package(unittest.TestCase):

@@ -96,6 +96,11 @@ def compare_sheets(call):
     return {"value": found.chosen.value, "totals": totals, "after": found.signs.hex()}
 
 
+def compare_part(call):
+    part = xrs.compare_part(call.read("controller"), call["controller_number"], call.read("cupboard"), call["cupboard_number"])
+    return {"after": part.hex()}
+
+
 def window(call, made=xrs.window):
     report = made(xrs.Card(call.read("card")), call["first"], call["end"])
     numbers = []
@@ -132,6 +137,7 @@ CALLS = {
     "write_sheet": lambda call: xrs.write_sheet_into(call["width"], call.read("symbols"), call.output()),
     "read_sheet": lambda call: xrs.read_sheet_into(call["width"], call.read("word"), call.output()),
     "compare_sheets": compare_sheets,
+    "compare_part": compare_part,
     "window": window,
     "sheets": sheets,
 }

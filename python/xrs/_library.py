@@ -15,6 +15,7 @@ CALLS = """
     xrs_card_to_old(*const u8, usize, *mut u8, usize) -> u32
     xrs_charge(*mut u16, usize) -> u32
     xrs_check_card(*const u8, usize) -> u64
+    xrs_compare_part(*const u8, usize, u64, *const u8, usize, u64, *mut u64, *mut u64) -> u32
     xrs_compare_sheets(*const u8, usize, u64, *const u8, usize, u64, *mut u8, usize) -> u64
     xrs_encode(u8, *const u8, usize, *mut u8, usize) -> u32
     xrs_inverse(u8, u8) -> u32

@@ -14,7 +14,7 @@ from typing import Iterator, List, Optional, Tuple, Union
 
 from ._lending import Buffer, Writable, byte, lend, lend_to_write, record_number
 from ._library import library
-from .card import RECORD_SIZE, Card, bytes_of
+from .card import Card, bytes_of
 from .code import WORD_LENGTHS
 from .refusal import Refusal, value_of
 
@@ -190,9 +190,32 @@ def compare_sheets(
     )
     del first, second, target
     side, equal, controller_higher, cupboard_higher = value_of(answer).to_bytes(7, "little")[:4]
-    card, number = (controller, numbers[0]) if side == Side.CONTROLLER.value else (cupboard, numbers[1])
-    part = memoryview(bytes_of(card)).cast("B")[(number - 1) * RECORD_SIZE : number * RECORD_SIZE]
+    part = compare_part(controller, numbers[0], cupboard, numbers[1])
     return Comparison(bytes(signs), equal, controller_higher, cupboard_higher, Side(side), part)
+
+
+def compare_part(
+    controller: Union[Buffer, Card], controller_number: int, cupboard: Union[Buffer, Card], cupboard_number: int
+) -> memoryview:
+    """The chosen record's part of its card, as it was lent: the `part` of `compare_sheets`. The library says on which card it lies, where it
+    begins and how long it is.
+
+    >>> first = Sheet(datetime.date(2024, 2, 29), pump=5, starts=bytes(96)).record()
+    >>> second = bytes([255]) * 139 + first
+    >>> first[7] ^= 1  # a wrong symbol
+    >>> part = compare_part(first, 1, second, 2)
+    >>> part.obj is second, part == second[139:]
+    (True, True)
+    """
+    offset, size = ctypes.c_uint64(), ctypes.c_uint64()
+    first, second = lend("controller", bytes_of(controller)), lend("cupboard", bytes_of(cupboard))
+    numbers = record_number(controller_number), record_number(cupboard_number)
+    answer = library.xrs_compare_part(
+        first.address, first.length, numbers[0], second.address, second.length, numbers[1], ctypes.addressof(offset), ctypes.addressof(size)
+    )
+    del first, second
+    card = controller if value_of(answer) == Side.CONTROLLER.value else cupboard
+    return memoryview(bytes_of(card)).cast("B")[offset.value : offset.value + size.value]
 
 
 @dataclass(frozen=True)

@@ -200,6 +200,16 @@ mod raw {
             signs: *mut u8,
             signs_length: usize,
         ) -> u64;
+        pub fn xrs_compare_part(
+            controller: *const u8,
+            controller_length: usize,
+            controller_number: u64,
+            cupboard: *const u8,
+            cupboard_length: usize,
+            cupboard_number: u64,
+            offset: *mut u64,
+            size: *mut u64,
+        ) -> u32;
         pub fn xrs_window(card: *const u8, card_length: usize, first: u8, end: u8, report: *mut u64, report_length: usize) -> u32;
     }
 }
@@ -754,12 +764,44 @@ pub fn compare_sheets<'a>(controller: &'a [u8], controller_number: u64, cupboard
         )
     };
     let [side, equal, controller_higher, cupboard_higher, ..] = unpack_bytes(packed)?;
-    let (chosen, card, number) = match side {
-        1 => (Side::Controller, controller, controller_number),
-        _ => (Side::Cupboard, cupboard, cupboard_number),
-    };
-    let part = card.chunks(RECORD_SIZE).nth(number.saturating_sub(1) as usize).unwrap_or_default();
+    let chosen = if side == 1 { Side::Controller } else { Side::Cupboard };
+    let part = compare_part(controller, controller_number, cupboard, cupboard_number)?;
     Ok(Comparison { signs, equal, controller_higher, cupboard_higher, chosen, part })
+}
+
+/// The chosen record's part of its card, as it was lent: the `part` of `compare_sheets`, with its refusals. The library says on which card it
+/// lies, where it begins and how long it is.
+///
+/// ```
+/// let mut symbols = [0; xrs::SHEET_SIZE];
+/// symbols[xrs::SHEET_YEAR..].copy_from_slice(&[24, 2, 29, 5]);
+/// let mut card = [255; 2 * xrs::RECORD_SIZE]; // the first slot is blank
+/// card[xrs::RECORD_SIZE..][..2].copy_from_slice(&[7, 0]);
+/// xrs::write_sheet(7, &symbols, &mut card[xrs::RECORD_SIZE + 7..]).unwrap();
+/// let mut cupboard = card;
+/// cupboard[xrs::RECORD_SIZE + 7] ^= 1; // a wrong symbol
+///
+/// let part = xrs::compare_part(&card, 2, &cupboard, 2).unwrap();
+/// assert_eq!(part.as_ptr(), card[xrs::RECORD_SIZE..].as_ptr());
+/// assert_eq!(part.len(), xrs::RECORD_SIZE);
+/// assert_eq!(xrs::compare_part(&card, 1, &cupboard, 2), Err(xrs::Refusal::Width));
+/// ```
+pub fn compare_part<'a>(controller: &'a [u8], controller_number: u64, cupboard: &'a [u8], cupboard_number: u64) -> Result<&'a [u8], Refusal> {
+    let (mut offset, mut size) = (0, 0);
+    let side = unpack(unsafe {
+        raw::xrs_compare_part(
+            controller.as_ptr(),
+            controller.len(),
+            controller_number,
+            cupboard.as_ptr(),
+            cupboard.len(),
+            cupboard_number,
+            &mut offset,
+            &mut size,
+        )
+    })?;
+    let card = if side == 1 { controller } else { cupboard };
+    Ok(card.get(offset as usize..).and_then(|rest| rest.get(..size as usize)).unwrap_or_default())
 }
 
 /// The starts of one pump in a window of the day. Without sheets all is 0.

@@ -2,15 +2,15 @@
 
 use crate::{reference, tools};
 use reference::card::{record, RECORD};
-use reference::compare::{compare, QUARTERS};
+use reference::compare::{compare, part, QUARTERS};
 use reference::sheet::SIZE;
 use tools::sheets::{random_symbols, sheet_record, worn_sheet};
 use tools::wear::{codeword, slot_of};
-use tools::{compare_sheets, other_numbers, refusal, Chance, Compared, Tally};
+use tools::{compare_part, compare_sheets, other_numbers, refusal, Chance, Compared, Tally};
 use xrs::Refusal::{self, RecordNumber, SameDay};
 use xrs::Side;
 
-/// The comparison, which must be that of the reference. The part handed back is one whole slot of the chosen card.
+/// The comparison, which must be that of the reference. The part handed back, also by itself, is one whole slot of the chosen card.
 fn compared(controller: &[u8], number: u64, cupboard: &[u8], other_number: u64) -> Result<Compared, Refusal> {
     let found = compare_sheets(controller, number, cupboard, other_number);
     let wanted = refusal(compare((controller, number), (cupboard, other_number), QUARTERS)).map(|wanted| {
@@ -19,6 +19,10 @@ fn compared(controller: &[u8], number: u64, cupboard: &[u8], other_number: u64) 
         (wanted.signs, wanted.totals, chosen, start..start + RECORD)
     });
     assert_eq!(found, wanted, "records {number} and {other_number} of {} and {} bytes", controller.len(), cupboard.len());
+    let alone = compare_part(controller, number, cupboard, other_number);
+    assert_eq!(alone, wanted.map(|(_, _, chosen, bytes)| (chosen, bytes)), "the part of records {number} and {other_number}");
+    let bytes = xrs::compare_part(controller, number, cupboard, other_number);
+    assert_eq!(bytes, refusal(part((controller, number), (cupboard, other_number))), "its bytes");
     found
 }
 
@@ -118,6 +122,7 @@ fn the_part_is_not_repaired() {
     for (number, other_number) in [(2, 3), (3, 2)] {
         let found = xrs::compare_sheets(&card, number, &card, other_number).expect("sheets of one day");
         assert_eq!(found.part, worn);
+        assert_eq!(xrs::compare_part(&card, number, &card, other_number), Ok(&worn[..]));
         assert_eq!(found.chosen, if number == 3 { Side::Controller } else { Side::Cupboard });
     }
     assert_eq!(xrs::compare_sheets(&card, 2, &card, 2).expect("a sheet with itself").part, worse);

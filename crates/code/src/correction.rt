@@ -154,8 +154,9 @@ pub fn apply_correction(word: &mut [u8], erasures: &[u8], c: Correction) -> u8
         i -= 1;
         let place = place_at(places, i);
         let p = place.0 as usize;
+        let old = word[p];
         let value = values[i];
-        k += change_at(erasures, place, word[p], value);
+        k += change_at(erasures, place, old, value);
         word[p] = value;
     }
     k

@@ -12,9 +12,10 @@ use Rattle.card.specs.Record.{recordSize}
 use Rattle.card.specs.Slots.{recordCount, recordAt}
 use Rattle.card.proofs.Numbering.{number-low, number-high}
 use Rattle.report.specs.Day.{hasRecord, slotOf}
-use Rattle.report.specs.Compare.{choice, compareOf, partOf}
+use Rattle.report.specs.Compare.{choice, compareOf, partOf, comparePart}
 use Rattle.report.specs.declared.compare.Choice.{Choice}
 use Rattle.report.specs.declared.compare.Choice.the-variants.{Controller, Cupboard, Refused}
+use Rattle.report.proofs.Days.{is-sheet}
 use Rattle.report.proofs.Demands.{compare-accepts}
 use Rattle.exports.specs.Packed.{packed}
 use Rattle.exports.specs.Part.{partOffset, partSize}
@@ -31,8 +32,16 @@ inside card n h =
     let high = number-high (recordCount (length card)) n h in
     record { low = low; high = omega arith }
 
--- what was chosen, x, is what the comparison gives
-module _ (c : List ℕ) (i : ℕ) (d : List ℕ) (j : ℕ) (x : Choice) (e : choice x ≡ compareOf c i d j) where
+-- the part that is handed back is a whole record
+part-size : (c : List ℕ) (i : ℕ) (d : List ℕ) (j w : ℕ) → compareOf c i d j ≡ accepted w → length (comparePart c i d j) ≡ recordSize
+part-size c i d j w e = ap (λ (o : Outcome). length (partOf o (slotOf c i) (slotOf d j))) e ∙ go (eqb w 1)
+  where
+    go : (b : Bool) → length (cond b (slotOf c i) (slotOf d j)) ≡ recordSize
+    go true = let G = compare-accepts c i d j w .0 e in is-sheet (slotOf c i) (G .k) (G .ss) (G .controller) .size
+    go false = let G = compare-accepts c i d j w .0 e in is-sheet (slotOf d j) (G .l) (G .ts) (G .cupboard) .size
+
+-- what was chosen, x, is what the comparison gives, and n is the size of its part
+module _ (c : List ℕ) (i : ℕ) (d : List ℕ) (j : ℕ) (x : Choice) (e : choice x ≡ compareOf c i d j) (n : ℕ) (s : n ≡ length (comparePart c i d j)) where
   gives-first : x ≡ Controller → compareOf c i d j ≡ accepted 1
   gives-first f = sym e ∙ ap choice f
 
@@ -49,16 +58,18 @@ module _ (c : List ℕ) (i : ℕ) (d : List ℕ) (j : ℕ) (x : Choice) (e : cho
   second-inside f = inside d j (compare-accepts c i d j 2 .0 (gives-second f) .other-number)
 
   pub first-told : x ≡ Controller → (y z : ℕ)
-      → (256 ≡ packed (compareOf c i d j)) × (((i - 1) * 139 ≡ partOffset (compareOf c i d j) i j y) × (139 ≡ partSize (compareOf c i d j) z))
+      → (256 ≡ packed (compareOf c i d j)) × (((i - 1) * 139 ≡ partOffset (compareOf c i d j) i j y) × (n ≡ partSize (compareOf c i d j) z))
   first-told f y z =
       let g = sym (gives-first f) in
-      (ap packed g, (ap (λ (o : Outcome). partOffset o i j y) g, ap (λ (o : Outcome). partSize o z) g))
+      let long = s ∙ part-size c i d j 1 (gives-first f) in
+      (ap packed g, (ap (λ (o : Outcome). partOffset o i j y) g, long ∙ ap (λ (o : Outcome). partSize o z) g))
 
   pub second-told : x ≡ Cupboard → (y z : ℕ)
-      → (512 ≡ packed (compareOf c i d j)) × (((j - 1) * 139 ≡ partOffset (compareOf c i d j) i j y) × (139 ≡ partSize (compareOf c i d j) z))
+      → (512 ≡ packed (compareOf c i d j)) × (((j - 1) * 139 ≡ partOffset (compareOf c i d j) i j y) × (n ≡ partSize (compareOf c i d j) z))
   second-told f y z =
       let g = sym (gives-second f) in
-      (ap packed g, (ap (λ (o : Outcome). partOffset o i j y) g, ap (λ (o : Outcome). partSize o z) g))
+      let long = s ∙ part-size c i d j 2 (gives-second f) in
+      (ap packed g, (ap (λ (o : Outcome). partOffset o i j y) g, long ∙ ap (λ (o : Outcome). partSize o z) g))
 
   pub none-told : (q : Question) → x ≡ Refused q → (r : ℕ) → r ≡ refusal q → (y z : ℕ)
       → (r ≡ packed (compareOf c i d j)) × ((y ≡ partOffset (compareOf c i d j) i j y) × (z ≡ partSize (compareOf c i d j) z))

@@ -38,8 +38,8 @@ use field::Exponent;
 use field::Question;
 use field::Verdict;
 use report::compare::Choice;
-use report::compare::compare;
 use report::compare::compare_into;
+use report::compare::compare_part;
 use report::row::Window;
 use report::window::window;
 use sheet::read_sheet;
@@ -476,17 +476,17 @@ pub extern "C" fn xrs_compare_part<'a>(
     ensures lasts { λ r.
         ⌜ now (size .exit) ≡ partSize (compareOf (now (controller .entry)) i (now (cupboard .entry)) j) (now (size .entry)) ⌝ }
 {
-    let c = compare(controller, i as usize, cupboard, j as usize);
-    let choice = c.choice;
+    let told = compare_part(controller, i as usize, cupboard, j as usize);
+    let choice = told.choice;
     match choice {
         Choice::Controller => {
             *offset = (i - 1) * 139;
-            *size = 139;
+            *size = told.size as u64;
             256
         }
         Choice::Cupboard => {
             *offset = (j - 1) * 139;
-            *size = 139;
+            *size = told.size as u64;
             512
         }
         Choice::Refused(q) => wide(field::refusal_number(q)),

@@ -139,7 +139,15 @@ fn both_read(i: Input, j: Input) -> bool
 }
 
 // Writes the comparison x of slot a with the number n, of the card read as i, and slot b with the number m, of that read as j.
-fn write_comparison(i: Input, n: u64, a: &[u8], j: Input, m: u64, b: &[u8], x: Comparison) -> Output
+fn write_comparison<'a>(
+    i: Input,
+    n: u64,
+    a: &'a [u8],
+    j: Input,
+    m: u64,
+    b: &'a [u8],
+    x: Comparison,
+) -> Output
     requires { ⌜ FindsSlot n i (now a) × FindsSlot m j (now b) × AcceptedSlots (now a) (now b) x ⌝ }
     ensures { λ r. ⌜ WritesAccepted (now (a .entry)) (now (b .entry)) r ⌝ }
 {
@@ -154,7 +162,15 @@ fn write_comparison(i: Input, n: u64, a: &[u8], j: Input, m: u64, b: &[u8], x: C
 }
 
 // The same where it is accepted, and nothing where it is refused.
-fn write_accepted(i: Input, n: u64, a: &[u8], j: Input, m: u64, b: &[u8], x: Comparison) -> Output
+fn write_accepted<'a>(
+    i: Input,
+    n: u64,
+    a: &'a [u8],
+    j: Input,
+    m: u64,
+    b: &'a [u8],
+    x: Comparison,
+) -> Output
     requires { ⌜ SlotFound n i (now a) × SlotFound m j (now b) × Compares (now a) 1 (now b) 1 x ⌝ }
     ensures { λ r. ⌜ WritesAccepted (now (a .entry)) (now (b .entry)) r ⌝ }
 {

@@ -25,13 +25,14 @@ use Rattle.card.specs.Record.{onAccept}
 use Rattle.sheet.specs.Sheet.{quarters, yearAt, monthAt, dayAt, pumpAt, sheetSize}
 use Rattle.sheet.proofs.Asking.{after-accepted}
 use Rattle.report.specs.Day.{hasRecord, slotOf, sheet, dayOf, daySymbols}
-use Rattle.report.specs.inner.Parts.{SlotPart, answered, dayIn, TellsDay, refusedComparison, PartFrom}
+use Rattle.report.specs.inner.Parts.{SlotPart, answered, dayIn, TellsDay, refusedComparison, PartFrom, partTold, TellsPart}
 use Rattle.report.specs.Compare.{signOf, signsOf, sheetSigns, sameDay, chosenOf, comparedOf, choice, Shows}
 use Rattle.report.specs.Compare.{numbersAsked, symbolsAt, compareOf, Compares, partOf, HandsBack, intoAsked, intoOf, ComparesInto}
 use Rattle.report.specs.declared.day.Reading.{Reading}
 use Rattle.report.specs.declared.compare.Choice.{Choice}
 use Rattle.report.specs.declared.compare.Choice.the-variants.{Controller, Cupboard, Refused}
 use Rattle.report.specs.declared.compare.Comparison.{Comparison}
+use Rattle.report.specs.declared.compare.PartTold.{PartTold}
 
 -- ---- signs
 
@@ -275,3 +276,8 @@ handed-back x i y j o e p P = record {
   controller = λ h. P .controller (e ∙ h) (compared-number (now x) i (now y) j 1 h);
   cupboard = λ h. P .cupboard (e ∙ h) (compared-other (now x) i (now y) j 2 h);
 }
+
+-- what is told of the part p, which was handed back beside x
+pub tells-part : (c : RefT (List ℕ)) (i : ℕ) (d : RefT (List ℕ)) (j : ℕ) (x : Comparison) (p : RefT (List ℕ)) → Compares (now c) i (now d) j x → HandsBack c i d j p
+    → (t : PartTold) → t ≡ partTold (x .choice) (length (now p)) → TellsPart (now c) i (now d) j t
+tells-part c i d j x p X P t e = rw e (record { answer = X .answer; size = ap length (P .bytes) })

@@ -6,7 +6,7 @@ ghost use Rattle.field.specs.Question.{accepted};
 ghost use Rattle.code.specs.Demands.{occurs};
 ghost use Rattle.sheet.specs.Sheet.{quarters, sheetSize};
 ghost use Rattle.report.specs.Day.{sheet};
-ghost use Rattle.report.specs.inner.Parts.{dayIn, refusedComparison, PartFrom};
+ghost use Rattle.report.specs.inner.Parts.{dayIn, refusedComparison, PartFrom, partTold, TellsPart};
 ghost use Rattle.report.specs.Compare.{signOf, sheetSigns, sameDay, chosenOf, comparedOf, choice, Shows};
 ghost use Rattle.card.specs.Record.{onAccept};
 ghost use Rattle.report.specs.Compare.{numbersAsked, Compares, HandsBack, intoAsked, ComparesInto};
@@ -45,6 +45,12 @@ pub struct Comparison {
 pub struct Compared<'a> {
     pub part: &'a [u8],
     pub comparison: Comparison,
+}
+
+// The choice, and how many bytes the part has that was handed back.
+pub struct PartTold {
+    pub choice: Choice,
+    pub size: usize,
 }
 
 // A refusal: every number is 0.
@@ -231,6 +237,25 @@ pub fn compare_sheets<'a>(
         part: chosen_part(controller, i, cupboard, j, c),
         comparison: c,
     }
+}
+
+// What a comparison tells of its part.
+fn tell_part(part: &[u8], c: Comparison) -> PartTold
+    ensures { λ r. ⌜ r ≡ partTold (c .choice) (length (now (part .entry))) ⌝ }
+{
+    let choice = c.choice;
+    PartTold {
+        choice,
+        size: part.len(),
+    }
+}
+
+// compare_sheets for a caller that can be handed no part of a card: the choice, and how many bytes the chosen part has.
+pub fn compare_part<'a>(controller: &'a [u8], i: usize, cupboard: &'a [u8], j: usize) -> PartTold
+    ensures { λ r. ⌜ TellsPart (now (controller .entry)) i (now (cupboard .entry)) j r ⌝ }
+{
+    let c = compare_sheets(controller, i, cupboard, j);
+    tell_part(c.part, c.comparison)
 }
 
 // Is each number that of a record of its card, and have the lent signs, m of them, their exact length?

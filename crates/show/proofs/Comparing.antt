@@ -6,6 +6,7 @@ use Prim.Native.Nat.{ℕ, _+_, _*_, _≤_, _<_}
 use native.Mathlib.Numerals.{add-one}
 use native.Mathlib.Omega.{arith}
 use borrow.Author.Tests.{eq-eqb, ne-eqb}
+use lib.Dec.{eqb}
 use lib.ListN.{length, getD, drop, drop-of-length-le}
 use lib.Seq.{drop-cons, take-all}
 use Rattle.field.specs.Question.{Outcome, accepted, refused, after}
@@ -20,7 +21,7 @@ use Rattle.sheet.specs.Demands.{SheetSymbols}
 use Rattle.report.specs.Window.{startsSum}
 use Rattle.report.specs.Quarter.{clockText}
 use Rattle.report.specs.Day.{hasRecord, slotOf, Day, sheet, noSheet, dayOf, daySymbols}
-use Rattle.report.specs.Compare.{comparedOf, choice, Shows, symbolsAt, numbersAsked, compareOf}
+use Rattle.report.specs.Compare.{comparedOf, choice, Shows, symbolsAt, numbersAsked, compareOf, partOf}
 use Rattle.report.specs.declared.compare.Comparison.{Comparison}
 use Rattle.report.proofs.Days.{is-sheet}
 use Rattle.show.specs.Text.{labelled}
@@ -91,25 +92,51 @@ accepted-sheets a b = go (dayOf (slotOf a 1)) (dayOf (slotOf b 1)) refl refl (nu
     go (noSheet n) y f g v e = absurd (none (noSheet n) y refl v e)
     go (sheet k ss) (noSheet n) f g v e = absurd (none (sheet k ss) (noSheet n) refl v e)
 
--- an accepted comparison has the text of its outcome
-shown-text : (o : Outcome) (ss ts : List ℕ) (x : Comparison) → isAccepted o ≡ true → Shows o ss ts x
-    → besideText (choice (x .choice)) (x .equal) (x .controller) (x .cupboard) ss ts ≡ outcomeText o ss ts
-shown-text (accepted w) ss ts x e S = rw (S .answer, S .equal, S .controller, S .cupboard)
-shown-text (refused n) ss ts x e S = let c : _≡_ {A = ℕ} 0 1 = cc in absurd (omega arith)
+-- the symbols of the part are those of the slot that was chosen
+chosen-symbols : (w : ℕ) (p a b : List ℕ) → p ≡ partOf (accepted w) a b
+    → daySymbols (dayOf p) ≡ cond (eqb w 1) (daySymbols (dayOf a)) (daySymbols (dayOf b))
+chosen-symbols w p a b e = ap (λ (l : List ℕ). daySymbols (dayOf l)) e ∙ go (eqb w 1)
+  where
+    go : (t : Bool) → daySymbols (dayOf (cond t a b)) ≡ cond t (daySymbols (dayOf a)) (daySymbols (dayOf b))
+    go true = refl
+    go false = refl
 
--- the symbols that were read of them
-module _ (a b : List ℕ) (x : Comparison) (P : AcceptedSlots a b x) {ss ts : List ℕ} (es : ss ≡ daySymbols (dayOf a)) (et : ts ≡ daySymbols (dayOf b)) where
+-- an accepted comparison has the text of its outcome
+shown-text : (o : Outcome) (cs ss ts : List ℕ) (x : Comparison) → isAccepted o ≡ true → Shows o ss ts x
+    → ((w : ℕ) → o ≡ accepted w → cs ≡ cond (eqb w 1) ss ts)
+    → besideText (choice (x .choice)) (x .equal) (x .controller) (x .cupboard) cs ss ts ≡ outcomeText o ss ts
+shown-text (accepted w) cs ss ts x e S h = rw (h w refl, S .answer, S .equal, S .controller, S .cupboard)
+shown-text (refused n) cs ss ts x e S h = let c : _≡_ {A = ℕ} 0 1 = cc in absurd (omega arith)
+
+-- the symbols that were read of them, and of the chosen part p
+module _ (a b : List ℕ) (x : Comparison) (P : AcceptedSlots a b x) {ss ts : List ℕ} (es : ss ≡ daySymbols (dayOf a)) (et : ts ≡ daySymbols (dayOf b))
+    (p : List ℕ) (ep : p ≡ partOf (choice (x .choice)) (slotOf a 1) (slotOf b 1)) {cs : List ℕ} (ec : cs ≡ daySymbols (dayOf p)) where
   first : ss ≡ symbolsAt a 1
   first = slot-symbols a (P .controller-short) es
 
   second : ts ≡ symbolsAt b 1
   second = slot-symbols b (P .cupboard-short) et
 
-  pub read-sheets : SheetSymbols ss × SheetSymbols ts
-  read-sheets =
-      let both = accepted-sheets a b (P .well) in (subst SheetSymbols (sym first) (both .0), subst SheetSymbols (sym second) (both .1))
+  third : (w : ℕ) → slotsOutcome a b ≡ accepted w → cs ≡ cond (eqb w 1) (symbolsAt a 1) (symbolsAt b 1)
+  third w e = ec ∙ chosen-symbols w p (slotOf a 1) (slotOf b 1) (ep ∙ ap (λ (o : Outcome). partOf o (slotOf a 1) (slotOf b 1)) (P .compares .answer ∙ e))
 
-  pub read-text : besideText (choice (x .choice)) (x .equal) (x .controller) (x .cupboard) ss ts ≡ comparisonText a b
+  pub read-sheets : SheetSymbols cs × SheetSymbols ss × SheetSymbols ts
+  read-sheets =
+      let both = accepted-sheets a b (P .well) in (
+        chosen (slotsOutcome a b) refl (P .well),
+        subst SheetSymbols (sym first) (both .0),
+        subst SheetSymbols (sym second) (both .1),
+      )
+    where
+      one : (t : Bool) → SheetSymbols (cond t (symbolsAt a 1) (symbolsAt b 1))
+      one true = accepted-sheets a b (P .well) .0
+      one false = accepted-sheets a b (P .well) .1
+
+      chosen : (o : Outcome) → slotsOutcome a b ≡ o → isAccepted o ≡ true → SheetSymbols cs
+      chosen (accepted w) e t = subst SheetSymbols (sym (third w e)) (one (eqb w 1))
+      chosen (refused n) e t = let c : _≡_ {A = ℕ} 0 1 = cc in absurd (omega arith)
+
+  pub read-text : besideText (choice (x .choice)) (x .equal) (x .controller) (x .cupboard) cs ss ts ≡ comparisonText a b
   read-text =
-      ap₂ (besideText (choice (x .choice)) (x .equal) (x .controller) (x .cupboard)) first second
-      ∙ shown-text (slotsOutcome a b) (symbolsAt a 1) (symbolsAt b 1) x (P .well) (P .compares)
+      ap₂ (besideText (choice (x .choice)) (x .equal) (x .controller) (x .cupboard) cs) first second
+      ∙ shown-text (slotsOutcome a b) cs (symbolsAt a 1) (symbolsAt b 1) x (P .well) (P .compares) third

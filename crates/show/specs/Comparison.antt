@@ -48,10 +48,10 @@ quarterAt ss ts i = quarterLine i (at ss i) (at ts i)
 
 -- ---- the whole text
 
--- the sheets with the symbols ss and ts, their totals, and which was chosen
-unfoldable pub besideText : Outcome → ℕ → ℕ → ℕ → List ℕ → List ℕ → List ℕ
-besideText o equal controller cupboard ss ts =
-    datedLines ss
+-- the sheets with the symbols ss and ts, their totals, and which was chosen; its symbols, cs, give the date and the pump, which both have
+unfoldable pub besideText : Outcome → ℕ → ℕ → ℕ → List ℕ → List ℕ → List ℕ → List ℕ
+besideText o equal controller cupboard cs ss ts =
+    datedLines cs
     ++ (startsLine ss ts ++ (totalsLine equal controller cupboard ++ (chosenLine o ++ texts (quarterAt ss ts) quarters)))
 
 -- how many quarter hours of two sheets have the sign s
@@ -60,7 +60,8 @@ signTotal ss ts s = occurs s (sheetSigns ss ts)
 
 -- a refusal has no text
 abbrev pub outcomeText : Outcome → List ℕ → List ℕ → List ℕ
-outcomeText (accepted w) ss ts = besideText (accepted w) (signTotal ss ts 0) (signTotal ss ts 1) (signTotal ss ts 2) ss ts
+outcomeText (accepted w) ss ts =
+    besideText (accepted w) (signTotal ss ts 0) (signTotal ss ts 1) (signTotal ss ts 2) (cond (eqb w 1) ss ts) ss ts
 outcomeText (refused n) ss ts = []
 
 -- the slots a of the controller's card and b of the cupboard's, each a card of one record

@@ -19,6 +19,7 @@ use card::text::put_bytes;
 use csv::columns::put_clock;
 use report::compare::Choice;
 use report::compare::Comparison;
+use report::compare::chosen_part;
 use report::day::read_day;
 use sheet::QUARTERS;
 
@@ -108,29 +109,38 @@ fn put_quarters(out: &mut [u8], at: usize, ss: &[u8], ts: &[u8]) -> usize
     next
 }
 
-// The text of two sheets with these symbols, of which x is the comparison.
-fn put_sheets(out: &mut [u8], x: Comparison, ss: &[u8], ts: &[u8]) -> usize
-    requires { ⌜ SheetSymbols (now ss) × (length (now ts) ≡ sheetSize) × (longestComparison ≤ length (now out)) ⌝ }
+// The text of two sheets with the symbols ss and ts, of which x is the comparison; the chosen one has the symbols cs.
+fn put_sheets(out: &mut [u8], x: Comparison, cs: &[u8], ss: &[u8], ts: &[u8]) -> usize
+    requires { ⌜
+        SheetSymbols (now cs) × (length (now ss) ≡ sheetSize) × (length (now ts) ≡ sheetSize) × (longestComparison ≤ length (now out))
+        ⌝ }
     ensures { λ r.
         ⌜
         Writes (now (out .entry)) 0
-        (besideText (choice (x .choice)) (x .equal) (x .controller) (x .cupboard) (now (ss .entry)) (now (ts .entry)))
+        (besideText (choice (x .choice)) (x .equal) (x .controller) (x .cupboard) (now (cs .entry)) (now (ss .entry)) (now (ts .entry)))
         (now (out .exit)) r
         ⌝ }
 {
-    let a = put_dated(out, 0, ss);
+    let a = put_dated(out, 0, cs);
     let b = put_starts(out, a, ss, ts);
     let c = put_totals(out, b, x);
     let d = put_chosen(out, c, x);
     put_quarters(out, d, ss, ts)
 }
 
-// The text of the slots a and b, each read as a day sheet, of which x is the comparison.
-pub fn put_comparison(out: &mut [u8], x: Comparison, a: &[u8], b: &[u8]) -> usize
+// The text of the slots a and b, each read as a day sheet, of which x is the comparison. The date and the pump are read from the chosen part.
+pub fn put_comparison<'a>(out: &mut [u8], x: Comparison, a: &'a [u8], b: &'a [u8]) -> usize
     requires { ⌜ AcceptedSlots (now a) (now b) x × (longestComparison ≤ length (now out)) ⌝ }
     ensures { λ r. ⌜ Writes (now (out .entry)) 0 (comparisonText (now (a .entry)) (now (b .entry))) (now (out .exit)) r ⌝ }
 {
     let controller = read_day(a);
     let cupboard = read_day(b);
-    put_sheets(out, x, &controller.symbols, &cupboard.symbols)
+    let chosen = read_day(chosen_part(a, 1, b, 1, x));
+    put_sheets(
+        out,
+        x,
+        &chosen.symbols,
+        &controller.symbols,
+        &cupboard.symbols,
+    )
 }

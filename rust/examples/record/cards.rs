@@ -120,6 +120,9 @@ fn compared(chance: &mut Chance) {
     line.bytes("cupboard", &cupboard).number("cupboard_number", other).answered(answer, |line, found| {
         line.number("value", 1 + found.cupboard_chosen as u8).numbers("totals", &found.totals).bytes("after", &found.signs)
     });
+    let answer = compare::part((&controller, number), (&cupboard, other));
+    let line = call("compare_part").bytes("controller", &controller).number("controller_number", number);
+    line.bytes("cupboard", &cupboard).number("cupboard_number", other).answered(answer, |line, part| line.bytes("after", part));
 }
 
 /// The starts on a card in a window, as places of the report with what stands there, where that is not 0; and its day sheets.

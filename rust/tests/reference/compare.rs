@@ -50,3 +50,10 @@ pub fn compare(controller: (&[u8], u64), cupboard: (&[u8], u64), signs_length: u
     let totals = [0, 1, 2].map(|kind| signs.iter().filter(|&&sign| sign == kind).count() as u8);
     Ok(Comparison { signs, totals, cupboard_chosen: changed_there < changed })
 }
+
+/// The piece that is chosen, as it stands on its card.
+pub fn part<'a>(controller: (&'a [u8], u64), cupboard: (&'a [u8], u64)) -> Result<&'a [u8], u8> {
+    let found = compare(controller, cupboard, QUARTERS)?;
+    let (card, number) = if found.cupboard_chosen { cupboard } else { controller };
+    piece(card, number).ok_or(17)
+}

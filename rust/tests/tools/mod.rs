@@ -184,6 +184,20 @@ pub fn compare_sheets(controller: &[u8], number: u64, cupboard: &[u8], other_num
     answer
 }
 
+/// `xrs::compare_part` on copies of the cards: whose card the part lies on, and which of its bytes it is.
+pub fn compare_part(controller: &[u8], number: u64, cupboard: &[u8], other_number: u64) -> Result<(xrs::Side, Range<usize>), Refusal> {
+    let (answer, after) = lend(controller, cupboard, |controller, cupboard| {
+        let cupboard = &*cupboard;
+        let part = xrs::compare_part(controller, number, cupboard, other_number)?;
+        let ours = controller.as_ptr_range().contains(&part.as_ptr());
+        let (side, card) = if ours { (xrs::Side::Controller, controller) } else { (xrs::Side::Cupboard, cupboard) };
+        let start = part.as_ptr() as usize - card.as_ptr() as usize;
+        Ok((side, start..start + part.len()))
+    });
+    assert_eq!(after, cupboard, "the cupboard's card was changed");
+    answer
+}
+
 /// `xrs::window` on a copy of the card.
 pub fn window(card: &[u8], first: u8, end: u8) -> Result<xrs::Report, Refusal> {
     lend(card, &[], |card, _| xrs::window(card, first, end)).0

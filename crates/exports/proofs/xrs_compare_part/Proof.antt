@@ -9,45 +9,46 @@ use Rattle.exports.proofs.xrs_compare_part.Tie as tie
 sub-offset : tie.Need-sub-offset
 sub-offset c =
     let a = c .before .before .before .before .before .args in
-    let x = c .before .before .compare in
-    first-inside (a .controller .now) (a .i) (a .cupboard .now) (a .j) (x .result .choice) (x .ensures .answer) (search needs) .low
+    let x = c .before .before .compare-part in
+    first-inside (a .controller .now) (a .i) (a .cupboard .now) (a .j) (x .result .choice) (x .ensures .answer) (x .result .size) (x .ensures .size) (search needs) .low
 
 mul-offset : tie.Need-mul-offset
 mul-offset c =
     let a = c .before .before .before .before .before .args in
-    let x = c .before .before .compare in
-    let h = first-inside (a .controller .now) (a .i) (a .cupboard .now) (a .j) (x .result .choice) (x .ensures .answer) (search needs) in
+    let x = c .before .before .compare-part in
+    let h = first-inside (a .controller .now) (a .i) (a .cupboard .now) (a .j) (x .result .choice) (x .ensures .answer) (x .result .size) (x .ensures .size) (search needs) in
     omega (arith, h .high)
 
 sub-offset-2 : tie.Need-sub-offset-2
 sub-offset-2 c =
     let a = c .before .before .before .before .before .args in
-    let x = c .before .before .compare in
-    second-inside (a .controller .now) (a .i) (a .cupboard .now) (a .j) (x .result .choice) (x .ensures .answer) (search needs) .low
+    let x = c .before .before .compare-part in
+    second-inside (a .controller .now) (a .i) (a .cupboard .now) (a .j) (x .result .choice) (x .ensures .answer) (x .result .size) (x .ensures .size) (search needs) .low
 
 mul-offset-2 : tie.Need-mul-offset-2
 mul-offset-2 c =
     let a = c .before .before .before .before .before .args in
-    let x = c .before .before .compare in
-    let h = second-inside (a .controller .now) (a .i) (a .cupboard .now) (a .j) (x .result .choice) (x .ensures .answer) (search needs) in
+    let x = c .before .before .compare-part in
+    let h = second-inside (a .controller .now) (a .i) (a .cupboard .now) (a .j) (x .result .choice) (x .ensures .answer) (x .result .size) (x .ensures .size) (search needs) in
     omega (arith, h .high)
 
 returns : tie.Need-returns
 returns c =
     let a = c .before .before .before .before .before .args in
-    let x = c .before .before .compare in
-    first-told (a .controller .now) (a .i) (a .cupboard .now) (a .j) (x .result .choice) (x .ensures .answer) (search needs) _ _
+    let x = c .before .before .compare-part in
+    first-told (a .controller .now) (a .i) (a .cupboard .now) (a .j) (x .result .choice) (x .ensures .answer) (x .result .size) (x .ensures .size) (search needs) _ _
 
 returns-2 : tie.Need-returns-2
 returns-2 c =
     let a = c .before .before .before .before .before .args in
-    let x = c .before .before .compare in
-    second-told (a .controller .now) (a .i) (a .cupboard .now) (a .j) (x .result .choice) (x .ensures .answer) (search needs) _ _
+    let x = c .before .before .compare-part in
+    second-told (a .controller .now) (a .i) (a .cupboard .now) (a .j) (x .result .choice) (x .ensures .answer) (x .result .size) (x .ensures .size) (search needs) _ _
 
 returns-3 : tie.Need-returns-3
 returns-3 c =
     let a = c .before .before .before .before .before .before .before .before .args in
-    none-told (a .controller .now) (a .i) (a .cupboard .now) (a .j) _ (c .before .before .before .before .before .compare .ensures .answer) _
+    none-told (a .controller .now) (a .i) (a .cupboard .now) (a .j) _ (c .before .before .before .before .before .compare-part .ensures .answer) _
+    (c .before .before .before .before .before .compare-part .ensures .size) _
     (c .before .before .before .choice .given .1)
     (c .wide .result) (c .wide .ensures ∙ c .before .refusal-number .ensures) _ _
 

@@ -59,11 +59,11 @@ place-at-requires c κs = index c
 cast-p : tie.Need-cast-p Inv-loop μ-loop
 cast-p c = search needs
 
-array-read-value : tie.Need-array-read-value Inv-loop μ-loop
-array-read-value c = index (c .before .before)
+slice-read-old : tie.Need-slice-read-old Inv-loop μ-loop
+slice-read-old c = below (c .before .before)
 
-slice-read-change-at : tie.Need-slice-read-change-at Inv-loop μ-loop
-slice-read-change-at c = below (c .before .before)
+array-read-value : tie.Need-array-read-value Inv-loop μ-loop
+array-read-value c = index (c .before .before .before)
 
 change-at-requires : tie.Need-change-at-requires Inv-loop μ-loop
 change-at-requires c κs = search needs
@@ -105,8 +105,8 @@ apply-correction-spec =
     sub-i
     place-at-requires
     cast-p
+    slice-read-old
     array-read-value
-    slice-read-change-at
     change-at-requires
     add-k
     slice-write-word
