@@ -14,8 +14,7 @@ use Rattle.field.specs.Question.{ask, isWidth}
 use Rattle.field.specs.declared.Question.the-variants.{Width, Length, ErasureCount, Padding, FourErasures}
 use Rattle.field.specs.declared.Verdict.the-variants.{Passed, Refused}
 use Rattle.field.proofs.Ask.{ask-yes, ask-next, and-true-left, and-true-right}
-use Rattle.code.specs.Word.{places}
-use Rattle.code.specs.inner.Call.{wordLength}
+use Rattle.code.specs.Word.{places, wordLength}
 use Rattle.code.proofs.Lengths.{width-some, width-none, length-is, places-most}
 use Rattle.card.specs.Record.{headerOf, sizeOf, widthOf, countOf, erasuresOf, unusedIn, allowedIn, allAre, hasWidth, fewIn}
 use Rattle.card.specs.Record.{paddedIn, askedIn, erasureBytes, recordSize, wordOf, recordAsked}

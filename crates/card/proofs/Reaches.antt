@@ -17,8 +17,7 @@ use Rattle.code.proofs.Demands.{accepts, longer-reach}
 use Rattle.card.specs.declared.Progress.{Progress}
 use Rattle.card.specs.Record.{widthOf, wordOf, erasuresOf, recordAsked, clearRecord, recordWithinOf, recordWithinWritten, reachOf, recordOf}
 use Rattle.card.specs.Record.{recordWritten, RestoresRecord, reachUpTo, recordUpTo, recordWrittenUpTo, mostChanges}
-use Rattle.card.specs.Record.{NotOtherwise, UpToTwo}
-use Rattle.card.specs.inner.Parts.{RestoresRecordUpTo}
+use Rattle.card.specs.Record.{RestoresRecordUpTo, NotOtherwise, UpToTwo}
 use Rattle.card.specs.Slots.{overSlots}
 use Rattle.card.specs.Listing.{furtherBy, partProgress, progressUpTo}
 use Rattle.card.proofs.Again.{accepted-means, written-clear, within-again, again-reach, within-stays, within-size}

@@ -10,8 +10,7 @@ use Rattle.field.specs.declared.Question.{Question}
 use Rattle.field.specs.declared.Question.the-variants.{Length}
 use Rattle.field.specs.declared.Verdict.{Verdict}
 use Rattle.field.specs.declared.Verdict.the-variants.{Passed, Refused as RefusedBy}
-use Rattle.code.specs.Word.{places, longest}
-use Rattle.code.specs.inner.Call.{wordLength}
+use Rattle.code.specs.Word.{places, wordLength, longest}
 use Rattle.code.specs.Near.{radius}
 use Rattle.code.specs.Call.{withinOf, withinWritten, repair, RestoresWithin}
 use Rattle.code.specs.declared.Repair.{Repair}
@@ -19,9 +18,9 @@ use Rattle.code.specs.declared.Repair.the-variants.{Restored, Refused}
 use Rattle.code.proofs.Lengths.{places-most}
 use Rattle.code.proofs.Demands.{accepts, refused-unchanged}
 use Rattle.card.specs.Record.{erasureBytes, recordSize, widthOf, countOf, wordOf, erasuresOf, recordAsked, clearRecord, onAccept, RestoresCopy}
-use Rattle.card.specs.inner.Parts.{headerSize, tailOf, noCopy, RestoresRecordUpTo}
+use Rattle.card.specs.inner.Parts.{headerSize, tailOf, noCopy}
 use Rattle.card.specs.Record.{recordWithinOf, recordWithinWritten, RestoresRecordWithin, reachOf, recordOf, recordWritten, RestoresRecord, copyWritten}
-use Rattle.card.specs.Record.{reachUpTo, recordUpTo, recordWrittenUpTo}
+use Rattle.card.specs.Record.{reachUpTo, recordUpTo, recordWrittenUpTo, RestoresRecordUpTo}
 use Rattle.card.specs.declared.RestoredCopy.{RestoredCopy}
 use Rattle.card.proofs.Layouts.{Asked, asked, all-replicate, length-no, word-part, erasures-part}
 

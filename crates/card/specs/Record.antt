@@ -153,6 +153,11 @@ recordUpTo n r = recordWithinOf r (reachUpTo n r)
 unfoldable pub recordWrittenUpTo : ℕ → List ℕ → List ℕ
 recordWrittenUpTo n r = recordWithinWritten r (reachUpTo n r)
 
+-- the call's promise: what restore_record_up_to answers and leaves in the record
+pub record RestoresRecordUpTo (n : ℕ) (old : List ℕ) (r : Repair) (new : List ℕ) : Type 0 where
+  pub answer : repair r ≡ recordUpTo n old
+  pub content : new ≡ recordWrittenUpTo n old
+
 -- up to n the record is restored as with its own r, or it is refused and stays as it was
 pub record SameOrStays (n : ℕ) (r : List ℕ) : Type 0 where
   pub same : (k : ℕ) → recordUpTo n r ≡ accepted k → (recordOf r ≡ accepted k) × (recordWrittenUpTo n r ≡ recordWritten r)

@@ -8,8 +8,7 @@ use Rattle.field.specs.Question.{isWidth}
 use Rattle.field.specs.inner.Operand.{orderOf}
 use Rattle.field.proofs.Ask.{width-yes, width-no, order-is}
 use Rattle.field.proofs.Widths.{order-small}
-use Rattle.code.specs.Word.{places, longest}
-use Rattle.code.specs.inner.Call.{wordLength}
+use Rattle.code.specs.Word.{places, wordLength, longest}
 
 -- from what `order_of` says of the width
 module _ (m q : ℕ) (e : q ≡ orderOf m) where

@@ -11,6 +11,8 @@ use Rattle.field.specs.declared.Question.the-variants.{Width, Length, ErasureCo
 use Rattle.field.specs.declared.Verdict.{Verdict}
 use Rattle.field.specs.declared.Verdict.the-variants.{Passed, Refused as RefusedBy}
 use Rattle.code.specs.declared.FiveSyndromes.{FiveSyndromes}
+use Rattle.code.specs.declared.Membership.{Membership}
+use Rattle.code.specs.declared.Membership.the-variants.{Codeword, Other, Refused}
 use Rattle.code.specs.declared.Repair.{Repair}
 use Rattle.code.specs.declared.Repair.the-variants.{Restored, Refused as RefusedRepair}
 use Rattle.code.specs.Word.{checks, places, items, encode, dataOf}
@@ -71,6 +73,12 @@ isCodewordAsked m word = wordAsked m (length word) (ask (allBelow (order m) word
 -- what the test answers
 abbrev pub isCodewordOf : ℕ → List ℕ → Outcome
 isCodewordOf m word = after (isCodewordAsked m word) (accepted (cond (zeroSyndromes m word) 1 0))
+
+-- the outcome that the test's answer stands for
+abbrev pub membership : Membership → Outcome
+membership Codeword = accepted 1
+membership Other = accepted 0
+membership (Refused q) = refused (refusal q)
 
 -- ---- the reader of data: questions 1, 2, 7 and 9
 

@@ -1,5 +1,4 @@
 -- Vocabulary of inner functions: no contract of a call, demand or stated theorem cites it. Assumes nothing.
-pub mod Call  -- the length of a word, and the outcome that the answer of the codeword test stands for
 pub mod Block  -- neighbouring bytes in one number, and a run of them passed over
 pub mod Place  -- a place's exponent, and the columns of the code's matrix
 pub mod Matrix  -- linear systems as matrices, the steps of elimination, what the solver's answers mean

@@ -1,10 +1,9 @@
 // The five times extended Reed-Solomon code of document 003: encoder, codeword test, reader of data and restorer. A message is the data of a
 // word.
 ghost use mathlib.Core.Path.{_≡_};
-ghost use Rattle.code.specs.inner.Call.{wordLength};
+ghost use Rattle.code.specs.Word.{wordLength};
 ghost use Rattle.code.specs.Near.{radius};
-ghost use Rattle.code.specs.Call.{Encodes, isCodewordOf, ReadsData, maxErasures, GivesSyndromes, RestoresWithin, Restores};
-ghost use Rattle.code.specs.inner.Call.{membership};
+ghost use Rattle.code.specs.Call.{Encodes, membership, isCodewordOf, ReadsData, maxErasures, GivesSyndromes, RestoresWithin, Restores};
 
 mod asking;
 mod beside;

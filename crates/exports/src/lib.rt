@@ -4,11 +4,9 @@
 ghost use mathlib.Core.Path.{_≡_};
 ghost use Prim.Native.Nat.{_<_};
 ghost use lib.ListN.{length};
-ghost use Rattle.field.specs.Answer.{sumOf, productOf, powerOf, inverseOf};
-ghost use Rattle.field.specs.inner.Operand.{outcome};
-ghost use Rattle.code.specs.Call.{syndromesOf, syndromesGiven, withinOf, withinWritten};
+ghost use Rattle.field.specs.Answer.{outcome, sumOf, productOf, powerOf, inverseOf};
+ghost use Rattle.code.specs.Call.{membership, syndromesOf, syndromesGiven, withinOf, withinWritten};
 ghost use Rattle.code.specs.Call.{done, repair, encodeOf, encodeWritten, isCodewordOf, readDataOf, readDataWritten, restoreOf, restoreWritten};
-ghost use Rattle.code.specs.inner.Call.{membership};
 ghost use Rattle.card.specs.Record.{recordOf, recordWritten, recordWithinOf, recordWithinWritten};
 ghost use Rattle.card.specs.Card.{firstRefused};
 ghost use Rattle.card.specs.Conversion.{toNewOf, toNewWritten, toOldOf, toOldWritten};

@@ -5,10 +5,17 @@ use Prim.Native.Nat.{ℕ}
 use lib.Dec.{eqb}
 use Rattle.field.specs.Polynomial.{add}
 use Rattle.field.specs.Field.{order, product, power, inverse}
-use Rattle.field.specs.Question.{Outcome, accepted, ask, after, isWidth, allBelow}
+use Rattle.field.specs.Question.{Outcome, accepted, refused, refusal, ask, after, isWidth, allBelow}
+use Rattle.field.specs.declared.Answer.{Answer}
+use Rattle.field.specs.declared.Answer.the-variants.{Value, Refused}
 use Rattle.field.specs.declared.Question.the-variants.{Width, Symbol, Nonzero}
 use Rattle.field.specs.declared.Verdict.{Verdict}
 use Rattle.field.specs.declared.Verdict.the-variants.{Passed}
+
+-- the number and the value of each case of the answer
+abbrev pub outcome : Answer → Outcome
+outcome (Value x) = accepted x
+outcome (Refused q) = refused (refusal q)
 
 -- questions 1 and 7, put to the operands
 unfoldable pub operands : ℕ → List ℕ → Verdict

@@ -2,8 +2,7 @@
 ghost use mathlib.Core.Path.{_≡_};
 ghost use mathlib.Core.List.{_∷_, []};
 ghost use Rattle.field.specs.Question.{refusal};
-ghost use Rattle.field.specs.Answer.{operands, sumOf, productOf, powerOf, inverseOf};
-ghost use Rattle.field.specs.inner.Operand.{outcome};
+ghost use Rattle.field.specs.Answer.{outcome, operands, sumOf, productOf, powerOf, inverseOf};
 
 pub mod arithmetic;
 mod folds;

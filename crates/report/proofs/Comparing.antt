@@ -25,9 +25,9 @@ use Rattle.card.specs.Record.{onAccept}
 use Rattle.sheet.specs.Sheet.{quarters, yearAt, monthAt, dayAt, pumpAt, sheetSize}
 use Rattle.sheet.proofs.Asking.{after-accepted}
 use Rattle.report.specs.Day.{hasRecord, slotOf, sheet, dayOf, daySymbols}
-use Rattle.report.specs.inner.Parts.{SlotPart, answered, dayIn, TellsDay, refusedComparison, PartFrom, partTold, TellsPart}
+use Rattle.report.specs.inner.Parts.{SlotPart, answered, dayIn, TellsDay, refusedComparison, PartFrom, partTold}
 use Rattle.report.specs.Compare.{signOf, signsOf, sheetSigns, sameDay, chosenOf, comparedOf, choice, Shows}
-use Rattle.report.specs.Compare.{numbersAsked, symbolsAt, compareOf, Compares, partOf, HandsBack, intoAsked, intoOf, ComparesInto}
+use Rattle.report.specs.Compare.{numbersAsked, symbolsAt, compareOf, Compares, partOf, HandsBack, intoAsked, intoOf, ComparesInto, TellsPart}
 use Rattle.report.specs.declared.day.Reading.{Reading}
 use Rattle.report.specs.declared.compare.Choice.{Choice}
 use Rattle.report.specs.declared.compare.Choice.the-variants.{Controller, Cupboard, Refused}

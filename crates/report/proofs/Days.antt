@@ -10,8 +10,7 @@ use Rattle.field.specs.Question.{Outcome, accepted, refused, refusal, after}
 use Rattle.field.specs.declared.Question.{Question}
 use Rattle.field.specs.declared.Verdict.{Verdict}
 use Rattle.field.specs.declared.Verdict.the-variants.{Passed, Refused}
-use Rattle.code.specs.Word.{checks, places, longest, Codeword}
-use Rattle.code.specs.inner.Call.{wordLength}
+use Rattle.code.specs.Word.{checks, places, wordLength, longest, Codeword}
 use Rattle.code.specs.Call.{repair, withinOf, withinWritten}
 use Rattle.code.specs.declared.Repair.{Repair}
 use Rattle.code.specs.declared.Repair.the-variants.{Restored, Refused as RefusedRepair}

@@ -20,6 +20,7 @@ use Rattle.report.specs.Day.{hasRecord, slotOf, Day, sheet, noSheet, day
 use Rattle.report.specs.declared.compare.Choice.{Choice}
 use Rattle.report.specs.declared.compare.Choice.the-variants.{Controller, Cupboard, Refused}
 use Rattle.report.specs.declared.compare.Comparison.{Comparison}
+use Rattle.report.specs.declared.compare.PartTold.{PartTold}
 
 -- the sign of a quarter hour: 0 for equal counts, 1 for the controller's higher, 2 for the cupboard's
 abbrev pub signOf : ℕ → ℕ → ℕ
@@ -122,6 +123,11 @@ pub record HandsBack (x : RefT (List ℕ)) (i : ℕ) (y : RefT (List ℕ)) (j : 
   pub bytes : now r ≡ comparePart (now x) i (now y) j
   pub controller : compareOf (now x) i (now y) j ≡ accepted 1 → LiesAt x ((i - 1) * recordSize) r
   pub cupboard : compareOf (now x) i (now y) j ≡ accepted 2 → LiesAt y ((j - 1) * recordSize) r
+
+-- the promise of compare_part: the outcome of the comparison, and the size of the part that compare_sheets hands back
+pub record TellsPart (c : List ℕ) (i : ℕ) (d : List ℕ) (j : ℕ) (x : PartTold) : Type 0 where
+  pub answer : choice (x .choice) ≡ compareOf c i d j
+  pub size : x .size ≡ length (comparePart c i d j)
 
 -- ---- with lent signs, whose length is asked for after the numbers
 

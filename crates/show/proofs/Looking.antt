@@ -13,7 +13,7 @@ use Rattle.field.specs.declared.Verdict.{Verdict}
 use Rattle.field.specs.declared.Verdict.the-variants.{Passed, Refused as RefusedBy}
 use Rattle.code.specs.Call.{done, shown, restoreAsked, syndromesGiven, GivesSyndromes, repair}
 use Rattle.code.specs.Erasure.{syndromesWithout}
-use Rattle.code.specs.inner.Call.{wordLength}
+use Rattle.code.specs.Word.{wordLength}
 use Rattle.code.specs.declared.FiveSyndromes.{FiveSyndromes}
 use Rattle.code.specs.declared.Repair.the-variants.{Restored, Refused as RefusedRepair}
 use Rattle.code.proofs.Lengths.{length-is}

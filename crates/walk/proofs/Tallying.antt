@@ -13,11 +13,10 @@ use Rattle.field.specs.declared.Verdict.the-variants.{Passed, Refused}
 use Rattle.code.specs.Call.{repair, done, written}
 use Rattle.code.specs.declared.Repair.{Repair}
 use Rattle.card.specs.declared.Progress.{Progress}
-use Rattle.card.specs.Record.{erasureBytes, recordSize, mostChanges, recordOf, recordUpTo, recordWrittenUpTo}
+use Rattle.card.specs.Record.{erasureBytes, recordSize, mostChanges, recordOf, recordUpTo, recordWrittenUpTo, RestoresRecordUpTo}
 use Rattle.card.specs.Slots.{recordCount, recordAt, isBlank, overFirst, overSlots, appended}
 use Rattle.card.specs.Listing.{counted, furtherBy, progressUpTo, start}
 use Rattle.card.specs.inner.Room.{further, Within}
-use Rattle.card.specs.inner.Parts.{RestoresRecordUpTo}
 use Rattle.card.proofs.Blank.{blank-up-to}
 use Rattle.card.proofs.Bounds.{few-up-to, progress-within}
 use Rattle.card.proofs.Checking.{last-piece, whole-piece}

@@ -5,11 +5,9 @@ use Prim.Native.Nat.{ℕ}
 use lib.ListN.{take, drop, replicate}
 use denote.Ref.{RefT, now}
 use Rattle.field.specs.declared.Question.{Question}
-use Rattle.code.specs.Call.{repair}
-use Rattle.code.specs.declared.Repair.{Repair}
 use Rattle.code.specs.declared.Repair.the-variants.{Refused}
 use Rattle.card.specs.declared.RestoredCopy.{RestoredCopy}
-use Rattle.card.specs.Record.{headerOf, unusedIn, tailIn, erasureBytes, recordSize, recordUpTo, recordWrittenUpTo}
+use Rattle.card.specs.Record.{headerOf, unusedIn, tailIn, erasureBytes, recordSize}
 use Rattle.card.specs.Card.{LiesAt}
 
 -- the header, the unused erasure bytes and the tail in today's edition
@@ -25,11 +23,6 @@ tailOf r = tailIn erasureBytes r
 -- the answer and the copy of a record that is refused
 abbrev pub noCopy : Question → RestoredCopy
 noCopy q = record { answer = Refused q; bytes = replicate recordSize 0 }
-
--- what restore_record_up_to answers and leaves in the record
-pub record RestoresRecordUpTo (n : ℕ) (old : List ℕ) (r : Repair) (new : List ℕ) : Type 0 where
-  pub answer : repair r ≡ recordUpTo n old
-  pub content : new ≡ recordWrittenUpTo n old
 
 -- the slot of today's edition that begins at byte a of the lent card: its bytes, where they lie
 pub record SlotFrom (card : RefT (List ℕ)) (a : ℕ) (r : RefT (List ℕ)) : Type 0 where

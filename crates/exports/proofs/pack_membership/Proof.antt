@@ -1,7 +1,7 @@
 -- `exports::pack_membership` meets its contract. Assumes nothing.
 use borrow.Author.Needs.{needs}
 use mathlib.Core.Path.{refl}
-use Rattle.code.specs.inner.Call.{membership}
+use Rattle.code.specs.Call.{membership}
 use Rattle.code.specs.declared.Membership.the-variants.{Refused}
 use Rattle.exports.proofs.Packing.{refusal-packed}
 use Rattle.exports.proofs.pack_membership.Statement.{statement}

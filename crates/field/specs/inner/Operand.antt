@@ -1,12 +1,10 @@
--- Symbols at a width of the field, and what the field's calls give where they are right. Assumes nothing.
+-- Symbols at a width of the field. Assumes nothing.
 use mathlib.Core.Path.{_≡_}
 use mathlib.Core.Bool.{true, cond}
 use Prim.Native.Nat.{ℕ, zero, _<_}
 use Rattle.field.specs.Polynomial.{add, carryless, digits, digitsFrom}
 use Rattle.field.specs.Field.{order, polynomial, reduce, double, remainder, product, power, inverse}
-use Rattle.field.specs.Question.{Outcome, accepted, refused, refusal, isWidth}
-use Rattle.field.specs.declared.Answer.{Answer}
-use Rattle.field.specs.declared.Answer.the-variants.{Value, Refused}
+use Rattle.field.specs.Question.{isWidth}
 
 -- a symbol at a width of the field: what a call below the questions needs to be right
 pub record Operand (m a : ℕ) : Type 0 where
@@ -16,11 +14,6 @@ pub record Operand (m a : ℕ) : Type 0 where
 -- q, or 0 where the width is none of the field's
 abbrev pub orderOf : ℕ → ℕ
 orderOf m = cond (isWidth m) (order m) 0
-
--- the number and the value of each case of the answer
-abbrev pub outcome : Answer → Outcome
-outcome (Value x) = accepted x
-outcome (Refused q) = refused (refusal q)
 
 -- `unfolding arithmetic` opens every definition of Polynomial.antt and Field.antt, for a fact that is computed
 unfoldable pub arithmetic : ℕ

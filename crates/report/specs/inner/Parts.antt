@@ -19,7 +19,7 @@ use Rattle.report.specs.declared.compare.Choice.{Choice}
 use Rattle.report.specs.declared.compare.Choice.the-variants.{Refused}
 use Rattle.report.specs.declared.compare.Comparison.{Comparison}
 use Rattle.report.specs.declared.compare.PartTold.{PartTold}
-use Rattle.report.specs.Compare.{choice, compareOf, partOf, comparePart}
+use Rattle.report.specs.Compare.{choice, partOf}
 
 -- the part r is the slot with the number n of the lent card: its bytes, and where they lie on it
 pub record SlotPart (card : RefT (List ℕ)) (n : ℕ) (r : RefT (List ℕ)) : Type 0 where
@@ -58,8 +58,3 @@ pub record PartFrom (o : Outcome) (x : RefT (List ℕ)) (i : ℕ) (y : RefT (Lis
 -- a choice beside the size of its part
 abbrev pub partTold : Choice → ℕ → PartTold
 partTold w n = record { choice = w; size = n }
-
--- the promise of compare_part: the outcome of the comparison, and the size of the part that compare_sheets hands back
-pub record TellsPart (c : List ℕ) (i : ℕ) (d : List ℕ) (j : ℕ) (x : PartTold) : Type 0 where
-  pub answer : choice (x .choice) ≡ compareOf c i d j
-  pub size : x .size ≡ length (comparePart c i d j)
