@@ -65,7 +65,7 @@ impl FusedIterator for Slots<'_> {}
 /// card[7..xrs::RECORD_SIZE].fill(0); // a record of width 3
 /// card[7] = 5; // a wrong symbol
 ///
-/// let [record, blank, piece] = xrs::slots(&card).collect::<Vec<_>>().try_into().unwrap();
+/// let [record, blank, piece]: [xrs::Slot; 3] = xrs::slots(&card).collect::<Vec<_>>().try_into().unwrap();
 /// assert_eq!((record.number, record.is_blank()), (1, false));
 /// assert_eq!(record.restored().map(|(bytes, changed)| (bytes[7], changed)), Ok((0, 1)));
 /// assert_eq!((blank.number, blank.is_blank()), (2, true));

@@ -22,9 +22,10 @@ use Rattle.field.proofs.Below.{allBelow-means}
 use Rattle.code.specs.Word.{places, items, five, at, Codeword, encode}
 use Rattle.code.specs.Erasure.{changes, maskedSyndrome}
 use Rattle.code.specs.Near.{distance, radius, Near}
-use Rattle.code.specs.Call.{written, done, zeroSyndromes, restoreAsked}
+use Rattle.code.specs.Call.{written, done, sameBytes, zeroSyndromes, restoreAsked}
 use Rattle.code.specs.Demands.{Data, PassesWithin}
 use Rattle.code.specs.Cases.{Case, encoding, restoring, codeword, Holds, Table}
+use Rattle.code.proofs.Same.{same-refl, same-equal}
 use Rattle.code.proofs.Columns.{combine}
 use Rattle.code.specs.inner.Correction.{Lent}
 use Rattle.code.proofs.restoring.Filling.{Each, Solution, codeword-solution}
@@ -41,24 +42,11 @@ true-of false t = absurd t
 
 -- ---- two lists are equal
 
-abbrev same? : List ℕ → List ℕ → Bool
-same? [] [] = true
-same? [] (y ∷ ys) = false
-same? (x ∷ xs) [] = false
-same? (x ∷ xs) (y ∷ ys) = eqb x y && same? xs ys
+same-of : (xs ys : List ℕ) → T (sameBytes xs ys) → xs ≡ ys
+same-of xs ys t = same-equal xs ys (true-of (sameBytes xs ys) t)
 
-same-of : (xs ys : List ℕ) → T (same? xs ys) → xs ≡ ys
-same-of [] [] t = refl
-same-of [] (y ∷ ys) t = absurd t
-same-of (x ∷ xs) [] t = absurd t
-same-of (x ∷ xs) (y ∷ ys) t = ap₂ _∷_ (eqb→eq x y (and-left (eqb x y) (same? xs ys) t)) (same-of xs ys (and-right (eqb x y) (same? xs ys) t))
-
-same-to : {xs ys : List ℕ} → xs ≡ ys → T (same? xs ys)
-same-to {xs} e = subst (λ (ys : List ℕ). T (same? xs ys)) e (go xs)
-  where
-    go : (xs : List ℕ) → T (same? xs xs)
-    go [] = tt
-    go (x ∷ xs) = subst (λ (b : Bool). T (b && same? xs xs)) (sym (eq-eqb x x refl)) (go xs)
+same-to : {xs ys : List ℕ} → xs ≡ ys → T (sameBytes xs ys)
+same-to {xs} e = subst (λ (ys : List ℕ). T (sameBytes xs ys)) e (subst T (sym (same-refl xs)) tt)
 
 -- ---- the questions are passed
 
@@ -116,7 +104,7 @@ places-at (suc r) n (p ∷ ps) d h f t =
 module _ (m : ℕ) (ls w : List ℕ) where
   -- the values solve the system at the places ls
   abbrev solves? : List ℕ → Bool
-  solves? zs = same? (five (combine m ls zs)) (five (maskedSyndrome m ls w))
+  solves? zs = sameBytes (five (combine m ls zs)) (five (maskedSyndrome m ls w))
 
   abbrev no-solution? : Bool
   no-solution? = all-values (order m) (length ls) (λ zs. not (solves? zs))
@@ -151,16 +139,16 @@ module _ (ds : List ℕ) where
       let b = true-of (allBelow (order 3) ds) (and-right (eqb (length ds) (items 3)) (allBelow (order 3) ds) t) in
       record { size = size; symbols = λ i h. allBelow-means (order 3) ds b i (omega arith) }
 
-  encodes-of : (w : List ℕ) → T (data? && same? (encode 3 ds) w) → Holds (encoding ds w)
+  encodes-of : (w : List ℕ) → T (data? && sameBytes (encode 3 ds) w) → Holds (encoding ds w)
   encodes-of w t = (
     e,
     λ out l.
-        let p = encode-passes 3 refl ds out (data-of (and-left data? (same? (encode 3 ds) w) t)) l in
+        let p = encode-passes 3 refl ds out (data-of (and-left data? (sameBytes (encode 3 ds) w) t)) l in
         (ap done p, ap (λ (v : Verdict). written v out (encode 3 ds)) p ∙ e),
   )
     where
       e : encode 3 ds ≡ w
-      e = same-of (encode 3 ds) w (and-right data? (same? (encode 3 ds) w) t)
+      e = same-of (encode 3 ds) w (and-right data? (sameBytes (encode 3 ds) w) t)
 
 module _ (w es : List ℕ) where
   abbrev r : ℕ
@@ -168,7 +156,7 @@ module _ (w es : List ℕ) where
 
   abbrev restores? : Outcome → List ℕ → Bool
   restores? (accepted k) c = codeword? 3 c && (leb (changes 3 es w c) r && eqb k (changes 3 es w c))
-  restores? (refused n) c = none-within? 3 w es r && (eqb n (refusal Correctable) && same? c w)
+  restores? (refused n) c = none-within? 3 w es r && (eqb n (refusal Correctable) && sameBytes c w)
 
   restores-of : PassesWithin 3 w es r → length es < distance 3 → (o : Outcome) (c : List ℕ) → T (restores? o c) → Holds (restoring w es o c)
   restores-of p few (accepted k) c t =
@@ -183,14 +171,14 @@ module _ (w es : List ℕ) where
         },
       )
   restores-of p few (refused n) c t =
-      let ts = and-three (none-within? 3 w es r) (eqb n (refusal Correctable)) (same? c w) t in
+      let ts = and-three (none-within? 3 w es r) (eqb n (refusal Correctable)) (sameBytes c w) t in
       let e = refuses-seven 3 w es r .1 (p, λ d N. none-within (field-of 3 refl) w es r (given 3 w es (within-passes 3 w es r p .0) .lent) (ts .0) d N) in
       (e ∙ ap refused (sym (eqb→eq n (refusal Correctable) (ts .1))), refused-unchanged 3 w es r 7 e ∙ sym (same-of c w (ts .2)))
 
 -- ---- the table
 
 abbrev holds? : Case → Bool
-holds? (encoding ds w) = data? ds && same? (encode 3 ds) w
+holds? (encoding ds w) = data? ds && sameBytes (encode 3 ds) w
 holds? (restoring w es o c) = passed? (restoreAsked 3 w es) && (ltb (length es) (distance 3) && restores? w es o c)
 holds? (codeword m w) = codeword? m w
 

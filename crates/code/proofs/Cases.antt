@@ -7,7 +7,7 @@ use Rattle.field.specs.inner.Operand.{arithmetic}
 use Rattle.code.specs.Word.{sum, at, Codeword}
 use Rattle.code.specs.inner.Place.{column}
 use Rattle.code.specs.Erasure.{total}
-use Rattle.code.specs.Call.{zeroSyndromes, restoreAsked}
+use Rattle.code.specs.Call.{sameBytes, zeroSyndromes, restoreAsked}
 use Rattle.code.specs.Demands.{DistanceNotFive}
 use Rattle.code.specs.Cases.{Case, starred, fiveErasures, fourSymbols, widthFour, cases, Table}
 use Rattle.code.proofs.Columns.{combine}
@@ -15,7 +15,7 @@ use Rattle.code.proofs.CaseTable.{table?, table-of, codeword-of}
 use Rattle.code.proofs.FiveErasures.{five-hold}
 
 starred-pass : T (table? starred)
-unfolding arithmetic sum total zeroSyndromes restoreAsked column combine
+unfolding arithmetic sum total sameBytes zeroSyndromes restoreAsked column combine
 starred-pass = tt
 
 four-codeword : Codeword 4 fourSymbols

@@ -6,6 +6,7 @@ pub mod Sums  -- totals, and that syndromes are linear
 pub mod Loops  -- loops that copy, fill an array or look for a number; parts of a list
 pub mod Blocks  -- bytes of a list in one number, and what a test of it says of each
 pub mod Questions  -- what the questions' tests mean, and their loops
+pub mod Same  -- two lists are compared byte by byte
 pub mod Lengths  -- the length of a word at each width
 pub mod Members  -- lists of places
 pub mod Places  -- arrays of places, by their numbers, and the loops over them

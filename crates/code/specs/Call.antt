@@ -1,6 +1,6 @@
 -- What the calls of this crate answer, and what the lent memory holds afterwards, on every input. Assumes nothing.
 use mathlib.Core.Path.{_≡_}
-use mathlib.Core.Bool.{Bool, true, cond, _&&_}
+use mathlib.Core.Bool.{Bool, true, false, cond, _&&_}
 use mathlib.Core.List.{List, [], _∷_}
 use Prim.Native.Nat.{ℕ, _+_, _*_, _%_}
 use lib.Dec.{eqb, leb}
@@ -29,6 +29,13 @@ abbrev pub allZero : List ℕ → Bool
 allZero [] = true
 allZero (x ∷ xs) = eqb x 0 && allZero xs
 
+-- do the lists hold the same bytes?
+unfoldable pub sameBytes : List ℕ → List ℕ → Bool
+sameBytes [] [] = true
+sameBytes [] (y ∷ ys) = false
+sameBytes (x ∷ xs) [] = false
+sameBytes (x ∷ xs) (y ∷ ys) = eqb x y && sameBytes xs ys
+
 -- question 9: are the five syndromes zero?
 unfoldable pub zeroSyndromes : ℕ → List ℕ → Bool
 zeroSyndromes m w = allZero (syndromesWithout m [] w)
@@ -47,17 +54,17 @@ dataAsked m n symbols next = ask (eqb n (items m)) Length (ask (allBelow (order 
 
 -- ---- encode: questions 1, 2 and 7, the last put to the data
 
--- the questions, put to data and the word that is to hold its codeword
-unfoldable pub encodeAsked : ℕ → List ℕ → List ℕ → Verdict
-encodeAsked m ds word = wordAsked m (length word) (dataAsked m (length ds) ds Passed)
+-- the questions, put to data and the length n of the word that is to hold its codeword
+unfoldable pub encodeAsked : ℕ → List ℕ → ℕ → Verdict
+encodeAsked m ds n = wordAsked m n (dataAsked m (length ds) ds Passed)
 
 -- what the encoder answers
 abbrev pub encodeOf : ℕ → List ℕ → List ℕ → Outcome
-encodeOf m ds word = done (encodeAsked m ds word)
+encodeOf m ds word = done (encodeAsked m ds (length word))
 
 -- the word after the call
 abbrev pub encodeWritten : ℕ → List ℕ → List ℕ → List ℕ
-encodeWritten m ds word = written (encodeAsked m ds word) word (encode m ds)
+encodeWritten m ds word = written (encodeAsked m ds (length word)) word (encode m ds)
 
 -- the call's promise: what encode answers and leaves in the word
 pub record Encodes (m : ℕ) (ds old : List ℕ) (v : Verdict) (new : List ℕ) : Type 0 where
@@ -82,17 +89,17 @@ membership (Refused q) = refused (refusal q)
 
 -- ---- the reader of data: questions 1, 2, 7 and 9
 
--- the questions, put to a word and to the slice that is to hold its data
-unfoldable pub readDataAsked : ℕ → List ℕ → List ℕ → Verdict
-readDataAsked m word ds = wordAsked m (length word) (dataAsked m (length ds) word (ask (zeroSyndromes m word) Syndrome Passed))
+-- the questions, put to a word and the length n of the slice that is to hold its data
+unfoldable pub readDataAsked : ℕ → List ℕ → ℕ → Verdict
+readDataAsked m word n = wordAsked m (length word) (dataAsked m n word (ask (zeroSyndromes m word) Syndrome Passed))
 
 -- what the reader answers
 abbrev pub readDataOf : ℕ → List ℕ → List ℕ → Outcome
-readDataOf m word ds = done (readDataAsked m word ds)
+readDataOf m word ds = done (readDataAsked m word (length ds))
 
 -- the data after the call
 abbrev pub readDataWritten : ℕ → List ℕ → List ℕ → List ℕ
-readDataWritten m word ds = written (readDataAsked m word ds) ds (dataOf word)
+readDataWritten m word ds = written (readDataAsked m word (length ds)) ds (dataOf word)
 
 -- the call's promise: what the reader answers and leaves in the data
 pub record ReadsData (m : ℕ) (word old : List ℕ) (v : Verdict) (new : List ℕ) : Type 0 where

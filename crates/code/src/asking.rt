@@ -74,7 +74,7 @@ pub fn ask_is_codeword(width: u8, word: &[u8]) -> Verdict
 
 // Questions 1, 2, 7 and 9.
 pub fn ask_read_data(width: u8, word: &[u8], message: usize) -> Verdict
-    ensures { λ r. ⌜ ((ds : List ℕ) → message ≡ length ds → r ≡ readDataAsked width (now (word .entry)) ds) ⌝ }
+    ensures { λ r. ⌜ r ≡ readDataAsked width (now (word .entry)) message ⌝ }
 {
     match ask_slices(width, word.len(), message, word) {
         Verdict::Passed => {

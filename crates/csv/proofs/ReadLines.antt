@@ -10,7 +10,7 @@ use lib.ListN.{length, take, drop, set, replicate, take-append-drop}
 use lib.Seq.{drop-set-lt, take-suc-set}
 use Rattle.code.specs.Demands.{occurs}
 use Rattle.sheet.specs.Sheet.{quarters, sheetSize}
-use Rattle.report.specs.Quarter.{sameText}
+use Rattle.code.specs.Call.{sameBytes}
 use Rattle.csv.specs.declared.Fault.{Fault}
 use Rattle.csv.specs.declared.Fault.the-variants.{Columns, Number, Date, Pump, Count}
 use Rattle.csv.specs.declared.Header.the-variants.{Full, Short, Other}
@@ -205,15 +205,15 @@ module _ (full : Bool) (line text : List ℕ) (et : text ≡ trimmed line) (n m 
 
 -- ---- the header
 
-module _ (line text : List ℕ) (et : text ≡ trimmed line) (a : Bool) (ea : a ≡ sameText text (headerWith true)) where
-  same-as : (full : Bool) → sameText text (headerWith full) ≡ sameText (trimmed line) (headerWith full)
-  same-as full = ap (λ (xs : List ℕ). sameText xs (headerWith full)) et
+module _ (line text : List ℕ) (et : text ≡ trimmed line) (a : Bool) (ea : a ≡ sameBytes text (headerWith true)) where
+  same-as : (full : Bool) → sameBytes text (headerWith full) ≡ sameBytes (trimmed line) (headerWith full)
+  same-as full = ap (λ (xs : List ℕ). sameBytes xs (headerWith full)) et
 
   pub header-full : a ≡ true → Full ≡ headerIn line
   unfolding headerIn
-  header-full t = ap (λ (p : Bool). cond p Full (cond (sameText (trimmed line) (headerWith false)) Short Other)) (sym t ∙ ea ∙ same-as true)
+  header-full t = ap (λ (p : Bool). cond p Full (cond (sameBytes (trimmed line) (headerWith false)) Short Other)) (sym t ∙ ea ∙ same-as true)
 
-  module _ (t : a ≡ false) (b : Bool) (eb : b ≡ sameText text (headerWith false)) where
+  module _ (t : a ≡ false) (b : Bool) (eb : b ≡ sameBytes text (headerWith false)) where
     told-header : cond b Short Other ≡ headerIn line
     unfolding headerIn
     told-header =

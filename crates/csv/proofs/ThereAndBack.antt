@@ -12,7 +12,8 @@ use Rattle.card.proofs.Folding.{over-one}
 use Rattle.sheet.specs.Demands.{SheetSymbols}
 use Rattle.report.specs.Day.{dayOf}
 use Rattle.report.specs.Table.{twoDigits}
-use Rattle.report.specs.Quarter.{clockText, sameText}
+use Rattle.code.specs.Call.{sameBytes}
+use Rattle.report.specs.Quarter.{clockText}
 use Rattle.csv.specs.declared.Counts.{Counts}
 use Rattle.csv.specs.declared.Header.{Header}
 use Rattle.csv.specs.declared.Header.the-variants.{Full}
@@ -79,7 +80,7 @@ unfolding occurs headerWith timeColumns clockText twoDigits digitsFrom
 header-lacks = refl
 
 header-full : headerIn (headerWith true) ≡ Full
-unfolding headerIn trimmed sameText headerWith timeColumns clockText twoDigits digitsFrom
+unfolding headerIn trimmed sameBytes headerWith timeColumns clockText twoDigits digitsFrom
 header-full = refl
 
 -- ---- a canonical text is read

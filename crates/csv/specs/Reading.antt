@@ -11,7 +11,7 @@ use Rattle.code.specs.Demands.{occurs}
 use Rattle.sheet.specs.Calendar.{epoch, dateExists}
 use Rattle.sheet.specs.Sheet.{sheetWidth, sheetSize, quarters}
 use Rattle.report.specs.Table.{hyphen}
-use Rattle.report.specs.Quarter.{sameText}
+use Rattle.code.specs.Call.{sameBytes}
 use Rattle.csv.specs.Text.{separator, headerWith}
 use Rattle.csv.specs.declared.Fault.{Fault}
 use Rattle.csv.specs.declared.Fault.the-variants.{Columns, Number, Date, Pump, Count}
@@ -183,4 +183,4 @@ toldBy (wrong f) = record { answer = WrongLine f; symbols = replicate sheetSize 
 
 -- which columns the header names
 unfoldable pub headerIn : List ℕ → Header
-headerIn line = cond (sameText (trimmed line) (headerWith true)) Full (cond (sameText (trimmed line) (headerWith false)) Short Other)
+headerIn line = cond (sameBytes (trimmed line) (headerWith true)) Full (cond (sameBytes (trimmed line) (headerWith false)) Short Other)

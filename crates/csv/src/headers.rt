@@ -3,7 +3,7 @@ ghost use mathlib.Core.Path.{_≡_};
 ghost use Prim.Native.Nat.{_+_, _≤_};
 ghost use lib.ListN.{length};
 ghost use Rattle.card.specs.Placed.{Writes};
-ghost use Rattle.report.specs.Quarter.{sameText};
+ghost use Rattle.code.specs.Call.{sameBytes};
 ghost use Rattle.csv.specs.Text.{headerNames, headerWith, sheetsHeader};
 ghost use Rattle.csv.specs.Reading.{headerIn};
 ghost use Rattle.csv.specs.inner.Room.{headerRoom};
@@ -51,7 +51,7 @@ pub fn put_header(out: &mut [u8], at: usize) -> usize
 
 // Is the text the header with these columns?
 fn is_header(text: &[u8], full: bool) -> bool
-    ensures { λ r. ⌜ r ≡ sameText (now (text .entry)) (headerWith full) ⌝ }
+    ensures { λ r. ⌜ r ≡ sameBytes (now (text .entry)) (headerWith full) ⌝ }
 {
     let mut out = [0u8; HEADER_TEXT];
     let used = put_columns(&mut out, 0, full);

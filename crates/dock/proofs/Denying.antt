@@ -10,10 +10,12 @@ use lib.Dec.{ltb}
 use Rattle.field.specs.Question.{Outcome, accepted, refused, ask, after}
 use Rattle.field.specs.declared.Question.the-variants.{Bay}
 use Rattle.field.specs.declared.Verdict.the-variants.{Passed}
+use Rattle.code.specs.Call.{sameBytes}
+use Rattle.code.proofs.Same.{same-refl, same-equal}
 use Rattle.dock.specs.declared.Rewrites.{Rewrites}
-use Rattle.dock.specs.Dock.{bays, ownOf, anyLeft, Call, answerOf, contentOf, same, allowed, granted, callOf}
+use Rattle.dock.specs.Dock.{bays, ownOf, anyLeft, Call, answerOf, contentOf, allowed, granted, callOf}
 use Rattle.dock.specs.Demands.{Missing, Denied}
-use Rattle.dock.proofs.Serving.{same-refl, same-eq, late-at, passed}
+use Rattle.dock.proofs.Serving.{late-at, passed}
 
 or-no : (a b : Bool) → (a || b) ≡ false → (a ≡ false) × (b ≡ false)
 or-no true b e = absurd (false≢true (sym e))
@@ -32,14 +34,14 @@ module _ (left : Rewrites) (bay : ℕ) where
   unfolding anyLeft
   left-none a b = simp (le-ltb 0 (ownOf left bay) (omega arith), le-ltb 0 (left .common) (omega arith))
 
-differ : (a b : List ℕ) → same a b ≡ false → a ≢ b
-differ a b e d = false≢true (sym e ∙ ap (same a) (sym d) ∙ same-refl a)
+differ : (a b : List ℕ) → sameBytes a b ≡ false → a ≢ b
+differ a b e d = false≢true (sym e ∙ ap (sameBytes a) (sym d) ∙ same-refl a)
 
-not-same : (a b : List ℕ) → a ≢ b → same a b ≡ false
-not-same a b d = go (same a b) refl
+not-same : (a b : List ℕ) → a ≢ b → sameBytes a b ≡ false
+not-same a b d = go (sameBytes a b) refl
   where
-    go : (x : Bool) → same a b ≡ x → same a b ≡ false
-    go true e = absurd (d (same-eq a b e))
+    go : (x : Bool) → sameBytes a b ≡ x → sameBytes a b ≡ false
+    go true e = absurd (d (same-equal a b e))
     go false e = e
 
 -- ---- the answer 19
@@ -62,7 +64,7 @@ module _ (left : Rewrites) (c : Call) where
   missing e =
       let b = bay-denied (ltb (c .bay) bays) (granted (answerOf c) enough) e in
       let g = granted-denied (answerOf c) enough (late-at (c .reach) (c .lent)) (b .1) in
-      let n = or-no (same (c .lent) (contentOf c)) (anyLeft left (c .bay)) (g .1) in
+      let n = or-no (sameBytes (c .lent) (contentOf c)) (anyLeft left (c .bay)) (g .1) in
       let none = none-left left (c .bay) (n .1) in
       record {
         bay = ltb-true (c .bay) bays (b .0);

@@ -8,19 +8,21 @@ use Prim.Native.Nat.{ℕ, zero, suc, _+_, _-_, _<_}
 use native.Mathlib.Omega.{arith}
 use lib.Dec.{eqb}
 use lib.ListN.{length}
+use Rattle.code.specs.Call.{sameBytes}
+use Rattle.code.proofs.Same.{same-refl, same-equal}
 use Rattle.dock.specs.declared.Rewrites.{Rewrites}
-use Rattle.dock.specs.Dock.{bays, ownCharge, charged, ownOf, spent, Call, same, callWritten, callLeft}
+use Rattle.dock.specs.Dock.{bays, ownCharge, charged, ownOf, spent, Call, callWritten, callLeft}
 use Rattle.dock.specs.Run.{leftAfter, history, used, usedBy, allLeft}
 use Rattle.dock.specs.Demands.{Thousand, NotDenied, OneLess, Costs, CallCosts}
 use Rattle.dock.proofs.Spending.{own-left, spent-size, spent-mine, spent-other, spent-all, one-less, not-less}
-use Rattle.dock.proofs.Serving.{same-refl, same-eq, as-without, Cost, free, paid, cost}
+use Rattle.dock.proofs.Serving.{as-without, Cost, free, paid, cost}
 
 -- ---- one call
 
 module _ (left : Rewrites) (c : Call) where
   -- 1 where the record came back different
   abbrev uses : ℕ
-  uses = cond (same (c .lent) (callWritten left c)) 0 1
+  uses = cond (sameBytes (c .lent) (callWritten left c)) 0 1
 
   pub size-on : length (callLeft left c .own) ≡ length (left .own)
   size-on = go (cost left c)
@@ -62,14 +64,14 @@ call-costs left c four = go (cost left c)
 
     go : Cost left c → Costs left c
     go (free s e) =
-        let stays : callWritten left c ≡ c .lent = sym (same-eq (c .lent) (callWritten left c) s) in
+        let stays : callWritten left c ≡ c .lent = sym (same-equal (c .lent) (callWritten left c) s) in
         record {
           changed = (λ d. absurd (d stays), λ O. absurd (not-less left (c .bay) (subst Less e O)));
           unchanged = (λ d. e, λ d. stays);
         }
     go (paid s e h some) =
         let O : Less (callLeft left c) = subst Less (sym e) (one-less left (c .bay) (omega arith) some) in
-        let moves : callWritten left c ≢ c .lent = λ d. false≢true (sym s ∙ ap (same (c .lent)) d ∙ same-refl (c .lent)) in
+        let moves : callWritten left c ≢ c .lent = λ d. false≢true (sym s ∙ ap (sameBytes (c .lent)) d ∙ same-refl (c .lent)) in
         record {
           changed = (λ d. O, λ d. moves);
           unchanged = (λ d. absurd (moves d), λ d. absurd (not-less left (c .bay) (subst Less d O)));

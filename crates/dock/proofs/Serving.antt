@@ -1,21 +1,21 @@
 -- A bay's call: the record that costs a rewrite, and the answers of the functions. Assumes nothing.
-use borrow.Author.Tests.{eq-eqb, eqb-true, lt-ltb, le-ltb, ltb-true}
+use borrow.Author.Tests.{lt-ltb, le-ltb, ltb-true}
 use mathlib.Core.Path.{_≡_, refl, sym, ap, ap₂, _∙_}
 use mathlib.Core.Logic.{_≢_}
 use mathlib.Core.Bool.{Bool, true, false, cond, _||_, or-true}
-use mathlib.Core.List.{List, [], _∷_}
+use mathlib.Core.List.{List}
 use Prim.Native.Nat.{ℕ, _≤_, _<_}
 use native.Mathlib.Omega.{arith}
-use lib.Dec.{eqb, ltb}
+use lib.Dec.{ltb}
 use lib.ListN.{length}
 use Rattle.field.specs.Question.{Outcome, accepted, refused, refusal, ask, after}
 use Rattle.field.specs.declared.Question.{Question}
 use Rattle.field.specs.declared.Question.the-variants.{Length, Bay, Rewrite}
 use Rattle.field.specs.declared.Verdict.the-variants.{Passed, Refused as RefusedBy}
-use Rattle.field.proofs.Ask.{and-true-left, and-true-right}
-use Rattle.code.specs.Call.{repair}
+use Rattle.code.specs.Call.{sameBytes, repair}
 use Rattle.code.specs.declared.Repair.{Repair}
 use Rattle.code.specs.declared.Repair.the-variants.{Restored, Refused}
+use Rattle.code.proofs.Same.{same-refl, same-equal, compared}
 use Rattle.card.specs.Record.{erasureBytes, recordSize, onAccept, RestoresRecordWithin, RestoresRecord}
 use Rattle.card.proofs.Layouts.{length-no}
 use Rattle.card.proofs.Recording.{restores-refused, short-refused}
@@ -27,31 +27,8 @@ use Rattle.dock.specs.declared.Reach.{Reach}
 use Rattle.dock.specs.declared.Reach.the-variants.{Longest, Named}
 use Rattle.dock.specs.Dock.{bays, anyLeft, spent, answerAt, contentAt, Call, callOn, answerOf, contentOf, callOf, callWritten, callLeft, Serves}
 use Rattle.dock.specs.inner.Parts.{RestoresAt, Settles}
-use Rattle.dock.specs.Dock.{same, allowed, remaining, granted, leftOn}
+use Rattle.dock.specs.Dock.{allowed, remaining, granted, leftOn}
 use Rattle.dock.specs.Demands.{AsWithout, RefusedStays, UnlessDenied}
-
--- ---- the same bytes
-
-pub same-refl : (a : List ℕ) → same a a ≡ true
-same-refl [] = refl
-same-refl (x ∷ xs) = simp (eq-eqb x x refl, same-refl xs)
-
-pub same-eq : (a b : List ℕ) → same a b ≡ true → a ≡ b
-same-eq [] [] t = refl
-same-eq [] (y ∷ ys) t = let z : _≡_ {A = ℕ} 0 1 = cc in absurd (omega arith)
-same-eq (x ∷ xs) [] t = let z : _≡_ {A = ℕ} 0 1 = cc in absurd (omega arith)
-same-eq (x ∷ xs) (y ∷ ys) t =
-    ap₂ _∷_ (eqb-true x y (and-true-left (eqb x y) (same xs ys) t)) (same-eq xs ys (and-true-right (eqb x y) (same xs ys) t))
-
--- what a comparison tells that says yes exactly for equal lists
-pub same-told : (a b : List ℕ) (r : Bool) → (r ≡ true → a ≡ b) × (a ≡ b → r ≡ true) → r ≡ same a b
-same-told a b r p = go r (same a b) refl refl
-  where
-    go : (x y : Bool) → x ≡ r → y ≡ same a b → x ≡ y
-    go true true e f = refl
-    go false false e f = refl
-    go true false e f = sym (f ∙ ap (same a) (sym (p .0 (sym e))) ∙ same-refl a)
-    go false true e f = e ∙ p .1 (same-eq a b (sym f))
 
 -- ---- restoring at a reach
 
@@ -88,25 +65,25 @@ late-at (Named k) r e = omega (arith, refusals-within r k 19 e)
 -- ---- a restoring that was accepted
 
 module _ (left : Rewrites) (bay k : ℕ) (old new : List ℕ) (r : Bool) (t : (r ≡ true → old ≡ new) × (old ≡ new → r ≡ true)) where
-  told : r ≡ same old new
-  told = same-told old new r t
+  told : r ≡ sameBytes old new
+  told = compared r old new new refl t
 
   pub settles-same : r ≡ true → Settles left bay k old new (record { answer = Restored k; left = left }) old
   settles-same y =
-      let s : same old new ≡ true = sym told ∙ y in
-      record { answer = simp s; rest = simp s; content = simp s (same-eq old new s) }
+      let s : sameBytes old new ≡ true = sym told ∙ y in
+      record { answer = simp s; rest = simp s; content = simp s (same-equal old new s) }
 
   module _ (n : r ≡ false) (b : Bool) (eb : b ≡ anyLeft left bay) where
     pub settles-spent : b ≡ true → (rest : Rewrites) → rest ≡ spent left bay → (final : List ℕ) → final ≡ new
         → Settles left bay k old new (record { answer = Restored k; left = rest }) final
     settles-spent y rest er final ef =
-        let s : same old new ≡ false = sym told ∙ n in
+        let s : sameBytes old new ≡ false = sym told ∙ n in
         let a : anyLeft left bay ≡ true = sym eb ∙ y in
         record { answer = simp (s, a); rest = simp (s, a) er; content = simp (s, a) ef }
 
     pub settles-denied : b ≡ false → Settles left bay k old new (record { answer = Refused Rewrite; left = left }) old
     settles-denied y =
-        let s : same old new ≡ false = sym told ∙ n in
+        let s : sameBytes old new ≡ false = sym told ∙ n in
         let a : anyLeft left bay ≡ false = sym eb ∙ y in
         record { answer = simp (s, a); rest = simp (s, a); content = simp (s, a) }
 
@@ -206,7 +183,7 @@ as-without left c h some =
     }
   where
     yes : allowed left (c .bay) (c .lent) (contentOf c) ≡ true
-    yes = ap (λ (b : Bool). same (c .lent) (contentOf c) || b) some ∙ or-true (same (c .lent) (contentOf c))
+    yes = ap (λ (b : Bool). sameBytes (c .lent) (contentOf c) || b) some ∙ or-true (sameBytes (c .lent) (contentOf c))
 
     answer : answerOf c ≡ callOf left c
     answer = sym (ap (granted (answerOf c)) yes ∙ granted-yes (answerOf c)) ∙ passed left c h
@@ -215,8 +192,8 @@ as-without left c h some =
 
 -- the record came back the same, and nothing was spent; or another, and one of the bay's rewrites was
 pub data Cost (left : Rewrites) (c : Call) : Type 0 where
-  free : same (c .lent) (callWritten left c) ≡ true → callLeft left c ≡ left → Cost left c
-  paid : same (c .lent) (callWritten left c) ≡ false → callLeft left c ≡ spent left (c .bay) → c .bay < bays
+  free : sameBytes (c .lent) (callWritten left c) ≡ true → callLeft left c ≡ left → Cost left c
+  paid : sameBytes (c .lent) (callWritten left c) ≡ false → callLeft left c ≡ spent left (c .bay) → c .bay < bays
       → anyLeft left (c .bay) ≡ true → Cost left c
 
 accepted-bay : (b : Bool) (o : Outcome) (k : ℕ) → accepted k ≡ after (ask b Bay Passed) o → (b ≡ true) × (accepted k ≡ o)
@@ -234,12 +211,12 @@ module _ (left : Rewrites) (c : Call) (k : ℕ) (e : accepted k ≡ callOf left 
   unfolding callOf
   accepted-means = accepted-bay (ltb (c .bay) bays) (granted (answerOf c) (allowed left (c .bay) (c .lent) (contentOf c))) k e
 
-  accepted-cost : (b : Bool) → b ≡ same (c .lent) (contentOf c) → Cost left c
+  accepted-cost : (b : Bool) → b ≡ sameBytes (c .lent) (contentOf c) → Cost left c
   accepted-cost true s =
-      free (ap (same (c .lent)) (sym (written-by left c (accepted k) e)) ∙ sym s)
+      free (ap (sameBytes (c .lent)) (sym (written-by left c (accepted k) e)) ∙ sym s)
       (sym (left-by left c (accepted k) e) ∙ ap (λ (b : Bool). cond b left (spent left (c .bay))) (sym s))
   accepted-cost false s =
-      paid (ap (same (c .lent)) (sym (written-by left c (accepted k) e)) ∙ sym s)
+      paid (ap (sameBytes (c .lent)) (sym (written-by left c (accepted k) e)) ∙ sym s)
       (sym (left-by left c (accepted k) e) ∙ ap (λ (b : Bool). cond b left (spent left (c .bay))) (sym s))
       (ltb-true (c .bay) bays (accepted-means .0))
       (ap (λ (b : Bool). b || anyLeft left (c .bay)) s ∙ accepted-allowed (answerOf c) _ k (accepted-means .1))
@@ -248,9 +225,9 @@ pub cost : (left : Rewrites) (c : Call) → Cost left c
 cost left c = go (callOf left c) refl
   where
     go : (o : Outcome) → o ≡ callOf left c → Cost left c
-    go (accepted k) e = accepted-cost left c k e (same (c .lent) (contentOf c)) refl
+    go (accepted k) e = accepted-cost left c k e (sameBytes (c .lent) (contentOf c)) refl
     go (refused n) e =
-        free (ap (same (c .lent)) (sym (written-by left c (refused n) e)) ∙ same-refl (c .lent)) (sym (left-by left c (refused n) e))
+        free (ap (sameBytes (c .lent)) (sym (written-by left c (refused n) e)) ∙ same-refl (c .lent)) (sym (left-by left c (refused n) e))
 
 pub refused-stays : RefusedStays
 refused-stays left c n e = (sym (written-by left c (refused n) (sym e)), sym (left-by left c (refused n) (sym e)))

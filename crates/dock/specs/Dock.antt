@@ -1,14 +1,14 @@
 -- One dock, four bays: the rewrites of a charge, and a bay's call. Assumes nothing.
 use mathlib.Core.Path.{_≡_}
-use mathlib.Core.Bool.{Bool, true, false, cond, _&&_, _||_}
-use mathlib.Core.List.{List, [], _∷_}
+use mathlib.Core.Bool.{Bool, cond, _||_}
+use mathlib.Core.List.{List}
 use Prim.Native.Nat.{ℕ, _-_}
-use lib.Dec.{ltb, eqb}
+use lib.Dec.{ltb}
 use lib.ListN.{getD, set, replicate}
 use Rattle.field.specs.Question.{Outcome, accepted, refused, ask, after}
 use Rattle.field.specs.declared.Question.the-variants.{Bay, Rewrite}
 use Rattle.field.specs.declared.Verdict.the-variants.{Passed}
-use Rattle.code.specs.Call.{repair}
+use Rattle.code.specs.Call.{sameBytes, repair}
 use Rattle.card.specs.Record.{recordWithinOf, recordWithinWritten, recordOf, onAccept, recordWritten}
 use Rattle.dock.specs.declared.Reach.{Reach}
 use Rattle.dock.specs.declared.Reach.the-variants.{Longest, Named}
@@ -76,20 +76,13 @@ answerOf c = answerAt (c .reach) (c .lent)
 abbrev pub contentOf : Call → List ℕ
 contentOf c = contentAt (c .reach) (c .lent)
 
--- do the lists hold the same bytes?
-abbrev pub same : List ℕ → List ℕ → Bool
-same [] [] = true
-same [] (y ∷ ys) = false
-same (x ∷ xs) [] = false
-same (x ∷ xs) (y ∷ ys) = eqb x y && same xs ys
-
 -- where the record `old` becomes `new`: is no rewrite needed, or one left to the bay?
 abbrev pub allowed : Rewrites → ℕ → List ℕ → List ℕ → Bool
-allowed left bay old new = same old new || anyLeft left bay
+allowed left bay old new = sameBytes old new || anyLeft left bay
 
 -- and what is left then: a byte that changes costs one rewrite
 abbrev pub remaining : Rewrites → ℕ → List ℕ → List ℕ → Rewrites
-remaining left bay old new = cond (same old new) left (spent left bay)
+remaining left bay old new = cond (sameBytes old new) left (spent left bay)
 
 -- a rewrite is asked for last, and only where restoring is accepted
 abbrev pub granted : Outcome → Bool → Outcome

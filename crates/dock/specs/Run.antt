@@ -3,8 +3,9 @@ use mathlib.Core.Bool.{cond}
 use mathlib.Core.List.{List, [], _∷_}
 use Prim.Native.Nat.{ℕ, _+_}
 use lib.Dec.{eqb}
+use Rattle.code.specs.Call.{sameBytes}
 use Rattle.dock.specs.declared.Rewrites.{Rewrites}
-use Rattle.dock.specs.Dock.{Call, same, callWritten, callLeft}
+use Rattle.dock.specs.Dock.{Call, callWritten, callLeft}
 
 -- what is left after the calls, each handed what the charge or the call before gave back
 unfoldable pub leftAfter : Rewrites → List Call → Rewrites
@@ -25,12 +26,12 @@ history left (c ∷ cs) = record { bay = c .bay; lent = c .lent; back = callWrit
 -- the rewrites used: the entries whose record came back different
 unfoldable pub used : List Entry → ℕ
 used [] = 0
-used (e ∷ es) = cond (same (e .lent) (e .back)) 0 1 + used es
+used (e ∷ es) = cond (sameBytes (e .lent) (e .back)) 0 1 + used es
 
 -- and those of a bay
 unfoldable pub usedBy : ℕ → List Entry → ℕ
 usedBy bay [] = 0
-usedBy bay (e ∷ es) = cond (eqb (e .bay) bay) (cond (same (e .lent) (e .back)) 0 1) 0 + usedBy bay es
+usedBy bay (e ∷ es) = cond (eqb (e .bay) bay) (cond (sameBytes (e .lent) (e .back)) 0 1) 0 + usedBy bay es
 
 -- the sum of the list
 abbrev pub ownSum : List ℕ → ℕ

@@ -194,9 +194,9 @@ packing-undone = record {
   power = λ m a e. undone (powerOf m a e) (small-after (operands m (a ∷ [])) _ (small-accepted (powerM m a e)));
   inverse = λ m a. undone (inverseOf m a)
       (small-after (operands m (a ∷ [])) _ (small-after (ask (not (eqb a 0)) Nonzero Passed) _ (small-accepted (inverseM m a))));
-  encode = λ m ds out. undone (encodeOf m ds out) (small-done (encodeAsked m ds out));
+  encode = λ m ds out. undone (encodeOf m ds out) (small-done (encodeAsked m ds (length out)));
   is-codeword = λ m w. undone (isCodewordOf m w) (small-after (isCodewordAsked m w) _ (small-accepted (cond (zeroSyndromes m w) 1 0)));
-  read-data = λ m w out. undone (readDataOf m w out) (small-done (readDataAsked m w out));
+  read-data = λ m w out. undone (readDataOf m w out) (small-done (readDataAsked m w (length out)));
   syndromes = λ m w es. undone (syndromesOf m w es) (small-done (restoreAsked m w es));
   restore-word = λ m w es. undone (restoreOf m w es) (small-within m w es (radius m (length es)));
   restore-word-within = λ m w es reach. undone (withinOf m w es reach) (small-within m w es reach);

@@ -81,8 +81,3 @@ pub powers-from : (e i : ℕ) → e < 127
     (power 7 α (0 * i + e) ∷ power 7 α (1 * i + e) ∷ power 7 α (2 * i + e) ∷ power 7 α (3 * i + e) ∷ power 7 α (4 * i + e) ∷ [])
 powers-from e i h =
     simp (zero-mul, one-mul, zero-add, powers-at e (omega arith), powers-mod (i + e), powers-mod (2 * i + e), powers-mod (3 * i + e), powers-mod (4 * i + e))
-
--- the example of document 01: the powers 0 to 6 of α at width 3
-pub powers3 : orbit 3 1 7 ≡ 1 ∷ 2 ∷ 4 ∷ 3 ∷ 6 ∷ 7 ∷ 5 ∷ []
-unfolding arithmetic
-powers3 = refl

@@ -13,7 +13,7 @@ use lib.ListN.{length, take, length-append}
 use lib.Seq.{length-take-le, take-append-le}
 use Rattle.field.specs.declared.Verdict.{Verdict}
 use Rattle.field.specs.declared.Verdict.the-variants.{Passed, Refused}
-use Rattle.code.specs.Call.{done}
+use Rattle.code.specs.Call.{sameBytes, done}
 use Rattle.card.specs.declared.parts.Findings.{Findings}
 use Rattle.card.specs.Record.{sizeOf, erasureBytes}
 use Rattle.card.specs.Slots.{slotCount, overFirst}
@@ -27,7 +27,6 @@ use Rattle.programs.specs.declared.input.Input.{Input}
 use Rattle.programs.specs.declared.output.Output.{Output}
 use Rattle.programs.specs.declared.cardconvert.Inquiry.{Inquiry}
 use Rattle.programs.specs.declared.cardconvert.Copying.{Copying}
-use Rattle.report.specs.Quarter.{sameText}
 use Rattle.programs.specs.Arguments.{editionOf}
 use Rattle.programs.specs.Stream.{hasEnded, Reads, Wrote}
 use Rattle.programs.specs.Convert.{otherEdition, AsksCard, Converted, CopiesCard}
@@ -284,7 +283,7 @@ copies-not k slots c e =
 
 pub edition-named : (text : List ℕ) (r : ℕ) → r ≡ editionOf text → (r ≡ 0) ⊎ ((oldErasureBytes ≤ r) × (r ≤ erasureBytes))
 unfolding editionOf
-edition-named text r e = chosen (sameText text (bytesOf "to-new")) (sameText text (bytesOf "to-old")) r e
+edition-named text r e = chosen (sameBytes text (bytesOf "to-new")) (sameBytes text (bytesOf "to-old")) r e
   where
     chosen : (a b : Bool) (r : ℕ) → r ≡ cond a oldErasureBytes (cond b erasureBytes 0) → (r ≡ 0) ⊎ ((oldErasureBytes ≤ r) × (r ≤ erasureBytes))
     chosen true b r e = inr (omega arith)

@@ -9,7 +9,7 @@ use borrow.Author.Tests.{eq-eqb, ne-eqb}
 use lib.ListN.{length, getD, drop, drop-of-length-le}
 use lib.Seq.{drop-cons, take-all}
 use Rattle.card.specs.Listing.{bytesOf}
-use Rattle.report.specs.Quarter.{sameText}
+use Rattle.code.specs.Call.{sameBytes}
 use Rattle.report.specs.Window.{isWindow}
 use Rattle.report.specs.declared.quarter.Time.{Time}
 use Rattle.report.specs.declared.quarter.Time.the-variants.{At}
@@ -40,12 +40,12 @@ plain-other (x ∷ []) h e = refl
 plain-other (x ∷ y ∷ text) h e = equal-no x 45 unknown operand operand e refl
 
 -- standard input by a hyphen; the name of a device
-pub standard-named : (place : ℕ) (text : List ℕ) (r : Bool) → (place ≡ 0 → ⊥) → r ≡ sameText text (bytesOf "-") → r ≡ isStandard place text
+pub standard-named : (place : ℕ) (text : List ℕ) (r : Bool) → (place ≡ 0 → ⊥) → r ≡ sameBytes text (bytesOf "-") → r ≡ isStandard place text
 standard-named zero text r h e = absurd (h refl)
 standard-named (suc place) text r h e = e
 
-pub device-short : (path : List ℕ) (r : Bool) → length path < 5 → r ≡ sameText path (bytesOf "/dev/") → r ≡ isDevice path
-device-short path r h e = e ∙ sym (ap (λ (l : List ℕ). sameText l (bytesOf "/dev/")) (take-all 5 path (omega arith)))
+pub device-short : (path : List ℕ) (r : Bool) → length path < 5 → r ≡ sameBytes path (bytesOf "/dev/") → r ≡ isDevice path
+device-short path r h e = e ∙ sym (ap (λ (l : List ℕ). sameBytes l (bytesOf "/dev/")) (take-all 5 path (omega arith)))
 
 -- ---- places
 

@@ -7,7 +7,7 @@ use Prim.Native.Nat.{ℕ, zero, suc, _+_, _-_}
 use lib.Dec.{eqb, ltb}
 use lib.ListN.{length, getD, take}
 use Rattle.card.specs.Listing.{bytesOf}
-use Rattle.report.specs.Quarter.{sameText}
+use Rattle.code.specs.Call.{sameBytes}
 use Rattle.report.specs.Window.{isWindow}
 use Rattle.report.specs.declared.quarter.Time.{Time}
 use Rattle.report.specs.declared.quarter.Time.the-variants.{At, Bad}
@@ -56,10 +56,10 @@ plainRole (c ∷ d ∷ text) = cond (eqb c 45) unknown operand
 -- the role of a text that is no option's value
 unfoldable pub ownRole : List ℕ → ℕ
 ownRole text =
-    cond (sameText text (bytesOf "-o")) outOption
-    (cond (sameText text (bytesOf "--reach")) reachOption
-    (cond (sameText text (bytesOf "--help")) helpOption
-    (cond (sameText text (bytesOf "--version")) versionOption (plainRole text))))
+    cond (sameBytes text (bytesOf "-o")) outOption
+    (cond (sameBytes text (bytesOf "--reach")) reachOption
+    (cond (sameBytes text (bytesOf "--help")) helpOption
+    (cond (sameBytes text (bytesOf "--version")) versionOption (plainRole text))))
 
 -- the role of a text behind an argument of the role `before`
 unfoldable pub roleOf : ℕ → List ℕ → ℕ
@@ -138,12 +138,12 @@ Explained Missing s = s ≡ NotDone
 
 -- the card to convert has records of so many erasure bytes; 0 where the text names no conversion
 unfoldable pub editionOf : List ℕ → ℕ
-editionOf text = cond (sameText text (bytesOf "to-new")) oldErasureBytes (cond (sameText text (bytesOf "to-old")) erasureBytes 0)
+editionOf text = cond (sameBytes text (bytesOf "to-new")) oldErasureBytes (cond (sameBytes text (bytesOf "to-old")) erasureBytes 0)
 
 -- the longest reach; 3 where the text names none
 unfoldable pub reachIn : List ℕ → ℕ
 reachIn text =
-    cond (sameText text (bytesOf "0")) 0 (cond (sameText text (bytesOf "1")) 1 (cond (sameText text (bytesOf "2")) 2 3))
+    cond (sameBytes text (bytesOf "0")) 0 (cond (sameBytes text (bytesOf "1")) 1 (cond (sameBytes text (bytesOf "2")) 2 3))
 
 -- the window between two times, or what is wrong with them
 abbrev pub chosenEnd : ℕ → Time → Chosen
@@ -157,8 +157,8 @@ windowChosen (At a) t = chosenEnd a t
 -- is the file standard input? So it is where it is not named, or by a hyphen
 abbrev pub isStandard : ℕ → List ℕ → Bool
 isStandard zero text = true
-isStandard (suc i) text = sameText text (bytesOf "-")
+isStandard (suc i) text = sameBytes text (bytesOf "-")
 
 -- does the name stand for a device? No new file takes its place
 abbrev pub isDevice : List ℕ → Bool
-isDevice path = sameText (take 5 path) (bytesOf "/dev/")
+isDevice path = sameBytes (take 5 path) (bytesOf "/dev/")

@@ -2,7 +2,7 @@
 ghost use mathlib.Core.Path.{_≡_};
 ghost use Prim.Native.Nat.{_+_, _-_, _≤_};
 ghost use lib.ListN.{length};
-ghost use Rattle.report.specs.Quarter.{sameText};
+ghost use Rattle.code.specs.Call.{sameBytes};
 ghost use Rattle.programs.specs.Arguments.{ownRole, roleOf, argumentAt, firstPlace, untaken, dangling, wrongPlace, tooFew, askedOf};
 ghost use Rattle.programs.specs.Arguments.{editionOf, reachIn, windowChosen, isStandard, isDevice};
 use crate::files::front;
@@ -56,7 +56,7 @@ const UNKNOWN: u8 = 8;
 
 // Is the text this word?
 pub fn is_text(text: &[u8], word: &[u8]) -> bool
-    ensures { λ r. ⌜ r ≡ sameText (now (text .entry)) (now (word .entry)) ⌝ }
+    ensures { λ r. ⌜ r ≡ sameBytes (now (text .entry)) (now (word .entry)) ⌝ }
 {
     same(text, word)
 }

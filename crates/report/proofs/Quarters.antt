@@ -1,21 +1,23 @@
 -- The texts of a quarter hour, and the search for it. Assumes nothing.
-use mathlib.Core.Path.{_≡_, refl, sym, ap, ap₂, _∙_, subst}
+use mathlib.Core.Path.{_≡_, refl, sym, ap, _∙_, subst}
 use mathlib.Core.Logic.{_⊎_, inl, inr, ⊎-elim}
 use mathlib.Core.Bool.{Bool, true, false, cond, _&&_, _||_}
-use mathlib.Core.List.{List, [], _∷_}
+use mathlib.Core.List.{List}
 use Prim.Native.Nat.{ℕ, zero, suc, _+_, _-_, _≤_, _<_}
 use native.Mathlib.Numerals.{unary-clauses}
 use native.Mathlib.Omega.{arith}
-use borrow.Author.Tests.{eq-eqb, eqb-true, eqb-false}
+use borrow.Author.Tests.{eqb-true, eqb-false}
 use lib.Dec.{eqb}
 use lib.ListN.{length, take, drop}
 use lib.Seq.{take-at}
 use Rattle.field.proofs.Ask.{and-true-left, and-true-right}
+use Rattle.code.specs.Call.{sameBytes}
+use Rattle.code.proofs.Same.{same-equal}
 use Rattle.card.specs.Listing.{digitsFrom, decimal}
 use Rattle.card.specs.Placed.{placed, Writes}
 use Rattle.sheet.specs.Sheet.{quarters}
 use Rattle.report.specs.Table.{twoDigits}
-use Rattle.report.specs.Quarter.{clockText, sameText, isQuarter, quarterBelow, quarterOf}
+use Rattle.report.specs.Quarter.{clockText, isQuarter, quarterBelow, quarterOf}
 use Rattle.report.specs.declared.quarter.Time.{Time}
 use Rattle.report.specs.declared.quarter.Time.the-variants.{At, Bad}
 
@@ -26,39 +28,16 @@ pub text-taken : {a b xs : List ℕ} {j : ℕ} → Writes a 0 xs b j → take j 
 unfolding placed
 text-taken {a} {b} {xs} {j} w = ap (take j) (w .content) ∙ take-at xs (drop (0 + length xs) a) j (omega (arith, w .behind))
 
-same-refl : (xs : List ℕ) → sameText xs xs ≡ true
-unfolding sameText
-same-refl [] = refl
-same-refl (x ∷ xs) = rw (eq-eqb x x refl, same-refl xs)
-
-same-equal : (xs ys : List ℕ) → sameText xs ys ≡ true → xs ≡ ys
-unfolding sameText
-same-equal [] [] e = refl
-same-equal [] (y ∷ ys) e = let z : _≡_ {A = ℕ} 0 1 = cc in absurd (omega arith)
-same-equal (x ∷ xs) [] e = let z : _≡_ {A = ℕ} 0 1 = cc in absurd (omega arith)
-same-equal (x ∷ xs) (y ∷ ys) e =
-    ap₂ _∷_ (eqb-true x y (and-true-left (eqb x y) (sameText xs ys) e)) (same-equal xs ys (and-true-right (eqb x y) (sameText xs ys) e))
-
--- a comparison with the text that was written
-pub compared : (r : Bool) (a b xs : List ℕ) → b ≡ xs → (r ≡ true → a ≡ b) × (a ≡ b → r ≡ true) → r ≡ sameText a xs
-compared r a b xs e h = go r (sameText a b) (h .0) (h .1) refl ∙ ap (sameText a) e
-  where
-    go : (r s : Bool) → (r ≡ true → a ≡ b) → (a ≡ b → r ≡ true) → sameText a b ≡ s → r ≡ s
-    go true true f g t = refl
-    go true false f g t = sym (same-refl a) ∙ ap (sameText a) (f refl) ∙ t
-    go false true f g t = g (same-equal a b t)
-    go false false f g t = refl
-
 -- ---- the search
 
 module _ (text : List ℕ) where
-  pub by-number : (n : ℕ) (b : Bool) → b ≡ sameText text (decimal n) → b ≡ true → true ≡ isQuarter text n
+  pub by-number : (n : ℕ) (b : Bool) → b ≡ sameBytes text (decimal n) → b ≡ true → true ≡ isQuarter text n
   unfolding isQuarter
-  by-number n b e t = sym (ap (λ (x : Bool). x || sameText text (clockText n)) (sym e ∙ t))
+  by-number n b e t = sym (ap (λ (x : Bool). x || sameBytes text (clockText n)) (sym e ∙ t))
 
-  pub by-clock : (n : ℕ) (b c : Bool) → b ≡ sameText text (decimal n) → b ≡ false → c ≡ sameText text (clockText n) → c ≡ isQuarter text n
+  pub by-clock : (n : ℕ) (b c : Bool) → b ≡ sameBytes text (decimal n) → b ≡ false → c ≡ sameBytes text (clockText n) → c ≡ isQuarter text n
   unfolding isQuarter
-  by-clock n b c e t f = f ∙ sym (ap (λ (x : Bool). x || sameText text (clockText n)) (sym e ∙ t))
+  by-clock n b c e t f = f ∙ sym (ap (λ (x : Bool). x || sameBytes text (clockText n)) (sym e ∙ t))
 
   -- one turn of it, from n on
   below : (n : ℕ) → 0 < n → quarterBelow text n ≡ cond (isQuarter text (n - 1)) (At (n - 1)) (quarterBelow text (n - 1))
@@ -99,7 +78,7 @@ found-text text (suc k) n e = go (isQuarter text k) (found-text text k n) refl e
           omega arith,
           subst (λ (m : ℕ). (text ≡ decimal m) ⊎ (text ≡ clockText m)) same
               (⊎-elim (λ u. inl (same-equal text (decimal k) u)) (λ u. inr (same-equal text (clockText k) u))
-              (or-true (sameText text (decimal k)) (sameText text (clockText k)) t)),
+              (or-true (sameBytes text (decimal k)) (sameBytes text (clockText k)) t)),
         )
     go false lower t f = let G = lower f in (omega (arith, G .0), G .1)
 
@@ -121,7 +100,7 @@ foundBelow zero = true
 foundBelow (suc n) = isAt n (quarterOf (decimal n)) && (isAt n (quarterOf (clockText n)) && foundBelow n)
 
 all-found : foundBelow (quarters + 1) ≡ true
-unfolding foundBelow isAt quarterBelow isQuarter sameText clockText twoDigits digitsFrom
+unfolding foundBelow isAt quarterBelow isQuarter sameBytes clockText twoDigits digitsFrom
 all-found = refl
 
 each-found : (k n : ℕ) → foundBelow k ≡ true → n < k → (quarterOf (decimal n) ≡ At n) × (quarterOf (clockText n) ≡ At n)

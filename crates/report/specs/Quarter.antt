@@ -1,8 +1,8 @@
 -- A quarter hour of the day as people write it. Assumes nothing.
-use mathlib.Core.Bool.{Bool, true, false, cond, _&&_, _||_}
-use mathlib.Core.List.{List, [], _∷_, _++_}
+use mathlib.Core.Bool.{Bool, cond, _||_}
+use mathlib.Core.List.{List, _∷_, _++_}
 use Prim.Native.Nat.{ℕ, zero, suc, _+_, _*_, _/_, _%_}
-use lib.Dec.{eqb}
+use Rattle.code.specs.Call.{sameBytes}
 use Rattle.card.specs.Listing.{decimal}
 use Rattle.sheet.specs.Sheet.{quarters}
 use Rattle.report.specs.Table.{twoDigits}
@@ -16,15 +16,9 @@ colon = 58
 unfoldable pub clockText : ℕ → List ℕ
 clockText n = twoDigits (n / 4) ++ (colon ∷ twoDigits (n % 4 * 15))
 
-unfoldable pub sameText : List ℕ → List ℕ → Bool
-sameText [] [] = true
-sameText [] (y ∷ ys) = false
-sameText (x ∷ xs) [] = false
-sameText (x ∷ xs) (y ∷ ys) = eqb x y && sameText xs ys
-
 -- the two texts of quarter hour n: its number, and its time
 unfoldable pub isQuarter : List ℕ → ℕ → Bool
-isQuarter text n = sameText text (decimal n) || sameText text (clockText n)
+isQuarter text n = sameBytes text (decimal n) || sameBytes text (clockText n)
 
 -- the quarter hour below n that the text stands for
 unfoldable pub quarterBelow : List ℕ → ℕ → Time

@@ -4,7 +4,8 @@ ghost use Prim.Native.Nat.{_+_, _≤_, _<_};
 ghost use lib.ListN.{length};
 ghost use Rattle.card.specs.Listing.{decimal};
 ghost use Rattle.card.specs.Placed.{Writes};
-ghost use Rattle.report.specs.Quarter.{clockText, sameText, isQuarter, quarterOf};
+ghost use Rattle.code.specs.Call.{sameBytes};
+ghost use Rattle.report.specs.Quarter.{clockText, isQuarter, quarterOf};
 ghost use Rattle.report.specs.inner.Room.{longestClock};
 use crate::table::put_two;
 use card::text::put_bytes;
@@ -29,7 +30,7 @@ fn put_clock(out: &mut [u8], at: usize, n: u64) -> usize
 
 // Is the text the number n?
 fn is_number(text: &[u8], n: u64) -> bool
-    ensures { λ r. ⌜ r ≡ sameText (now (text .entry)) (decimal n) ⌝ }
+    ensures { λ r. ⌜ r ≡ sameBytes (now (text .entry)) (decimal n) ⌝ }
 {
     let mut out = [0u8; 20];
     let used = put_decimal(&mut out, 0, n);
@@ -38,7 +39,7 @@ fn is_number(text: &[u8], n: u64) -> bool
 
 // Is the text the time at which quarter hour n begins?
 fn is_clock(text: &[u8], n: u64) -> bool
-    ensures { λ r. ⌜ r ≡ sameText (now (text .entry)) (clockText n) ⌝ }
+    ensures { λ r. ⌜ r ≡ sameBytes (now (text .entry)) (clockText n) ⌝ }
 {
     let mut out = [0u8; 41];
     let used = put_clock(&mut out, 0, n);

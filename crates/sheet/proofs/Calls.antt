@@ -41,7 +41,7 @@ module _ (m : ℕ) (ss old : List ℕ) (v : Verdict) (e : v ≡ writeSheetAsked 
         E′ : Encodes sheetWidth (sheetData ss) old u new
         E′ = subst₂ (λ (n : ℕ) (ds : List ℕ). Encodes n ds old u new) (W .width) d E
 
-        passes : encodeAsked sheetWidth (sheetData ss) old ≡ Passed
+        passes : encodeAsked sheetWidth (sheetData ss) (length old) ≡ Passed
         passes = encode-passes sheetWidth refl (sheetData ss) old (sheet-data ss (W .symbols)) (W .word-size)
 
   pub writes-refused : (q : Question) → v ≡ Refused q → WritesSheet m ss old (Refused q) old

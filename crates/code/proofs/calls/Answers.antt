@@ -181,21 +181,17 @@ module _ (m : ℕ) (w : List ℕ) (v : Verdict) (e : v ≡ isCodewordAsked m w) 
 
 -- ---- the reader of data
 
-module _ (m d : ℕ) (w ds : List ℕ) (v : Verdict) (e : v ≡ wordAsked m (length w) (dataAsked m d w Passed)) (s : d ≡ length ds) where
-  read-chain : (next : Verdict) → wordAsked m (length w) (dataAsked m d w next) ≡ wordAsked m (length w) (dataAsked m (length ds) w next)
-  read-chain next = ap (λ (n : ℕ). wordAsked m (length w) (dataAsked m n w next)) s
-
+module _ (m d : ℕ) (w : List ℕ) (v : Verdict) (e : v ≡ wordAsked m (length w) (dataAsked m d w Passed)) where
   -- the answer b to the question about the syndromes is c
-  pub read-answer : v ≡ Passed → (b c : Bool) → b ≡ zeroSyndromes m w → b ≡ c → ask c Syndrome Passed ≡ readDataAsked m w ds
+  pub read-answer : v ≡ Passed → (b c : Bool) → b ≡ zeroSyndromes m w → b ≡ c → ask c Syndrome Passed ≡ readDataAsked m w d
   unfolding readDataAsked
-  read-answer p b c f t =
-      slices-next m (length w) d w v e p (ask c Syndrome Passed) _ (ap (λ (x : Bool). ask x Syndrome Passed) (sym t ∙ f)) ∙ read-chain _
+  read-answer p b c f t = slices-next m (length w) d w v e p (ask c Syndrome Passed) _ (ap (λ (x : Bool). ask x Syndrome Passed) (sym t ∙ f))
 
-  pub read-stop : (q : Question) → v ≡ Refused q → Refused q ≡ readDataAsked m w ds
+  pub read-stop : (q : Question) → v ≡ Refused q → Refused q ≡ readDataAsked m w d
   unfolding readDataAsked
-  read-stop q p = slices-stop m (length w) d w v e q p _ ∙ read-chain _
+  read-stop q p = slices-stop m (length w) d w v e q p _
 
-module _ (m : ℕ) (w old : List ℕ) (v : Verdict) (e : v ≡ readDataAsked m w old) where
+module _ (m : ℕ) (w old : List ℕ) (v : Verdict) (e : v ≡ readDataAsked m w (length old)) where
   pub reads : (new : List ℕ) (u : Verdict) → v ≡ u → new ≡ written u old (dataOf w) → ReadsData m w old u new
   reads new u p h =
       let f = sym p ∙ e in

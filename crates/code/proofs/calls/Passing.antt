@@ -47,7 +47,7 @@ module _ (m : ℕ) (w : List ℕ) where
   zero-syndromes = zero-five (syndrome m (at w))
 
 -- data passes the encoder's questions
-pub encode-passes : (m : ℕ) → isWidth m ≡ true → (ds out : List ℕ) → Data m ds → length out ≡ places m → encodeAsked m ds out ≡ Passed
+pub encode-passes : (m : ℕ) → isWidth m ≡ true → (ds out : List ℕ) → Data m ds → length out ≡ places m → encodeAsked m ds (length out) ≡ Passed
 unfolding encodeAsked
 encode-passes m h ds out D e = rw (
   h,
@@ -57,7 +57,7 @@ encode-passes m h ds out D e = rw (
 )
 
 -- a codeword passes the reader's questions
-pub read-passes : (m : ℕ) → isWidth m ≡ true → (w out : List ℕ) → Codeword m w → length out ≡ items m → readDataAsked m w out ≡ Passed
+pub read-passes : (m : ℕ) → isWidth m ≡ true → (w out : List ℕ) → Codeword m w → length out ≡ items m → readDataAsked m w (length out) ≡ Passed
 unfolding readDataAsked
 read-passes m h w out C e = rw (
   h,

@@ -18,7 +18,7 @@ lengths : (s : tie.After-enum-told) → length (start s .args .word .now) ≡ ch
 lengths s =
     let v = s .before .before .ask-read-data in
     let a = start s .args in
-    reads-lengths (a .width) (a .word .now) (a .message .now) (v .result) (v .ensures (a .message .now) refl) (search needs)
+    reads-lengths (a .width) (a .word .now) (a .message .now) (v .result) (v .ensures) (search needs)
 
 ask-read-data-requires : tie.Need-ask-read-data-requires
 ask-read-data-requires c κs = search needs
@@ -50,14 +50,14 @@ returns : tie.Need-returns
 returns c =
     let v = c .before .before .before .before .before .before .before .ask-read-data in
     let a = c .before .before .before .before .before .before .before .before .before .before .args in
-    reads (a .width) (a .word .now) (a .message .now) (v .result) (v .ensures (a .message .now) refl) _ _ (search needs)
+    reads (a .width) (a .word .now) (a .message .now) (v .result) (v .ensures) _ _ (search needs)
     (c .before .before .copy .ensures ∙ part-drop checks (a .word .now))
 
 returns-2 : tie.Need-returns-2
 returns-2 c =
     let v = c .before .before .before .ask-read-data in
     let a = c .before .before .before .before .before .before .args in
-    reads (a .width) (a .word .now) (a .message .now) (v .result) (v .ensures (a .message .now) refl) _ _ (search needs) refl
+    reads (a .width) (a .word .now) (a .message .now) (v .result) (v .ensures) _ _ (search needs) refl
 
 pub read-data-spec : {M : Type 1} → statement M
 read-data-spec =

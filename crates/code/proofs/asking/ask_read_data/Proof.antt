@@ -2,9 +2,6 @@
 use borrow.Author.Needs.{needs}
 use mathlib.Core.Path.{_≡_}
 use mathlib.Core.Bool.{Bool, true, false}
-use mathlib.Core.List.{List}
-use Prim.Native.Nat.{ℕ}
-use lib.ListN.{length}
 use Rattle.field.specs.Question.{ask}
 use Rattle.field.specs.declared.Question.the-variants.{Syndrome}
 use Rattle.field.specs.declared.Verdict.the-variants.{Passed}
@@ -32,14 +29,14 @@ enum-known-q : tie.Need-enum-known-q
 enum-known-q c = search needs
 
 -- question 9 is answered c
-answer : (s : tie.After-zero-syndromes) (c : Bool) → s .zero-syndromes .result ≡ c → (ds : List ℕ) → start s .args .message ≡ length ds
-    → ask c Syndrome Passed ≡ readDataAsked (start s .args .width) (start s .args .word .now) ds
-answer s c t ds e =
+answer : (s : tie.After-zero-syndromes) (c : Bool) → s .zero-syndromes .result ≡ c
+    → ask c Syndrome Passed ≡ readDataAsked (start s .args .width) (start s .args .word .now) (start s .args .message)
+answer s c t =
     let v = s .before .before .before .ask-slices in
     let m = start s .args .width in
     let w = start s .args .word .now in
     let p : v .result ≡ Passed = search needs in
-    read-answer m _ w ds (v .result) (v .ensures) e p (s .zero-syndromes .result) c
+    read-answer m _ w (v .result) (v .ensures) p (s .zero-syndromes .result) c
     (s .zero-syndromes .ensures (slices-width m _ _ w (v .result) (v .ensures) p) (slices-word m _ _ w (v .result) (v .ensures) p)
     (slices-symbols m _ _ w (v .result) (v .ensures) p)) t
 
@@ -50,10 +47,10 @@ returns-2 : tie.Need-returns-2
 returns-2 c = answer (c .before) false (c .if1 .left)
 
 returns-3 : tie.Need-returns-3
-returns-3 c = λ ds s.
-    (let v = c .before .before .before .ask-slices in
+returns-3 c =
+    let v = c .before .before .before .ask-slices in
     let a = c .before .before .before .before .before .args in
-    read-stop (a .width) _ (a .word .now) ds (v .result) (v .ensures) s _ (search needs))
+    read-stop (a .width) _ (a .word .now) (v .result) (v .ensures) _ (search needs)
 
 pub ask-read-data-spec : {M : Type 1} → statement M
 ask-read-data-spec =

@@ -3,7 +3,8 @@ use borrow.Author.Needs.{needs}
 use mathlib.Core.Path.{sym}
 use lib.Seq.{length-take-le}
 use Rattle.card.proofs.Writing.{writes-fits}
-use Rattle.report.proofs.Quarters.{text-taken, compared}
+use Rattle.code.proofs.Same.{compared}
+use Rattle.report.proofs.Quarters.{text-taken}
 use Rattle.csv.proofs.headers.is_header.Statement.{statement}
 use Rattle.csv.proofs.headers.is_header.Tie as tie
 

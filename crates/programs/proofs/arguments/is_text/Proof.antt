@@ -1,7 +1,7 @@
 -- `programs::arguments::is_text` meets its contract. Assumes nothing.
 use borrow.Author.Needs.{needs}
 use mathlib.Core.Path.{refl}
-use Rattle.report.proofs.Quarters.{compared}
+use Rattle.code.proofs.Same.{compared}
 use Rattle.programs.proofs.arguments.is_text.Statement.{statement}
 use Rattle.programs.proofs.arguments.is_text.Tie as tie
 

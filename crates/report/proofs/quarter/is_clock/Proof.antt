@@ -3,7 +3,8 @@ use borrow.Author.Needs.{needs}
 use mathlib.Core.Path.{sym}
 use lib.Seq.{length-take-le}
 use Rattle.card.proofs.Writing.{writes-fits}
-use Rattle.report.proofs.Quarters.{text-taken, compared}
+use Rattle.code.proofs.Same.{compared}
+use Rattle.report.proofs.Quarters.{text-taken}
 use Rattle.report.proofs.quarter.is_clock.Statement.{statement}
 use Rattle.report.proofs.quarter.is_clock.Tie as tie
 
