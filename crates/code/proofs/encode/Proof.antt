@@ -5,23 +5,11 @@ use Rattle.code.proofs.calls.Answers.{slices-width, slices-data, slices
 use Rattle.code.proofs.encode.Statement.{statement}
 use Rattle.code.proofs.encode.Tie as tie
 
-ask-slices-requires : tie.Need-ask-slices-requires
-ask-slices-requires c κs = search needs
-
-enum-told : tie.Need-enum-told
-enum-told c = search needs
-
 write-codeword-requires : tie.Need-write-codeword-requires
 write-codeword-requires c κs =
     let v = c .before .before .before .ask-slices in
     let a = c .before .before .before .before .before .before .args in
     slices-lengths (a .width) _ _ (a .message .now) (v .result) (v .ensures) (search needs)
-
-enum-known-q : tie.Need-enum-known-q
-enum-known-q c = search needs
-
-same-length : tie.Need-same-length
-same-length c = search needs
 
 returns : tie.Need-returns
 returns c =
@@ -40,13 +28,5 @@ returns-2 c =
     encodes (a .width) (a .message .now) (a .word .now) _ (v .result) (v .ensures) _ (search needs) refl
 
 pub encode-spec : {M : Type 1} → statement M
-encode-spec =
-    tie.close
-    (tie.spec
-    ask-slices-requires
-    enum-told
-    write-codeword-requires
-    enum-known-q
-    same-length
-    returns
+encode-spec = tie.close (tie.spec (λ c κs. search needs) (λ c. search needs) write-codeword-requires (λ c. search needs) (λ c. search needs) returns
     returns-2)

@@ -12,20 +12,11 @@ use Rattle.code.proofs.is_codeword.Tie as tie
 abbrev start : tie.After-zero-syndromes → tie.Start
 start s = s .before .before .before .before .before
 
-ask-is-codeword-requires : tie.Need-ask-is-codeword-requires
-ask-is-codeword-requires c κs = search needs
-
-enum-told : tie.Need-enum-told
-enum-told c = search needs
-
 zero-syndromes-requires : tie.Need-zero-syndromes-requires
 zero-syndromes-requires c κs =
     let v = c .before .before .ask-is-codeword in
     let a = c .before .before .before .before .args in
     test-long (a .width) (a .word .now) (v .result) (v .ensures) (search needs)
-
-enum-known-q : tie.Need-enum-known-q
-enum-known-q c = search needs
 
 -- the question about the syndromes is answered c
 answer : (s : tie.After-zero-syndromes) (c : Bool) → s .zero-syndromes .result ≡ c
@@ -39,23 +30,6 @@ answer s c t =
     (s .zero-syndromes .ensures (test-width m w (v .result) (v .ensures) p) (test-size m w (v .result) (v .ensures) p)
     (test-symbols m w (v .result) (v .ensures) p)) t
 
-returns : tie.Need-returns
-returns c = answer (c .before) true (c .if1 .taken)
-
-returns-2 : tie.Need-returns-2
-returns-2 c = answer (c .before) false (c .if1 .left)
-
-returns-3 : tie.Need-returns-3
-returns-3 c = search (needs, test-refused)
-
 pub is-codeword-spec : {M : Type 1} → statement M
-is-codeword-spec =
-    tie.close
-    (tie.spec
-    ask-is-codeword-requires
-    enum-told
-    zero-syndromes-requires
-    enum-known-q
-    returns
-    returns-2
-    returns-3)
+is-codeword-spec = tie.close (tie.spec (λ c κs. search needs) (λ c. search needs) zero-syndromes-requires (λ c. search needs)
+    (λ c. answer (c .before) true (c .if1 .taken)) (λ c. answer (c .before) false (c .if1 .left)) (λ c. search (needs, test-refused)))

@@ -20,31 +20,10 @@ lengths s =
     let a = start s .args in
     reads-lengths (a .width) (a .word .now) (a .message .now) (v .result) (v .ensures) (search needs)
 
-ask-read-data-requires : tie.Need-ask-read-data-requires
-ask-read-data-requires c κs = search needs
-
-enum-told : tie.Need-enum-told
-enum-told c = search needs
-
-sub-copy : tie.Need-sub-copy
-sub-copy c = omega (arith, lengths (c .before))
-
-part-copy-start : tie.Need-part-copy-start
-part-copy-start c = omega (arith, lengths (c .before))
-
-part-copy-end : tie.Need-part-copy-end
-part-copy-end c = search needs
-
 copy-requires : tie.Need-copy-requires
 copy-requires c κs =
     let w = start (c .before .before) .args .word .now in
     omega (arith, lengths (c .before .before), length-drop checks w, ap length (part-drop checks w))
-
-enum-known-q : tie.Need-enum-known-q
-enum-known-q c = search needs
-
-same-length : tie.Need-same-length
-same-length c = search needs
 
 returns : tie.Need-returns
 returns c =
@@ -60,16 +39,5 @@ returns-2 c =
     reads (a .width) (a .word .now) (a .message .now) (v .result) (v .ensures) _ _ (search needs) refl
 
 pub read-data-spec : {M : Type 1} → statement M
-read-data-spec =
-    tie.close
-    (tie.spec
-    ask-read-data-requires
-    enum-told
-    sub-copy
-    part-copy-start
-    part-copy-end
-    copy-requires
-    enum-known-q
-    same-length
-    returns
-    returns-2)
+read-data-spec = tie.close (tie.spec (λ c κs. search needs) (λ c. search needs) (λ c. omega (arith, lengths (c .before)))
+    (λ c. omega (arith, lengths (c .before))) (λ c. search needs) copy-requires (λ c. search needs) (λ c. search needs) returns returns-2)

@@ -6,15 +6,6 @@ use Rattle.code.specs.Call.{RestoresWithin}
 use Rattle.code.proofs.restore.Statement.{statement}
 use Rattle.code.proofs.restore.Tie as tie
 
-radius-of-requires : tie.Need-radius-of-requires
-radius-of-requires c κs = search needs
-
-restore-within-requires : tie.Need-restore-within-requires
-restore-within-requires c κs = search needs
-
-same-length : tie.Need-same-length
-same-length c = search needs
-
 returns : tie.Need-returns
 returns c =
     let x = c .before .before .restore-within in
@@ -23,4 +14,4 @@ returns c =
     subst (λ (n : ℕ). RestoresWithin (a .width) (a .word .now) (a .erasures .now) n (x .result) (x .last .1 .0)) (r .ensures) (x .ensures)
 
 pub restore-spec : {M : Type 1} → statement M
-restore-spec = tie.close (tie.spec radius-of-requires restore-within-requires same-length returns)
+restore-spec = tie.close (tie.spec (λ c κs. search needs) (λ c κs. search needs) (λ c. search needs) returns)

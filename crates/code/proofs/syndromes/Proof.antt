@@ -16,20 +16,6 @@ passed s =
     let p : v .result ≡ Passed = search needs in
     sym (v .ensures) ∙ p
 
-ask-restore-requires : tie.Need-ask-restore-requires
-ask-restore-requires c κs = search needs
-
-enum-told : tie.Need-enum-told
-enum-told c = search needs
-
-erasure-trial-requires : tie.Need-erasure-trial-requires
-erasure-trial-requires c κs =
-    let a = c .before .before .before .before .before .args in
-    workable (a .width) (a .word .now) (a .erasures .now) (passed c)
-
-enum-known-q : tie.Need-enum-known-q
-enum-known-q c = search needs
-
 returns : tie.Need-returns
 returns c =
     let s = c .before .erasure-trial in
@@ -46,6 +32,6 @@ returns-2 c =
     gives-refused (a .width) (a .word .now) (a .erasures .now) (v .result) _ (v .ensures) (search needs)
 
 pub syndromes-spec : {M : Type 1} → statement M
-syndromes-spec =
-    tie.close
-    (tie.spec ask-restore-requires enum-told erasure-trial-requires enum-known-q returns returns-2)
+syndromes-spec = tie.close (tie.spec (λ c κs. search needs) (λ c. search needs)
+    (λ c κs. let a = c .before .before .before .before .before .args in workable (a .width) (a .word .now) (a .erasures .now) (passed c))
+    (λ c. search needs) returns returns-2)

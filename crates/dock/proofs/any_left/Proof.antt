@@ -4,11 +4,5 @@ use Rattle.dock.proofs.Spending.{own-left, common-left}
 use Rattle.dock.proofs.any_left.Statement.{statement}
 use Rattle.dock.proofs.any_left.Tie as tie
 
-returns : tie.Need-returns
-returns c = search (needs, own-left)
-
-returns-2 : tie.Need-returns-2
-returns-2 c = search (needs, common-left)
-
 pub any-left-spec : {M : Type 1} → statement M
-any-left-spec = tie.close (tie.spec (λ c. search needs) (λ c. search needs) returns returns-2)
+any-left-spec = tie.close (tie.spec (λ c. search needs) (λ c. search needs) (λ c. search (needs, own-left)) (λ c. search (needs, common-left)))

@@ -12,14 +12,5 @@ returns-3 c =
     refusal-packed choice Refused _ _ _ _ (c .wide .ensures) (c .before .refusal-number .ensures) refl (c .before .before .before .c .given .1)
 
 pub pack-choice-spec : {M : Type 1} → statement M
-pack-choice-spec =
-    tie.close
-    (tie.spec
-    (λ c. search needs)
-    (λ c. search needs)
-    (λ c. search needs)
-    (λ c κs. search needs)
-    (λ c κs. search needs)
-    (λ c. search needs)
-    (λ c. search needs)
-    returns-3)
+pack-choice-spec = tie.close (tie.spec (λ c. search needs) (λ c. search needs) (λ c. search needs) (λ c κs. search needs) (λ c κs. search needs)
+    (λ c. search needs) (λ c. search needs) returns-3)

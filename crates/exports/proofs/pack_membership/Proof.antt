@@ -12,14 +12,5 @@ returns-3 c =
     refusal-packed membership Refused _ _ _ _ (c .wide .ensures) (c .before .refusal-number .ensures) refl (c .before .before .before .m .given .1)
 
 pub pack-membership-spec : {M : Type 1} → statement M
-pack-membership-spec =
-    tie.close
-    (tie.spec
-    (λ c. search needs)
-    (λ c. search needs)
-    (λ c. search needs)
-    (λ c κs. search needs)
-    (λ c κs. search needs)
-    (λ c. search needs)
-    (λ c. search needs)
-    returns-3)
+pack-membership-spec = tie.close (tie.spec (λ c. search needs) (λ c. search needs) (λ c. search needs) (λ c κs. search needs) (λ c κs. search needs)
+    (λ c. search needs) (λ c. search needs) returns-3)

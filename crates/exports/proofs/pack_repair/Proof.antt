@@ -7,22 +7,11 @@ use Rattle.exports.proofs.Packing.{value-packed, refusal-packed}
 use Rattle.exports.proofs.pack_repair.Statement.{statement}
 use Rattle.exports.proofs.pack_repair.Tie as tie
 
-returns : tie.Need-returns
-returns c = value-packed repair Restored (c .before .before .before .before .args .a) _ _ (c .wide .ensures) refl (search needs)
-
 returns-2 : tie.Need-returns-2
 returns-2 c =
     refusal-packed repair Refused _ _ _ _ (c .wide2 .ensures) (c .before .refusal-number .ensures) refl (c .before .before .before .a2 .given .1)
 
 pub pack-repair-spec : {M : Type 1} → statement M
-pack-repair-spec =
-    tie.close
-    (tie.spec
-    (λ c. search needs)
-    (λ c κs. search needs)
-    (λ c. search needs)
-    (λ c. search needs)
-    (λ c κs. search needs)
-    (λ c κs. search needs)
-    returns
+pack-repair-spec = tie.close (tie.spec (λ c. search needs) (λ c κs. search needs) (λ c. search needs) (λ c. search needs) (λ c κs. search needs)
+    (λ c κs. search needs) (λ c. value-packed repair Restored (c .before .before .before .before .args .a) _ _ (c .wide .ensures) refl (search needs))
     returns-2)

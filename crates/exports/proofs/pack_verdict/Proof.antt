@@ -7,11 +7,6 @@ use Rattle.exports.proofs.Packing.{refusal-packed}
 use Rattle.exports.proofs.pack_verdict.Statement.{statement}
 use Rattle.exports.proofs.pack_verdict.Tie as tie
 
-returns-2 : tie.Need-returns-2
-returns-2 c =
-    refusal-packed done Refused _ _ _ _ (c .wide .ensures) (c .before .refusal-number .ensures) refl (c .before .before .before .v .given .1)
-
 pub pack-verdict-spec : {M : Type 1} → statement M
-pack-verdict-spec =
-    tie.close
-    (tie.spec (λ c. search needs) (λ c. search needs) (λ c κs. search needs) (λ c κs. search needs) (λ c. search needs) returns-2)
+pack-verdict-spec = tie.close (tie.spec (λ c. search needs) (λ c. search needs) (λ c κs. search needs) (λ c κs. search needs) (λ c. search needs)
+    (λ c. refusal-packed done Refused _ _ _ _ (c .wide .ensures) (c .before .refusal-number .ensures) refl (c .before .before .before .v .given .1)))

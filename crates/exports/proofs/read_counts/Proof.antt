@@ -4,16 +4,6 @@ use Rattle.exports.proofs.Counting.{counts-read}
 use Rattle.exports.proofs.read_counts.Statement.{statement}
 use Rattle.exports.proofs.read_counts.Tie as tie
 
-returns : tie.Need-returns
-returns c = search (needs, counts-read)
-
 pub read-counts-spec : {M : Type 1} → statement M
-read-counts-spec =
-    tie.close
-    (tie.spec
-    (λ c. search needs)
-    (λ c. search needs)
-    (λ c. search needs)
-    (λ c. search needs)
-    (λ c. search needs)
-    returns)
+read-counts-spec = tie.close (tie.spec (λ c. search needs) (λ c. search needs) (λ c. search needs) (λ c. search needs) (λ c. search needs)
+    (λ c. search (needs, counts-read)))

@@ -5,31 +5,8 @@ use Rattle.exports.proofs.Counting.{refused-answer, refused-counts, ref
 use Rattle.exports.proofs.restore_in_bay.Statement.{statement}
 use Rattle.exports.proofs.restore_in_bay.Tie as tie
 
-read-counts-requires : tie.Need-read-counts-requires
-read-counts-requires c κs = search (needs, five-counts)
-
-write-counts-requires : tie.Need-write-counts-requires
-write-counts-requires c κs = search (needs, five-counts)
-
-returns : tie.Need-returns
-returns c = (search (needs, served-answer), (search (needs, served-counts), search (needs, served-written)))
-
-returns-2 : tie.Need-returns-2
-returns-2 c = (search (needs, refused-answer), (search (needs, refused-counts), search (needs, refused-written)))
-
 pub restore-in-bay-spec : {M : Type 1} → statement M
-restore-in-bay-spec =
-    tie.close
-    (tie.spec
-    (λ c κs. search needs)
-    (λ c. search needs)
-    read-counts-requires
-    (λ c κs. search needs)
-    write-counts-requires
-    (λ c κs. search needs)
-    (λ c. search needs)
-    (λ c κs. search needs)
-    (λ c. search needs)
-    (λ c. search needs)
-    returns
-    returns-2)
+restore-in-bay-spec = tie.close (tie.spec (λ c κs. search needs) (λ c. search needs) (λ c κs. search (needs, five-counts)) (λ c κs. search needs)
+    (λ c κs. search (needs, five-counts)) (λ c κs. search needs) (λ c. search needs) (λ c κs. search needs) (λ c. search needs) (λ c. search needs)
+    (λ c. (search (needs, served-answer), (search (needs, served-counts), search (needs, served-written))))
+    (λ c. (search (needs, refused-answer), (search (needs, refused-counts), search (needs, refused-written)))))

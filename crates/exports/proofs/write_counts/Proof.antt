@@ -6,24 +6,7 @@ use Rattle.exports.proofs.Counting.{counts-written}
 use Rattle.exports.proofs.write_counts.Statement.{statement}
 use Rattle.exports.proofs.write_counts.Tie as tie
 
-slice-write-left-5 : tie.Need-slice-write-left-5
-slice-write-left-5 c = simp length-set (omega arith)
-
-returns : tie.Need-returns
-returns c = search (needs, counts-written)
-
 pub write-counts-spec : {M : Type 1} → statement M
-write-counts-spec =
-    tie.close
-    (tie.spec
-    (λ c. search needs)
-    (λ c. search needs)
-    (λ c. search needs)
-    (λ c. search needs)
-    (λ c. search needs)
-    (λ c. search needs)
-    (λ c. search needs)
-    (λ c. search needs)
-    slice-write-left-5
-    (λ c. search needs)
-    returns)
+write-counts-spec = tie.close (tie.spec (λ c. search needs) (λ c. search needs) (λ c. search needs) (λ c. search needs) (λ c. search needs)
+    (λ c. search needs) (λ c. search needs) (λ c. search needs) (λ c. simp length-set (omega arith)) (λ c. search needs)
+    (λ c. search (needs, counts-written)))

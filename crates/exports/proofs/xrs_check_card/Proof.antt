@@ -4,11 +4,6 @@ use Rattle.exports.proofs.Packing.{check-all, check-some}
 use Rattle.exports.proofs.xrs_check_card.Statement.{statement}
 use Rattle.exports.proofs.xrs_check_card.Tie as tie
 
-returns : tie.Need-returns
-returns c = search (needs, check-all)
-
-returns-2 : tie.Need-returns-2
-returns-2 c = search (needs, check-some)
-
 pub xrs-check-card-spec : {M : Type 1} → statement M
-xrs-check-card-spec = tie.close (tie.spec (λ c κs. search needs) (λ c. search needs) (λ c. search needs) returns returns-2)
+xrs-check-card-spec = tie.close (tie.spec (λ c κs. search needs) (λ c. search needs) (λ c. search needs) (λ c. search (needs, check-all))
+    (λ c. search (needs, check-some)))

@@ -53,19 +53,5 @@ returns-3 c =
     (c .wide .result) (c .wide .ensures ∙ c .before .refusal-number .ensures) _ _
 
 pub xrs-compare-part-spec : {M : Type 1} → statement M
-xrs-compare-part-spec =
-    tie.close
-    (tie.spec
-    (λ c κs. search needs)
-    (λ c. search needs)
-    sub-offset
-    mul-offset
-    (λ c. search needs)
-    sub-offset-2
-    mul-offset-2
-    (λ c. search needs)
-    (λ c κs. search needs)
-    (λ c κs. search needs)
-    returns
-    returns-2
-    returns-3)
+xrs-compare-part-spec = tie.close (tie.spec (λ c κs. search needs) (λ c. search needs) sub-offset mul-offset (λ c. search needs) sub-offset-2
+    mul-offset-2 (λ c. search needs) (λ c κs. search needs) (λ c κs. search needs) returns returns-2 returns-3)

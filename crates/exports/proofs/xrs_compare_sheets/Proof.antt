@@ -16,6 +16,4 @@ returns c =
     )
 
 pub xrs-compare-sheets-spec : {M : Type 1} → statement M
-xrs-compare-sheets-spec =
-    tie.close
-    (tie.spec (λ c κs. search needs) (λ c κs. search needs) (λ c κs. search needs) (λ c. search needs) returns)
+xrs-compare-sheets-spec = tie.close (tie.spec (λ c κs. search needs) (λ c κs. search needs) (λ c κs. search needs) (λ c. search needs) returns)

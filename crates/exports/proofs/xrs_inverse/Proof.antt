@@ -5,8 +5,6 @@ use Rattle.exports.specs.Packed.{packed}
 use Rattle.exports.proofs.xrs_inverse.Statement.{statement}
 use Rattle.exports.proofs.xrs_inverse.Tie as tie
 
-returns : tie.Need-returns
-returns c = c .pack .ensures ∙ ap packed (c .before .inverse .ensures)
-
 pub xrs-inverse-spec : {M : Type 1} → statement M
-xrs-inverse-spec = tie.close (tie.spec (λ c κs. search needs) (λ c κs. search needs) returns)
+xrs-inverse-spec = tie.close (tie.spec (λ c κs. search needs) (λ c κs. search needs)
+    (λ c. c .pack .ensures ∙ ap packed (c .before .inverse .ensures)))

@@ -5,8 +5,6 @@ use Rattle.exports.specs.Packed.{packed}
 use Rattle.exports.proofs.xrs_is_codeword.Statement.{statement}
 use Rattle.exports.proofs.xrs_is_codeword.Tie as tie
 
-returns : tie.Need-returns
-returns c = c .pack-membership .ensures ∙ ap packed (c .before .is-codeword .ensures)
-
 pub xrs-is-codeword-spec : {M : Type 1} → statement M
-xrs-is-codeword-spec = tie.close (tie.spec (λ c κs. search needs) (λ c κs. search needs) returns)
+xrs-is-codeword-spec = tie.close (tie.spec (λ c κs. search needs) (λ c κs. search needs)
+    (λ c. c .pack-membership .ensures ∙ ap packed (c .before .is-codeword .ensures)))

@@ -5,8 +5,5 @@ use Rattle.exports.specs.Packed.{packed}
 use Rattle.exports.proofs.xrs_sum.Statement.{statement}
 use Rattle.exports.proofs.xrs_sum.Tie as tie
 
-returns : tie.Need-returns
-returns c = c .pack .ensures ∙ ap packed (c .before .sum .ensures)
-
 pub xrs-sum-spec : {M : Type 1} → statement M
-xrs-sum-spec = tie.close (tie.spec (λ c κs. search needs) (λ c κs. search needs) returns)
+xrs-sum-spec = tie.close (tie.spec (λ c κs. search needs) (λ c κs. search needs) (λ c. c .pack .ensures ∙ ap packed (c .before .sum .ensures)))

@@ -7,12 +7,6 @@ use Rattle.sheet.proofs.Asking.{tested-long, read-no-width, read-no-len
 use Rattle.sheet.proofs.ask_read.Statement.{statement}
 use Rattle.sheet.proofs.ask_read.Tie as tie
 
-returns : tie.Need-returns
-returns c = search (needs, read-no-width)
-
-returns-2 : tie.Need-returns-2
-returns-2 c = search (needs, read-no-length)
-
 ask-content-requires : tie.Need-ask-content-requires
 ask-content-requires c κs =
     let e : c .before .before .is-codeword .result ≡ Codeword = search needs in
@@ -37,17 +31,5 @@ returns-5 c =
     read-refused _ _ _ (t .before .if2 .left) (c .before .q .given .0 .0) (ap membership (sym e) ∙ t .is-codeword .ensures)
 
 pub ask-read-spec : {M : Type 1} → statement M
-ask-read-spec =
-    tie.close
-    (tie.spec
-    (λ c κs. search needs)
-    returns
-    returns-2
-    (λ c κs. search needs)
-    (λ c. search needs)
-    ask-content-requires
-    (λ c. search needs)
-    (λ c. search needs)
-    returns-3
-    returns-4
-    returns-5)
+ask-read-spec = tie.close (tie.spec (λ c κs. search needs) (λ c. search (needs, read-no-width)) (λ c. search (needs, read-no-length))
+    (λ c κs. search needs) (λ c. search needs) ask-content-requires (λ c. search needs) (λ c. search needs) returns-3 returns-4 returns-5)

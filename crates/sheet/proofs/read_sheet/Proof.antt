@@ -30,16 +30,5 @@ returns-2 c =
     reads-refused (a .width) (a .word .now) (a .symbols .now) (v .result) (v .ensures) _ (search needs)
 
 pub read-sheet-spec : {M : Type 1} → statement M
-read-sheet-spec =
-    tie.close
-    (tie.spec
-    (λ c κs. search needs)
-    (λ c. search needs)
-    (λ c. search needs)
-    (λ c. search needs)
-    part-copy-end
-    copy-requires
-    (λ c. search needs)
-    (λ c. search needs)
-    returns
-    returns-2)
+read-sheet-spec = tie.close (tie.spec (λ c κs. search needs) (λ c. search needs) (λ c. search needs) (λ c. search needs) part-copy-end copy-requires
+    (λ c. search needs) (λ c. search needs) returns returns-2)

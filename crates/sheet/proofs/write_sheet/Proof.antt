@@ -24,15 +24,5 @@ returns-2 c =
     writes-refused (a .width) (a .symbols .now) (a .word .now) (v .result) (v .ensures) _ (search needs)
 
 pub write-sheet-spec : {M : Type 1} → statement M
-write-sheet-spec =
-    tie.close
-    (tie.spec
-    (λ c κs. search needs)
-    (λ c. search needs)
-    padded-requires
-    (λ c. search needs)
-    (λ c κs. search needs)
-    (λ c. search needs)
-    (λ c. search needs)
-    returns
-    returns-2)
+write-sheet-spec = tie.close (tie.spec (λ c κs. search needs) (λ c. search needs) padded-requires (λ c. search needs) (λ c κs. search needs)
+    (λ c. search needs) (λ c. search needs) returns returns-2)

@@ -4,16 +4,6 @@ use Rattle.walk.proofs.Walking.{asked-length, asked-number, asked-passe
 use Rattle.walk.proofs.ask_step.Statement.{statement}
 use Rattle.walk.proofs.ask_step.Tie as tie
 
-returns : tie.Need-returns
-returns c = asked-length (c .before .before .args .walk) (c .before .before .args .n) (c .if1 .taken)
-
-returns-2 : tie.Need-returns-2
-returns-2 c = search (needs, asked-passed)
-
-returns-3 : tie.Need-returns-3
-returns-3 c = search (needs, asked-number)
-
 pub ask-step-spec : {M : Type 1} → statement M
-ask-step-spec =
-    tie.close
-    (tie.spec returns (λ c κs. search needs) (λ c. search needs) (λ c κs. search needs) returns-2 returns-3)
+ask-step-spec = tie.close (tie.spec (λ c. asked-length (c .before .before .args .walk) (c .before .before .args .n) (c .if1 .taken))
+    (λ c κs. search needs) (λ c. search needs) (λ c κs. search needs) (λ c. search (needs, asked-passed)) (λ c. search (needs, asked-number)))

@@ -11,24 +11,6 @@ part-copy-end c =
     let call = c .before .before .before .before .before in
     omega (arith, copy-size (call .before .before .before .args .bytes .now) (call .restored-copy .result) (call .restored-copy .ensures))
 
-returns : tie.Need-returns
-returns c = search (needs, shows-yes)
-
-returns-2 : tie.Need-returns-2
-returns-2 c = search (needs, shows-no)
-
 pub show-spec : {M : Type 1} → statement M
-show-spec =
-    tie.close
-    (tie.spec
-    (λ c κs. search needs)
-    (λ c. search needs)
-    (λ c. search needs)
-    (λ c. search needs)
-    (λ c. search needs)
-    part-copy-end
-    (λ c κs. search needs)
-    (λ c. search needs)
-    (λ c. search needs)
-    returns
-    returns-2)
+show-spec = tie.close (tie.spec (λ c κs. search needs) (λ c. search needs) (λ c. search needs) (λ c. search needs) (λ c. search needs) part-copy-end
+    (λ c κs. search needs) (λ c. search needs) (λ c. search needs) (λ c. search (needs, shows-yes)) (λ c. search (needs, shows-no)))

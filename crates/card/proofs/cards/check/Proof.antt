@@ -12,9 +12,6 @@ Inv-loop card at₀ i₀ at i = Walked card at i
 abbrev μ-loop : tie.MeasureT-loop
 μ-loop card at₀ i₀ at i = length card - at
 
-loop-holds : tie.Need-loop-holds Inv-loop μ-loop
-loop-holds c = walked-start (c .before .args .card .now)
-
 returns : tie.Need-returns Inv-loop μ-loop
 returns c =
     let turn = c .before .before .before .before in
@@ -43,20 +40,5 @@ returns-3 c =
     checks-end (turn .before .before .args .card .now) (turn .loop .at) (turn .loop .i) (turn .loop .inv) (c .loop-test .left)
 
 pub check-spec : {M : Type 1} → statement M
-check-spec =
-    tie.close
-    (tie.spec
-    Inv-loop
-    μ-loop
-    loop-holds
-    (λ c κs. search needs)
-    (λ c κs. search needs)
-    (λ c. search needs)
-    returns
-    (λ c. search needs)
-    returns-2
-    (λ c. search needs)
-    (λ c. search needs)
-    (λ c. search needs)
-    loop-again
-    returns-3)
+check-spec = tie.close (tie.spec Inv-loop μ-loop (λ c. walked-start (c .before .args .card .now)) (λ c κs. search needs) (λ c κs. search needs)
+    (λ c. search needs) returns (λ c. search needs) returns-2 (λ c. search needs) (λ c. search needs) (λ c. search needs) loop-again returns-3)

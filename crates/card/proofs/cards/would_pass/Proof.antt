@@ -4,11 +4,6 @@ use Rattle.card.proofs.Checking.{pass-yes, pass-no}
 use Rattle.card.proofs.cards.would_pass.Statement.{statement}
 use Rattle.card.proofs.cards.would_pass.Tie as tie
 
-returns : tie.Need-returns
-returns c = search (needs, pass-yes)
-
-returns-2 : tie.Need-returns-2
-returns-2 c = search (needs, pass-no)
-
 pub would-pass-spec : {M : Type 1} → statement M
-would-pass-spec = tie.close (tie.spec (λ c κs. search needs) (λ c. search needs) (λ c. search needs) returns returns-2)
+would-pass-spec = tie.close (tie.spec (λ c κs. search needs) (λ c. search needs) (λ c. search needs) (λ c. search (needs, pass-yes))
+    (λ c. search (needs, pass-no)))

@@ -8,9 +8,6 @@ use Rattle.card.proofs.Finding.{named-low, named-high, finds-none, find
 use Rattle.card.proofs.checked.check_batch.Statement.{statement}
 use Rattle.card.proofs.checked.check_batch.Tie as tie
 
-sub-record-from : tie.Need-sub-record-from
-sub-record-from c = search (needs, named-low)
-
 mul-record-from : tie.Need-mul-record-from
 mul-record-from c =
     let high : c .before .k .given .0 .0 ≤ recordCount (length (c .before .before .before .before .before .before .args .batch .now)) = search (needs, named-high) in
@@ -26,24 +23,7 @@ add-put-outcome c =
     let high : c .before .before .k .given .0 .0 ≤ recordCount (length (c .before .before .before .before .before .before .before .args .batch .now)) = search (needs, named-high) in
     omega arith
 
-returns : tie.Need-returns
-returns c = search (needs, finds-none)
-
-returns-2 : tie.Need-returns-2
-returns-2 c = search (needs, finds-some)
-
 pub check-batch-spec : {M : Type 1} → statement M
-check-batch-spec =
-    tie.close
-    (tie.spec
-    (λ c κs. search needs)
-    (λ c. search needs)
-    (λ c. search needs)
-    sub-record-from
-    mul-record-from
-    record-from-requires
-    add-put-outcome
-    (λ c κs. search needs)
-    returns
-    (λ c. search needs)
-    returns-2)
+check-batch-spec = tie.close (tie.spec (λ c κs. search needs) (λ c. search needs) (λ c. search needs) (λ c. search (needs, named-low)) mul-record-from
+    record-from-requires add-put-outcome (λ c κs. search needs) (λ c. search (needs, finds-none)) (λ c. search needs)
+    (λ c. search (needs, finds-some)))

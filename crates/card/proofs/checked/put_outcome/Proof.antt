@@ -4,20 +4,6 @@ use Rattle.card.proofs.Finding.{outcome-none, outcome-some}
 use Rattle.card.proofs.checked.put_outcome.Statement.{statement}
 use Rattle.card.proofs.checked.put_outcome.Tie as tie
 
-returns : tie.Need-returns
-returns c = search (needs, outcome-none)
-
-returns-2 : tie.Need-returns-2
-returns-2 c = search (needs, outcome-some)
-
 pub put-outcome-spec : {M : Type 1} → statement M
-put-outcome-spec =
-    tie.close
-    (tie.spec
-    (λ c κs. search needs)
-    (λ c. search needs)
-    (λ c. search needs)
-    (λ c κs. search needs)
-    returns
-    (λ c. search needs)
-    returns-2)
+put-outcome-spec = tie.close (tie.spec (λ c κs. search needs) (λ c. search needs) (λ c. search needs) (λ c κs. search needs)
+    (λ c. search (needs, outcome-none)) (λ c. search needs) (λ c. search (needs, outcome-some)))

@@ -51,16 +51,5 @@ returns-3 c =
     ∙ c .if2 .left)
 
 pub ask-card-spec : {M : Type 1} → statement M
-ask-card-spec =
-    tie.close
-    (tie.spec
-    (λ c κs. search needs)
-    (λ c. search needs)
-    returns
-    (λ c. search needs)
-    (λ c κs. search needs)
-    (λ c κs. search needs)
-    see-part-requires
-    (λ c κs. search needs)
-    returns-2
-    returns-3)
+ask-card-spec = tie.close (tie.spec (λ c κs. search needs) (λ c. search needs) returns (λ c. search needs) (λ c κs. search needs)
+    (λ c κs. search needs) see-part-requires (λ c κs. search needs) returns-2 returns-3)

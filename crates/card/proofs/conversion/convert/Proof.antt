@@ -30,15 +30,5 @@ returns-2 c =
     converts-refused (a .k) (a .j) (a .card .now) (a .out .now) (v .ask-card .result) (v .ask-card .ensures) _ (search needs)
 
 pub convert-spec : {M : Type 1} → statement M
-convert-spec =
-    tie.close
-    (tie.spec
-    (λ c κs. search needs)
-    (λ c. search needs)
-    (λ c κs. search needs)
-    (λ c. search needs)
-    convert-slots-requires
-    (λ c. search needs)
-    (λ c. search needs)
-    returns
-    returns-2)
+convert-spec = tie.close (tie.spec (λ c κs. search needs) (λ c. search needs) (λ c κs. search needs) (λ c. search needs) convert-slots-requires
+    (λ c. search needs) (λ c. search needs) returns returns-2)

@@ -10,11 +10,6 @@ use Rattle.card.proofs.Converted.{header-part}
 use Rattle.card.proofs.conversion.convert_slot.Statement.{statement}
 use Rattle.card.proofs.conversion.convert_slot.Tie as tie
 
-slice-aggregate-copy : tie.Need-slice-aggregate-copy
-slice-aggregate-copy c =
-    let s = c .before .before .before .before in
-    sym (length-take-le (2 + s .args .j) (s .args .to .now) (omega arith))
-
 slice-aggregate-copy-2 : tie.Need-slice-aggregate-copy-2
 slice-aggregate-copy-2 c =
     let header = c .before .before .new-header .result in
@@ -41,23 +36,7 @@ returns c =
     ∙ header-part (a .k) (a .j) (s .pre .0 .0) (s .pre .0 .1) (s .pre .0 .2) (a .from .now) (h .result) (s .pre .1 .0) (h .ensures)
 
 pub convert-slot-spec : {M : Type 1} → statement M
-convert-slot-spec =
-    tie.close
-    (tie.spec
-    (λ c κs. search needs)
-    (λ c. search needs)
-    (λ c. search needs)
-    (λ c. search needs)
-    slice-aggregate-copy
-    (λ c. search needs)
-    slice-aggregate-copy-2
-    copy-requires
-    (λ c. search needs)
-    (λ c. search needs)
-    (λ c. search needs)
-    (λ c. search needs)
-    (λ c. search needs)
-    (λ c. search needs)
-    (λ c κs. search needs)
-    (λ c. search needs)
-    returns)
+convert-slot-spec = tie.close (tie.spec (λ c κs. search needs) (λ c. search needs) (λ c. search needs) (λ c. search needs)
+    (λ c. let s = c .before .before .before .before in sym (length-take-le (2 + s .args .j) (s .args .to .now) (omega arith))) (λ c. search needs)
+    slice-aggregate-copy-2 copy-requires (λ c. search needs) (λ c. search needs) (λ c. search needs) (λ c. search needs) (λ c. search needs)
+    (λ c. search needs) (λ c κs. search needs) (λ c. search needs) returns)

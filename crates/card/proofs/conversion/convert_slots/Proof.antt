@@ -38,29 +38,6 @@ room-out c =
     slot-room (s .args .j) (c .before .loop .out) (s .args .n) (c .before .loop .inv .1 ∙ s .pre .1 .1) (c .before .loop .i)
     (c .loop-test .taken) (x .result) (x .ensures)
 
-loop-holds : tie.Need-loop-holds Inv-loop μ-loop
-loop-holds c =
-    let a = c .before .before .before .before .args in
-    (omega arith, refl, converted-start (a .k) (a .j) (a .card .now) (a .out .now))
-
-mul-at : tie.Need-mul-at Inv-loop μ-loop
-mul-at c = omega (arith, room c)
-
-add-end : tie.Need-add-end Inv-loop μ-loop
-add-end c = omega (arith, room c)
-
-mul-to : tie.Need-mul-to Inv-loop μ-loop
-mul-to c = omega (arith, room-out c)
-
-add-stop : tie.Need-add-stop Inv-loop μ-loop
-add-stop c = omega (arith, room-out c)
-
-part-convert-slot-end : tie.Need-part-convert-slot-end Inv-loop μ-loop
-part-convert-slot-end c = omega (arith, room c)
-
-part-convert-slot-end-2 : tie.Need-part-convert-slot-end-2 Inv-loop μ-loop
-part-convert-slot-end-2 c = omega (arith, room-out (c .before))
-
 convert-slot-requires : tie.Need-convert-slot-requires Inv-loop μ-loop
 convert-slot-requires c κs =
     let t = c .before .before .before in
@@ -105,27 +82,8 @@ returns c =
     (rw all at (c .before .loop .inv .2))
 
 pub convert-slots-spec : {M : Type 1} → statement M
-convert-slots-spec =
-    tie.close
-    (tie.spec
-    Inv-loop
-    μ-loop
-    (λ c κs. search needs)
-    (λ c κs. search needs)
-    loop-holds
-    mul-at
-    add-end
-    mul-to
-    add-stop
-    (λ c. search needs)
-    (λ c. search needs)
-    part-convert-slot-end
-    (λ c. search needs)
-    (λ c. search needs)
-    part-convert-slot-end-2
-    convert-slot-requires
-    (λ c. search needs)
-    (λ c. search needs)
-    loop-again
-    (λ c. search needs)
-    returns)
+convert-slots-spec = tie.close (tie.spec Inv-loop μ-loop (λ c κs. search needs) (λ c κs. search needs)
+    (λ c. let a = c .before .before .before .before .args in (omega arith, refl, converted-start (a .k) (a .j) (a .card .now) (a .out .now)))
+    (λ c. omega (arith, room c)) (λ c. omega (arith, room c)) (λ c. omega (arith, room-out c)) (λ c. omega (arith, room-out c)) (λ c. search needs)
+    (λ c. search needs) (λ c. omega (arith, room c)) (λ c. search needs) (λ c. search needs) (λ c. omega (arith, room-out (c .before)))
+    convert-slot-requires (λ c. search needs) (λ c. search needs) loop-again (λ c. search needs) returns)

@@ -7,14 +7,8 @@ use lib.Seq.{length-take-le}
 use Rattle.card.proofs.conversion.new_header.Statement.{statement}
 use Rattle.card.proofs.conversion.new_header.Tie as tie
 
-slice-aggregate-copy-2 : tie.Need-slice-aggregate-copy-2
-slice-aggregate-copy-2 c = sym (length-take-le 6 (c .before .before .before .args .from .now) (c .before .before .before .pre))
-
-copy-requires : tie.Need-copy-requires
-copy-requires c κs = sym (length-take-le 6 (c .before .before .before .args .from .now) (c .before .before .before .pre))
-
-returns : tie.Need-returns
-returns c = ap (λ (xs : List ℕ). xs ++ 255 ∷ []) (c .before .copy .ensures)
-
 pub new-header-spec : {M : Type 1} → statement M
-new-header-spec = tie.close (tie.spec (λ c. search needs) (λ c. search needs) slice-aggregate-copy-2 copy-requires returns)
+new-header-spec = tie.close (tie.spec (λ c. search needs) (λ c. search needs)
+    (λ c. sym (length-take-le 6 (c .before .before .before .args .from .now) (c .before .before .before .pre)))
+    (λ c κs. sym (length-take-le 6 (c .before .before .before .args .from .now) (c .before .before .before .pre)))
+    (λ c. ap (λ (xs : List ℕ). xs ++ 255 ∷ []) (c .before .copy .ensures)))

@@ -19,9 +19,6 @@ Inv-loop part k size n found₀ i₀ found i = (i ≤ n) × (found ≡ slotsFoun
 abbrev μ-loop : tie.MeasureT-loop
 μ-loop part k size n found₀ i₀ found i = n - i
 
-loop-holds : tie.Need-loop-holds Inv-loop μ-loop
-loop-holds c = let a = c .before .before .args in (omega arith, over-none (a .k) (slotFound (a .k)) (a .s) (a .part .now))
-
 -- slot i is inside the part
 room : (c : tie.In-loop Inv-loop μ-loop)
     → c .before .loop .i * c .before .before .size-of .result + c .before .before .size-of .result
@@ -31,15 +28,6 @@ room c =
     let a = c .before .before .before .before .args in
     slot-inside (a .k) (a .part .now) (length (a .part .now) / x .result) (slots-fit (a .k) (a .part .now) (x .result) (x .ensures))
     (c .before .loop .i) (c .loop-test .taken) (x .result) (x .ensures)
-
-mul-at : tie.Need-mul-at Inv-loop μ-loop
-mul-at c = omega (arith, room c)
-
-add-end : tie.Need-add-end Inv-loop μ-loop
-add-end c = omega (arith, room c)
-
-part-see-slot-end : tie.Need-part-see-slot-end Inv-loop μ-loop
-part-see-slot-end c = omega (arith, room c)
 
 see-slot-requires : tie.Need-see-slot-requires Inv-loop μ-loop
 see-slot-requires c κs =
@@ -81,21 +69,7 @@ returns c =
     ∙ ap (slotsFound (a .k) (a .s) (a .part .now)) (all ∙ ap (λ (y : ℕ). length (a .part .now) / y) (x .ensures))
 
 pub see-part-spec : {M : Type 1} → statement M
-see-part-spec =
-    tie.close
-    (tie.spec
-    Inv-loop
-    μ-loop
-    (λ c κs. search needs)
-    (λ c. search needs)
-    loop-holds
-    mul-at
-    add-end
-    (λ c. search needs)
-    (λ c. search needs)
-    part-see-slot-end
-    see-slot-requires
-    add-i
-    (λ c. search needs)
-    loop-again
-    returns)
+see-part-spec = tie.close (tie.spec Inv-loop μ-loop (λ c κs. search needs) (λ c. search needs)
+    (λ c. let a = c .before .before .args in (omega arith, over-none (a .k) (slotFound (a .k)) (a .s) (a .part .now))) (λ c. omega (arith, room c))
+    (λ c. omega (arith, room c)) (λ c. search needs) (λ c. search needs) (λ c. omega (arith, room c)) see-slot-requires add-i (λ c. search needs)
+    loop-again returns)

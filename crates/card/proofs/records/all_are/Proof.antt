@@ -14,25 +14,6 @@ Inv-loop xs x i₀ i = (i ≤ length xs) × (allAre x xs ≡ allAre x (drop i xs
 abbrev μ-loop : tie.MeasureT-loop
 μ-loop xs x i₀ i = length xs - i
 
-returns : tie.Need-returns Inv-loop μ-loop
-returns c = search (needs, all-stop)
-
-loop-again : tie.Need-loop-again Inv-loop μ-loop
-loop-again c = search (needs, all-on)
-
-returns-2 : tie.Need-returns-2 Inv-loop μ-loop
-returns-2 c = search (needs, all-end)
-
 pub all-are-spec : {M : Type 1} → statement M
-all-are-spec =
-    tie.close
-    (tie.spec
-    Inv-loop
-    μ-loop
-    (λ c. search needs)
-    (λ c. search needs)
-    returns
-    (λ c. search needs)
-    (λ c. search needs)
-    loop-again
-    returns-2)
+all-are-spec = tie.close (tie.spec Inv-loop μ-loop (λ c. search needs) (λ c. search needs) (λ c. search (needs, all-stop)) (λ c. search needs)
+    (λ c. search needs) (λ c. search (needs, all-on)) (λ c. search (needs, all-end)))

@@ -6,9 +6,6 @@ use Rattle.card.proofs.Layouts.{length-no, record-asked}
 use Rattle.card.proofs.records.ask_record.Statement.{statement}
 use Rattle.card.proofs.records.ask_record.Tie as tie
 
-returns : tie.Need-returns
-returns c = length-no erasureBytes (c .before .before .args .bytes .now) (c .if1 .taken)
-
 returns-2 : tie.Need-returns-2
 returns-2 c =
     let p = c .before .passed in
@@ -16,4 +13,5 @@ returns-2 c =
     c .verdict-of .ensures ∙ record-asked erasureBytes (sized .before .before .args .bytes .now) (sized .if1 .left) (p .result) (p .ensures)
 
 pub ask-record-spec : {M : Type 1} → statement M
-ask-record-spec = tie.close (tie.spec returns (λ c κs. search needs) (λ c κs. search needs) returns-2)
+ask-record-spec = tie.close (tie.spec (λ c. length-no erasureBytes (c .before .before .args .bytes .now) (c .if1 .taken)) (λ c κs. search needs)
+    (λ c κs. search needs) returns-2)

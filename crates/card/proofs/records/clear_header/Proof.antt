@@ -8,24 +8,12 @@ use lib.Seq.{length-take-le}
 use Rattle.card.proofs.records.clear_header.Statement.{statement}
 use Rattle.card.proofs.records.clear_header.Tie as tie
 
-slice-aggregate-copy : tie.Need-slice-aggregate-copy
-slice-aggregate-copy c = sym (length-take-le 7 (c .before .before .args .bytes .now) (c .before .before .pre))
-
-copy-requires : tie.Need-copy-requires
-copy-requires c κs = length-take-le 7 (c .before .before .before .args .bytes .now) (c .before .before .before .pre)
-
 returns : tie.Need-returns
 returns c =
     let called = c .before .before in
     ap (λ (u : List ℕ). u ++ drop 7 (called .before .before .before .before .args .bytes .now)) (called .copy .ensures)
 
 pub clear-header-spec : {M : Type 1} → statement M
-clear-header-spec =
-    tie.close
-    (tie.spec
-    (λ c. search needs)
-    slice-aggregate-copy
-    (λ c. search needs)
-    copy-requires
-    (λ c. search needs)
-    returns)
+clear-header-spec = tie.close (tie.spec (λ c. search needs)
+    (λ c. sym (length-take-le 7 (c .before .before .args .bytes .now) (c .before .before .pre))) (λ c. search needs)
+    (λ c κs. length-take-le 7 (c .before .before .before .args .bytes .now) (c .before .before .before .pre)) (λ c. search needs) returns)

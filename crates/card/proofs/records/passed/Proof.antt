@@ -13,9 +13,6 @@ returns c =
     let a = c .before .before .before .before .args in
     passes-none (a .k) (a .most) (a .bytes .now) (m .result) (m .ensures) (c .if1 .taken)
 
-cast-count : tie.Need-cast-count
-cast-count c = omega (arith, c .shared-slice-known3 .given 1)
-
 returns-2 : tie.Need-returns-2
 returns-2 c =
     let w = c .before .before .before in
@@ -77,19 +74,6 @@ returns-5 c =
     (p .ensures) (c .before .if3 .left) (c .if4 .left)
 
 pub passed-spec : {M : Type 1} → statement M
-passed-spec =
-    tie.close
-    (tie.spec
-    (λ c. search needs)
-    (λ c κs. search needs)
-    returns
-    (λ c. search needs)
-    cast-count
-    (λ c κs. search needs)
-    returns-2
-    (λ c. search needs)
-    add-padded-2
-    padded-requires
-    returns-3
-    returns-4
-    returns-5)
+passed-spec = tie.close (tie.spec (λ c. search needs) (λ c κs. search needs) returns (λ c. search needs)
+    (λ c. omega (arith, c .shared-slice-known3 .given 1)) (λ c κs. search needs) returns-2 (λ c. search needs) add-padded-2 padded-requires returns-3
+    returns-4 returns-5)

@@ -11,20 +11,6 @@ use Rattle.card.proofs.Recording.{restores-parts, word-refused, word-re
 use Rattle.card.proofs.records.restore_asked.Statement.{statement}
 use Rattle.card.proofs.records.restore_asked.Tie as tie
 
-slice-read-width : tie.Need-slice-read-width
-slice-read-width c = omega (arith, (asked (c .before .before .args .bytes .now) (c .before .before .pre)) .size)
-
-slice-read-count : tie.Need-slice-read-count
-slice-read-count c = omega (arith, (asked (c .before .before .before .args .bytes .now) (c .before .before .before .pre)) .size)
-
-cast-count : tie.Need-cast-count
-cast-count c = omega (arith, c .slice-known3 .given 1)
-
-erasure-row-requires : tie.Need-erasure-row-requires
-erasure-row-requires c κs =
-    let s = c .before .before .before .before in
-    omega (arith, asked (s .args .bytes .now) (s .pre) .size)
-
 add-end : tie.Need-add-end
 add-end c =
     let s = c .before .before .before .before .before .before in
@@ -84,25 +70,9 @@ returns-2 c =
     word-refused r (s .pre) reach (x .result) _ R _ (word-long r a (n .result) (n .ensures)) _ (search needs)
 
 pub restore-asked-spec : {M : Type 1} → statement M
-restore-asked-spec =
-    tie.close
-    (tie.spec
-    slice-read-width
-    slice-read-count
-    cast-count
-    erasure-row-requires
-    (λ c κs. search needs)
-    add-end
-    (λ c. search needs)
-    (λ c. search needs)
-    part-restore-within-end
-    array-share-prefix-erasures
-    slice-aggregate-restore-within
-    (λ c κs. search needs)
-    (λ c. search needs)
-    clear-header-requires
-    (λ c. search needs)
-    (λ c. search needs)
-    returns
-    (λ c. search needs)
-    returns-2)
+restore-asked-spec = tie.close (tie.spec (λ c. omega (arith, (asked (c .before .before .args .bytes .now) (c .before .before .pre)) .size))
+    (λ c. omega (arith, (asked (c .before .before .before .args .bytes .now) (c .before .before .before .pre)) .size))
+    (λ c. omega (arith, c .slice-known3 .given 1))
+    (λ c κs. let s = c .before .before .before .before in omega (arith, asked (s .args .bytes .now) (s .pre) .size)) (λ c κs. search needs) add-end
+    (λ c. search needs) (λ c. search needs) part-restore-within-end array-share-prefix-erasures slice-aggregate-restore-within (λ c κs. search needs)
+    (λ c. search needs) clear-header-requires (λ c. search needs) (λ c. search needs) returns (λ c. search needs) returns-2)

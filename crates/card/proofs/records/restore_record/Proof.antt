@@ -4,8 +4,5 @@ use Rattle.card.proofs.Reaches.{restores-two}
 use Rattle.card.proofs.records.restore_record.Statement.{statement}
 use Rattle.card.proofs.records.restore_record.Tie as tie
 
-returns : tie.Need-returns
-returns c = search (needs, restores-two)
-
 pub restore-record-spec : {M : Type 1} → statement M
-restore-record-spec = tie.close (tie.spec (λ c κs. search needs) (λ c. search needs) returns)
+restore-record-spec = tie.close (tie.spec (λ c κs. search needs) (λ c. search needs) (λ c. search (needs, restores-two)))

@@ -21,9 +21,6 @@ slice-read-reach-up-to-2 c =
     let p : v .result ≡ Passed = search needs in
     omega (arith, asked (c .before .before .before .before .before .before .before .args .bytes .now) (sym (v .ensures) ∙ p) .size)
 
-cast-reach-up-to : tie.Need-cast-reach-up-to
-cast-reach-up-to c = omega (arith, c .slice-known3 .given 1)
-
 restore-asked-requires : tie.Need-restore-asked-requires
 restore-asked-requires c κs =
     let v = c .before .before .before .before .before .before .ask-record in
@@ -51,18 +48,6 @@ returns-2 c =
     restores-up-to n r (reachUpTo n r) refl _ _ (restores-refused r (reachUpTo n r) (v .result) _ (v .ensures) (search needs) _ refl)
 
 pub restore-record-up-to-spec : {M : Type 1} → statement M
-restore-record-up-to-spec =
-    tie.close
-    (tie.spec
-    (λ c κs. search needs)
-    (λ c. search needs)
-    slice-read-reach-up-to
-    slice-read-reach-up-to-2
-    cast-reach-up-to
-    (λ c κs. search needs)
-    restore-asked-requires
-    (λ c. search needs)
-    (λ c. search needs)
-    returns
-    (λ c. search needs)
-    returns-2)
+restore-record-up-to-spec = tie.close (tie.spec (λ c κs. search needs) (λ c. search needs) slice-read-reach-up-to slice-read-reach-up-to-2
+    (λ c. omega (arith, c .slice-known3 .given 1)) (λ c κs. search needs) restore-asked-requires (λ c. search needs) (λ c. search needs) returns
+    (λ c. search needs) returns-2)

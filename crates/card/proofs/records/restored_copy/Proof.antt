@@ -26,16 +26,5 @@ returns-3 c =
     copied-no r q (row-refused r _ (row .copied .ensures) _ _ (done .restore-record .ensures) q (search needs)) _ (c .refused-copy2 .ensures)
 
 pub restored-copy-spec : {M : Type 1} → statement M
-restored-copy-spec =
-    tie.close
-    (tie.spec
-    (λ c κs. search needs)
-    returns
-    (λ c κs. search needs)
-    (λ c. search needs)
-    (λ c κs. search needs)
-    (λ c. search needs)
-    (λ c. search needs)
-    (λ c κs. search needs)
-    returns-2
-    returns-3)
+restored-copy-spec = tie.close (tie.spec (λ c κs. search needs) returns (λ c κs. search needs) (λ c. search needs) (λ c κs. search needs)
+    (λ c. search needs) (λ c. search needs) (λ c κs. search needs) returns-2 returns-3)

@@ -12,6 +12,4 @@ returns c =
     simp append-assoc at (writes-on (first .put-field .ensures .0) (second .put-bytes .ensures))
 
 pub put-blank-spec : {M : Type 1} → statement M
-put-blank-spec =
-    tie.close
-    (tie.spec (λ c κs. search needs) (λ c. search needs) (λ c κs. search needs) (λ c. search needs) returns)
+put-blank-spec = tie.close (tie.spec (λ c κs. search needs) (λ c. search needs) (λ c κs. search needs) (λ c. search needs) returns)

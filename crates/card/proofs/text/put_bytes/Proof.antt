@@ -16,26 +16,7 @@ Inv-loop out₀ at text next₀ i₀ out next i =
 abbrev μ-loop : tie.MeasureT-loop
 μ-loop out₀ at text next₀ i₀ out next i = length text - i
 
-loop-holds : tie.Need-loop-holds Inv-loop μ-loop
-loop-holds c = (omega arith, omega arith, refl, writes-none _ _ (omega arith))
-
-loop-again : tie.Need-loop-again Inv-loop μ-loop
-loop-again c = search (needs, writes-more)
-
-returns : tie.Need-returns Inv-loop μ-loop
-returns c = search (needs, writes-all)
-
 pub put-bytes-spec : {M : Type 1} → statement M
-put-bytes-spec =
-    tie.close
-    (tie.spec
-    Inv-loop
-    μ-loop
-    loop-holds
-    (λ c. search needs)
-    (λ c κs. search needs)
-    (λ c. search needs)
-    (λ c. search needs)
-    loop-again
-    (λ c. search needs)
-    returns)
+put-bytes-spec = tie.close (tie.spec Inv-loop μ-loop (λ c. (omega arith, omega arith, refl, writes-none _ _ (omega arith))) (λ c. search needs)
+    (λ c κs. search needs) (λ c. search needs) (λ c. search needs) (λ c. search (needs, writes-more)) (λ c. search needs)
+    (λ c. search (needs, writes-all)))

@@ -5,12 +5,6 @@ use Rattle.card.proofs.Writing.{writes-on, length-decimal}
 use Rattle.card.proofs.text.put_field.Statement.{statement}
 use Rattle.card.proofs.text.put_field.Tie as tie
 
-put-decimal-requires : tie.Need-put-decimal-requires
-put-decimal-requires c κs = omega (arith, length-decimal (c .before .before .args .n))
-
-put-byte-requires : tie.Need-put-byte-requires
-put-byte-requires c κs = omega (arith, length-decimal (c .before .before .before .before .before .before .args .n))
-
 returns : tie.Need-returns
 returns c =
     let called = c .before .before .before .before .before .before in
@@ -18,4 +12,5 @@ returns c =
     (writes-on (called .put-decimal .ensures) (c .before .before .put-byte .ensures), omega (arith, few))
 
 pub put-field-spec : {M : Type 1} → statement M
-put-field-spec = tie.close (tie.spec put-decimal-requires put-byte-requires (λ c. search needs) returns)
+put-field-spec = tie.close (tie.spec (λ c κs. omega (arith, length-decimal (c .before .before .args .n)))
+    (λ c κs. omega (arith, length-decimal (c .before .before .before .before .before .before .args .n))) (λ c. search needs) returns)

@@ -15,13 +15,5 @@ returns c =
     simp append-assoc at (writes-on three (c .before .before .put-field3 .ensures .0))
 
 pub put-total-spec : {M : Type 1} → statement M
-put-total-spec =
-    tie.close
-    (tie.spec
-    (λ c. search needs)
-    (λ c κs. search needs)
-    (λ c κs. search needs)
-    (λ c κs. search needs)
-    (λ c κs. search needs)
-    (λ c. search needs)
-    returns)
+put-total-spec = tie.close (tie.spec (λ c. search needs) (λ c κs. search needs) (λ c κs. search needs) (λ c κs. search needs) (λ c κs. search needs)
+    (λ c. search needs) returns)

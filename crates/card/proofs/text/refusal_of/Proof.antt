@@ -7,8 +7,6 @@ use Rattle.card.specs.Listing.{refusalOf}
 use Rattle.card.proofs.text.refusal_of.Statement.{statement}
 use Rattle.card.proofs.text.refusal_of.Tie as tie
 
-returns-2 : tie.Need-returns-2
-returns-2 c = c .refusal-number .ensures ∙ sym (ap (λ (x : Repair). refusalOf (repair x)) (c .before .before .answer .given .1))
-
 pub refusal-of-spec : {M : Type 1} → statement M
-refusal-of-spec = tie.close (tie.spec (λ c. search needs) (λ c. search needs) (λ c κs. search needs) (λ c. search needs) returns-2)
+refusal-of-spec = tie.close (tie.spec (λ c. search needs) (λ c. search needs) (λ c κs. search needs) (λ c. search needs)
+    (λ c. c .refusal-number .ensures ∙ sym (ap (λ (x : Repair). refusalOf (repair x)) (c .before .before .answer .given .1))))

@@ -13,20 +13,11 @@ use Rattle.code.proofs.asking.ask_read_data.Tie as tie
 abbrev start : tie.After-zero-syndromes → tie.Start
 start s = s .before .before .before .before .before
 
-ask-slices-requires : tie.Need-ask-slices-requires
-ask-slices-requires c κs = search needs
-
-enum-told : tie.Need-enum-told
-enum-told c = search needs
-
 zero-syndromes-requires : tie.Need-zero-syndromes-requires
 zero-syndromes-requires c κs =
     let v = c .before .before .ask-slices in
     let a = c .before .before .before .before .args in
     slices-long (a .width) _ _ (a .word .now) (v .result) (v .ensures) (search needs)
-
-enum-known-q : tie.Need-enum-known-q
-enum-known-q c = search needs
 
 -- question 9 is answered c
 answer : (s : tie.After-zero-syndromes) (c : Bool) → s .zero-syndromes .result ≡ c
@@ -40,12 +31,6 @@ answer s c t =
     (s .zero-syndromes .ensures (slices-width m _ _ w (v .result) (v .ensures) p) (slices-word m _ _ w (v .result) (v .ensures) p)
     (slices-symbols m _ _ w (v .result) (v .ensures) p)) t
 
-returns : tie.Need-returns
-returns c = answer (c .before) true (c .if1 .taken)
-
-returns-2 : tie.Need-returns-2
-returns-2 c = answer (c .before) false (c .if1 .left)
-
 returns-3 : tie.Need-returns-3
 returns-3 c =
     let v = c .before .before .before .ask-slices in
@@ -53,13 +38,5 @@ returns-3 c =
     read-stop (a .width) _ (a .word .now) (v .result) (v .ensures) _ (search needs)
 
 pub ask-read-data-spec : {M : Type 1} → statement M
-ask-read-data-spec =
-    tie.close
-    (tie.spec
-    ask-slices-requires
-    enum-told
-    zero-syndromes-requires
-    enum-known-q
-    returns
-    returns-2
-    returns-3)
+ask-read-data-spec = tie.close (tie.spec (λ c κs. search needs) (λ c. search needs) zero-syndromes-requires (λ c. search needs)
+    (λ c. answer (c .before) true (c .if1 .taken)) (λ c. answer (c .before) false (c .if1 .left)) returns-3)

@@ -18,18 +18,6 @@ passed s =
     let p : v .result ≡ Passed = search needs in
     sym (v .ensures) ∙ p
 
-ask-restore-requires : tie.Need-ask-restore-requires
-ask-restore-requires c κs = search needs
-
-enum-told : tie.Need-enum-told
-enum-told c = search needs
-
-radius-of-requires : tie.Need-radius-of-requires
-radius-of-requires c κs = search needs
-
-enum-known-q : tie.Need-enum-known-q
-enum-known-q c = search needs
-
 returns : tie.Need-returns
 returns c =
     let s = c .before in
@@ -51,13 +39,5 @@ returns-3 c =
     sym (within-stop (a .width) (a .word .now) (a .erasures .now) (a .reach) _ (sym (v .ensures) ∙ search needs))
 
 pub ask-within-spec : {M : Type 1} → statement M
-ask-within-spec =
-    tie.close
-    (tie.spec
-    ask-restore-requires
-    enum-told
-    radius-of-requires
-    enum-known-q
-    returns
-    returns-2
+ask-within-spec = tie.close (tie.spec (λ c κs. search needs) (λ c. search needs) (λ c κs. search needs) (λ c. search needs) returns returns-2
     returns-3)

@@ -34,15 +34,6 @@ module _ (s : tie.After-place-at2) where
   double : t .count ≡ 2 → placesOf t ≡ p ∷ q ∷ []
   double e = first-places (t .places) (t .count) p q room e (s .before .place-at .ensures) (s .place-at2 .ensures)
 
-place-at-requires : tie.Need-place-at-requires
-place-at-requires c κs = search needs
-
-place-at-requires-2 : tie.Need-place-at-requires-2
-place-at-requires-2 c κs = search needs
-
-range-of-requires : tie.Need-range-of-requires
-range-of-requires c κs = search needs
-
 returns : tie.Need-returns
 returns c = λ m w R L.
     (let h = c .before .if2 .taken in
@@ -50,9 +41,6 @@ returns c = λ m w R L.
     let s = i1 .before in
     let E = single s (i1 .if1 .taken) in
     c .range-of .ensures m w (placesOf (t s)) (rows-one R (p s) E h _ (L .one (p s) E h)))
-
-range-of-requires-2 : tie.Need-range-of-requires-2
-range-of-requires-2 c κs = search needs
 
 returns-2 : tie.Need-returns-2
 returns-2 c = λ m w R L.
@@ -62,9 +50,6 @@ returns-2 c = λ m w R L.
     let E = single s (i1 .if1 .taken) in
     c .range-of2 .ensures m w (placesOf (t s))
     (subst (λ (u : List ℕ). Tell m w (placesOf (t s)) 1 (at u)) (sym (L .check (p s) E h)) (rows-check R (p s) E h)))
-
-range-of-requires-3 : tie.Need-range-of-requires-3
-range-of-requires-3 c κs = search needs
 
 returns-3 : tie.Need-returns-3
 returns-3 c = λ m w R L.
@@ -76,27 +61,6 @@ returns-3 c = λ m w R L.
     c .range-of3 .ensures m w (placesOf (t s))
     (rows-two R (p s) _ refl (q s) E (i4 .if4 .taken) (i5 .if5 .taken) _ (L .two (p s) (q s) E (i4 .if4 .taken) (i5 .if5 .taken))))
 
-returns-4 : tie.Need-returns-4
-returns-4 c = search needs
-
-returns-5 : tie.Need-returns-5
-returns-5 c = search needs
-
-returns-6 : tie.Need-returns-6
-returns-6 c = search needs
-
 pub candidate-checks-spec : {M : Type 1} → statement M
-candidate-checks-spec =
-    tie.close
-    (tie.spec
-    place-at-requires
-    place-at-requires-2
-    range-of-requires
-    returns
-    range-of-requires-2
-    returns-2
-    range-of-requires-3
-    returns-3
-    returns-4
-    returns-5
-    returns-6)
+candidate-checks-spec = tie.close (tie.spec (λ c κs. search needs) (λ c κs. search needs) (λ c κs. search needs) returns (λ c κs. search needs)
+    returns-2 (λ c κs. search needs) returns-3 (λ c. search needs) (λ c. search needs) (λ c. search needs))

@@ -10,9 +10,6 @@ use Rattle.code.proofs.finding.Locating.{column-point}
 use Rattle.code.proofs.beside.eliminated.Statement.{statement}
 use Rattle.code.proofs.beside.eliminated.Tie as tie
 
-entry-times-requires : tie.Need-entry-times-requires
-entry-times-requires c κs = search needs
-
 returns : tie.Need-returns
 returns c = λ w h l.
     (let a = c .before .args in
@@ -21,4 +18,4 @@ returns c = λ w h l.
     ∙ ap (add (a .high)) (c .entry-times .ensures w l ∙ ap (λ (n : ℕ). product m n (a .low)) (column-point (field-of m w) (a .a .0) (a .h) h)))
 
 pub eliminated-spec : {M : Type 1} → statement M
-eliminated-spec = tie.close (tie.spec entry-times-requires returns)
+eliminated-spec = tie.close (tie.spec (λ c κs. search needs) returns)

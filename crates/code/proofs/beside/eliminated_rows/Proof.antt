@@ -13,12 +13,6 @@ use Rattle.code.proofs.beside.eliminated_rows.Tie as tie
 room : (s : tie.After-place-at) → length (s .before .before .args .t .places) ≡ unknowns
 room s = search (needs, held-length)
 
-place-at-requires : tie.Need-place-at-requires
-place-at-requires c κs = search needs
-
-without-one-requires : tie.Need-without-one-requires
-without-one-requires c κs = search needs
-
 returns : tie.Need-returns
 returns c =
     let s = c .before .before in
@@ -26,12 +20,6 @@ returns c =
     let p = s .place-at in
     let E = first-place (a .t .places) (a .t .count) (p .result .0) (room s) (c .before .if1 .taken) (p .ensures) in
     λ w R. eliminated-single (a .width) (placesOf (a .t)) (a .t .sums) _ (p .result .0) E (c .without-one .ensures w R)
-
-place-at-requires-2 : tie.Need-place-at-requires-2
-place-at-requires-2 c κs = search needs
-
-without-two-requires : tie.Need-without-two-requires
-without-two-requires c κs = search needs
 
 returns-2 : tie.Need-returns-2
 returns-2 c =
@@ -45,12 +33,5 @@ returns-2 c =
     λ w R. eliminated-double (a .width) (placesOf (a .t)) (a .t .sums) _ (p .result .0) (q .result .0) E (c .without-two .ensures w R)
 
 pub eliminated-rows-spec : {M : Type 1} → statement M
-eliminated-rows-spec =
-    tie.close
-    (tie.spec
-    place-at-requires
-    without-one-requires
-    returns
-    place-at-requires-2
-    without-two-requires
+eliminated-rows-spec = tie.close (tie.spec (λ c κs. search needs) (λ c κs. search needs) returns (λ c κs. search needs) (λ c κs. search needs)
     returns-2)

@@ -10,18 +10,12 @@ use Rattle.code.proofs.finding.CheckPlaces.{none-alone}
 use Rattle.code.proofs.beside.erasures_excluded.Statement.{statement}
 use Rattle.code.proofs.beside.erasures_excluded.Tie as tie
 
-listed-requires : tie.Need-listed-requires
-listed-requires c κs = search needs
-
 returns : tie.Need-returns
 returns c =
     let l = c .before in
     let a = l .before .before .before .before .before .args in
     λ h m w R out. none-alone m w (placesOf (a .t)) (a .f .low .0) (a .f .high .0) 0 out (omega arith) (λ b u. omega (arith, b, l .if1 .taken)) (omega arith)
     (sym (c .listed .ensures) ∙ not-true (c .listed .result) h)
-
-listed-requires-2 : tie.Need-listed-requires-2
-listed-requires-2 c κs = search needs
 
 returns-2 : tie.Need-returns-2
 returns-2 c =
@@ -30,9 +24,5 @@ returns-2 c =
     λ h m w R out. none-alone m w (placesOf (a .t)) (a .f .low .0) (a .f .high .0) 4 out (omega arith) (λ b u. omega (arith, u, l .if2 .taken))
     (omega (arith, field-of m (R .width) .one-lt)) (sym (c .listed2 .ensures) ∙ not-true (c .listed2 .result) h)
 
-returns-3 : tie.Need-returns-3
-returns-3 c = λ h. absurd (false≢true h)
-
 pub erasures-excluded-spec : {M : Type 1} → statement M
-erasures-excluded-spec =
-    tie.close (tie.spec listed-requires returns listed-requires-2 returns-2 returns-3)
+erasures-excluded-spec = tie.close (tie.spec (λ c κs. search needs) returns (λ c κs. search needs) returns-2 (λ c h. absurd (false≢true h)))

@@ -22,29 +22,11 @@ module _ (f : tie.After-candidate-checks) (R : Ready (start f .args .width) (sta
   outside : NoneOutside (start f .args .width) (start f .args .word .now) (placesOf (start f .args .t)) (f .candidate-checks .result .low .0) (f .candidate-checks .result .high .0)
   outside = f .candidate-checks .ensures _ _ R left
 
-eliminated-rows-requires : tie.Need-eliminated-rows-requires
-eliminated-rows-requires c κs = search needs
-
-candidate-checks-requires : tie.Need-candidate-checks-requires
-candidate-checks-requires c κs = search needs
-
-solve-erasures-requires : tie.Need-solve-erasures-requires
-solve-erasures-requires c κs = search needs
-
-solved-requires : tie.Need-solved-requires
-solved-requires c κs = search needs
-
 returns : tie.Need-returns
 returns c =
     let y = c .before .solved in
     let b = c .before .before in
     (b .solve-erasures .ensures .0, λ R cube. searched-found zero-le (y .result) (y .ensures) (c .if1 .taken) (b .solve-erasures .ensures .1 _ R (outside (b .before) R)))
-
-try-data-requires : tie.Need-try-data-requires
-try-data-requires c κs = search needs
-
-solved-requires-2 : tie.Need-solved-requires-2
-solved-requires-2 c κs = search needs
 
 returns-2 : tie.Need-returns-2
 returns-2 c =
@@ -54,9 +36,6 @@ returns-2 c =
       d .try-data .ensures .0,
       λ R cube. searched-found (le-refl 1) (y .result) (y .ensures) (c .if2 .taken) (d .try-data .ensures .1 R (left f R) cube),
     )
-
-try-checks-requires : tie.Need-try-checks-requires
-try-checks-requires c κs = search needs
 
 returns-3 : tie.Need-returns-3
 returns-3 c =
@@ -75,16 +54,5 @@ returns-3 c =
     )
 
 pub find-beside-spec : {M : Type 1} → statement M
-find-beside-spec =
-    tie.close
-    (tie.spec
-    eliminated-rows-requires
-    candidate-checks-requires
-    solve-erasures-requires
-    solved-requires
-    returns
-    try-data-requires
-    solved-requires-2
-    returns-2
-    try-checks-requires
-    returns-3)
+find-beside-spec = tie.close (tie.spec (λ c κs. search needs) (λ c κs. search needs) (λ c κs. search needs) (λ c κs. search needs) returns
+    (λ c κs. search needs) (λ c κs. search needs) returns-2 (λ c κs. search needs) returns-3)

@@ -16,27 +16,6 @@ Inv-loop n rows end f₀ k₀ f k =
 abbrev μ-loop : tie.MeasureT-loop
 μ-loop n rows end f₀ k₀ f k = end - k
 
-sub-end : tie.Need-sub-end Inv-loop μ-loop
-sub-end c = search needs
-
-loop-holds : tie.Need-loop-holds Inv-loop μ-loop
-loop-holds c = search needs
-
-cast-narrowed : tie.Need-cast-narrowed Inv-loop μ-loop
-cast-narrowed c = search needs
-
-array-read-narrowed : tie.Need-array-read-narrowed Inv-loop μ-loop
-array-read-narrowed c = search needs
-
-narrowed-requires : tie.Need-narrowed-requires Inv-loop μ-loop
-narrowed-requires c κs = search needs
-
-add-k : tie.Need-add-k Inv-loop μ-loop
-add-k c = search needs
-
-loop-less : tie.Need-loop-less Inv-loop μ-loop
-loop-less c = search needs
-
 loop-again : tie.Need-loop-again Inv-loop μ-loop
 loop-again c =
     let l = c .before .before in
@@ -47,21 +26,6 @@ loop-again c =
       λ m w es T. c .narrowed .ensures m w es (l .loop .inv .2 m w es T) (λ x. T k fits x),
     )
 
-returns : tie.Need-returns Inv-loop μ-loop
-returns c = search needs
-
 pub range-of-spec : {M : Type 1} → statement M
-range-of-spec =
-    tie.close
-    (tie.spec
-    Inv-loop
-    μ-loop
-    sub-end
-    loop-holds
-    cast-narrowed
-    array-read-narrowed
-    narrowed-requires
-    add-k
-    loop-less
-    loop-again
-    returns)
+range-of-spec = tie.close (tie.spec Inv-loop μ-loop (λ c. search needs) (λ c. search needs) (λ c. search needs) (λ c. search needs)
+    (λ c κs. search needs) (λ c. search needs) (λ c. search needs) loop-again (λ c. search needs))

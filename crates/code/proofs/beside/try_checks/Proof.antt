@@ -15,26 +15,11 @@ Inv-loop width word t end p₀ p = Ready width word t → Sought (λ i. NoneBesi
 abbrev μ-loop : tie.MeasureT-loop
 μ-loop width word t end p₀ p = end - p
 
-loop-holds : tie.Need-loop-holds Inv-loop μ-loop
-loop-holds c = λ R. sought-start _ _
-
-try-place-requires : tie.Need-try-place-requires Inv-loop μ-loop
-try-place-requires c κs = search needs
-
-solved-requires : tie.Need-solved-requires Inv-loop μ-loop
-solved-requires c κs = search needs
-
 returns : tie.Need-returns Inv-loop μ-loop
 returns c =
     let y = c .before .solved in
     let x = c .before .before .try-place in
     (x .ensures .0, λ R out. searched-found (le-refl 1) (y .result) (y .ensures) (c .if1 .taken) (x .ensures .1 R))
-
-add-p : tie.Need-add-p Inv-loop μ-loop
-add-p c = search needs
-
-loop-less : tie.Need-loop-less Inv-loop μ-loop
-loop-less c = search needs
 
 loop-again : tie.Need-loop-again Inv-loop μ-loop
 loop-again c = λ R.
@@ -43,9 +28,6 @@ loop-again c = λ R.
     let l = c .before .before .before .before in
     sought-on _ _ (l .loop .p) (l .loop .inv R)
     (x .ensures .1 R .none (searched-nothing (x .result) (y .result) (y .ensures) (c .if1 .left))))
-
-nothing-requires : tie.Need-nothing-requires Inv-loop μ-loop
-nothing-requires c κs = search needs
 
 returns-2 : tie.Need-returns-2 Inv-loop μ-loop
 returns-2 c =
@@ -57,17 +39,5 @@ returns-2 c =
     )
 
 pub try-checks-spec : {M : Type 1} → statement M
-try-checks-spec =
-    tie.close
-    (tie.spec
-    Inv-loop
-    μ-loop
-    loop-holds
-    try-place-requires
-    solved-requires
-    returns
-    add-p
-    loop-less
-    loop-again
-    nothing-requires
-    returns-2)
+try-checks-spec = tie.close (tie.spec Inv-loop μ-loop (λ c R. sought-start _ _) (λ c κs. search needs) (λ c κs. search needs) returns
+    (λ c. search needs) (λ c. search needs) loop-again (λ c κs. search needs) returns-2)

@@ -27,15 +27,6 @@ single l =
     let one : t .count ≡ 1 = omega (arith, s .before .before .before .pre, l .if1 .left) in
     first-place (t .places) (t .count) (s .place-at .result .0) (room s) one (s .place-at .ensures)
 
-place-at-requires : tie.Need-place-at-requires
-place-at-requires c κs = search needs
-
-place-at-requires-2 : tie.Need-place-at-requires-2
-place-at-requires-2 c κs = search needs
-
-try-data-beside-two-requires : tie.Need-try-data-beside-two-requires
-try-data-beside-two-requires c κs = search needs
-
 returns : tie.Need-returns
 returns c =
     let i1 = c .before .before in
@@ -46,9 +37,6 @@ returns c =
     let E = first-places (t .places) (t .count) (p .result .0) (q .result .0) (room s) (i1 .if1 .taken) (p .ensures) (q .ensures) in
     (c .try-data-beside-two .ensures .0, λ R L cube. c .try-data-beside-two .ensures .1 R L E (cube (i1 .if1 .taken)))
 
-try-data-beside-checks-requires : tie.Need-try-data-beside-checks-requires
-try-data-beside-checks-requires c κs = search needs
-
 returns-2 : tie.Need-returns-2
 returns-2 c =
     let l = c .before .before .before in
@@ -58,15 +46,6 @@ returns-2 c =
       λ R L cube. c .try-data-beside-checks .ensures .1 R (subst (λ (xs : List ℕ). allBelow checks xs ≡ true) (sym E) (below-one p (c .before .if2 .taken)))
           (subst (λ (xs : List ℕ). Only xs p p) (sym E) (only-one p p)),
     )
-
-array-read-try-root : tie.Need-array-read-try-root
-array-read-try-root c = search needs
-
-array-read-try-root-2 : tie.Need-array-read-try-root-2
-array-read-try-root-2 c = search needs
-
-try-root-requires : tie.Need-try-root-requires
-try-root-requires c κs = search needs
 
 returns-3 : tie.Need-returns-3
 returns-3 c =
@@ -80,16 +59,5 @@ returns-3 c =
     )
 
 pub try-data-spec : {M : Type 1} → statement M
-try-data-spec =
-    tie.close
-    (tie.spec
-    place-at-requires
-    place-at-requires-2
-    try-data-beside-two-requires
-    returns
-    try-data-beside-checks-requires
-    returns-2
-    array-read-try-root
-    array-read-try-root-2
-    try-root-requires
-    returns-3)
+try-data-spec = tie.close (tie.spec (λ c κs. search needs) (λ c κs. search needs) (λ c κs. search needs) returns (λ c κs. search needs) returns-2
+    (λ c. search needs) (λ c. search needs) (λ c κs. search needs) returns-3)

@@ -5,30 +5,6 @@ use Rattle.code.proofs.finding.BesideWays.{between-linear, between-squa
 use Rattle.code.proofs.beside.try_data_beside_checks.Statement.{statement}
 use Rattle.code.proofs.beside.try_data_beside_checks.Tie as tie
 
-rows-between-requires : tie.Need-rows-between-requires
-rows-between-requires c κs = search needs
-
-cast-gap : tie.Need-cast-gap
-cast-gap c = search needs
-
-cast-k : tie.Need-cast-k
-cast-k c = search needs
-
-array-read-low : tie.Need-array-read-low
-array-read-low c = search needs
-
-add-high : tie.Need-add-high
-add-high c = search needs
-
-array-read-high : tie.Need-array-read-high
-array-read-high c = search needs
-
-try-root-requires : tie.Need-try-root-requires
-try-root-requires c κs = search needs
-
-try-root-requires-2 : tie.Need-try-root-requires-2
-try-root-requires-2 c κs = search needs
-
 returns : tie.Need-returns
 returns c =
     let k = c .before .before .before .before in
@@ -48,16 +24,5 @@ returns-2 c =
     )
 
 pub try-data-beside-checks-spec : {M : Type 1} → statement M
-try-data-beside-checks-spec =
-    tie.close
-    (tie.spec
-    rows-between-requires
-    cast-gap
-    cast-k
-    array-read-low
-    add-high
-    array-read-high
-    try-root-requires
-    try-root-requires-2
-    returns
-    returns-2)
+try-data-beside-checks-spec = tie.close (tie.spec (λ c κs. search needs) (λ c. search needs) (λ c. search needs) (λ c. search needs)
+    (λ c. search needs) (λ c. search needs) (λ c κs. search needs) (λ c κs. search needs) returns returns-2)

@@ -8,45 +8,6 @@ use Rattle.code.proofs.finding.BesideWays.{eliminated-data}
 use Rattle.code.proofs.beside.try_data_beside_data_and_check.Statement.{statement}
 use Rattle.code.proofs.beside.try_data_beside_data_and_check.Tie as tie
 
-rows-beside-requires : tie.Need-rows-beside-requires
-rows-beside-requires c κs = search needs
-
-cast-k : tie.Need-cast-k
-cast-k c = search needs
-
-cast-j : tie.Need-cast-j
-cast-j c = search needs
-
-add-j : tie.Need-add-j
-add-j c = search needs
-
-array-read-eliminated : tie.Need-array-read-eliminated
-array-read-eliminated c = search needs
-
-array-read-eliminated-2 : tie.Need-array-read-eliminated-2
-array-read-eliminated-2 c = search needs
-
-eliminated-requires : tie.Need-eliminated-requires
-eliminated-requires c κs = search needs
-
-add-eliminated : tie.Need-add-eliminated
-add-eliminated c = search needs
-
-array-read-eliminated-3 : tie.Need-array-read-eliminated-3
-array-read-eliminated-3 c = search needs
-
-add-eliminated-2 : tie.Need-add-eliminated-2
-add-eliminated-2 c = search needs
-
-array-read-eliminated-4 : tie.Need-array-read-eliminated-4
-array-read-eliminated-4 c = search needs
-
-eliminated-requires-2 : tie.Need-eliminated-requires-2
-eliminated-requires-2 c κs = search needs
-
-try-root-requires : tie.Need-try-root-requires
-try-root-requires c κs = search needs
-
 returns : tie.Need-returns
 returns c =
     let e2 = c .before in
@@ -62,20 +23,6 @@ returns c =
     )
 
 pub try-data-beside-data-and-check-spec : {M : Type 1} → statement M
-try-data-beside-data-and-check-spec =
-    tie.close
-    (tie.spec
-    rows-beside-requires
-    cast-k
-    cast-j
-    add-j
-    array-read-eliminated
-    array-read-eliminated-2
-    eliminated-requires
-    add-eliminated
-    array-read-eliminated-3
-    add-eliminated-2
-    array-read-eliminated-4
-    eliminated-requires-2
-    try-root-requires
-    returns)
+try-data-beside-data-and-check-spec = tie.close (tie.spec (λ c κs. search needs) (λ c. search needs) (λ c. search needs) (λ c. search needs)
+    (λ c. search needs) (λ c. search needs) (λ c κs. search needs) (λ c. search needs) (λ c. search needs) (λ c. search needs) (λ c. search needs)
+    (λ c κs. search needs) (λ c κs. search needs) returns)

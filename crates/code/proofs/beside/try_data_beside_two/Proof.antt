@@ -12,9 +12,6 @@ use Rattle.code.proofs.finding.BesideWays.{eliminated-two, only-one, on
 use Rattle.code.proofs.beside.try_data_beside_two.Statement.{statement}
 use Rattle.code.proofs.beside.try_data_beside_two.Tie as tie
 
-try-data-beside-data-and-check-requires : tie.Need-try-data-beside-data-and-check-requires
-try-data-beside-data-and-check-requires c κs = search needs
-
 returns : tie.Need-returns
 returns c =
     let t1 = c .before .before in
@@ -23,9 +20,6 @@ returns c =
       λ R L E cube. c .try-data-beside-data-and-check .ensures .1 R (a .p .0 ∷ []) (subst (λ (xs : List ℕ). Arranged xs (a .q .0 ∷ a .p .0 ∷ [])) (sym E) swapped)
           (c .before .if2 .taken) (below-one (a .p .0) (t1 .if1 .taken)) (only-one (a .p .0) (a .p .0)) (λ e. cube),
     )
-
-try-data-beside-checks-requires : tie.Need-try-data-beside-checks-requires
-try-data-beside-checks-requires c κs = search needs
 
 returns-2 : tie.Need-returns-2
 returns-2 c =
@@ -38,9 +32,6 @@ returns-2 c =
           (subst (λ (xs : List ℕ). Only xs (a .p .0) (a .q .0)) (sym E) (only-two (a .p .0) (a .q .0))),
     )
 
-try-data-beside-checks-requires-2 : tie.Need-try-data-beside-checks-requires-2
-try-data-beside-checks-requires-2 c κs = search needs
-
 returns-3 : tie.Need-returns-3
 returns-3 c =
     let l2 = c .before .before in
@@ -52,9 +43,6 @@ returns-3 c =
           (subst (λ (xs : List ℕ). Only xs (a .q .0) (a .p .0)) (sym E) (only-swap (a .p .0) (a .q .0))),
     )
 
-try-data-beside-data-and-check-requires-2 : tie.Need-try-data-beside-data-and-check-requires-2
-try-data-beside-data-and-check-requires-2 c κs = search needs
-
 returns-4 : tie.Need-returns-4
 returns-4 c =
     let l1 = c .before .before in
@@ -63,15 +51,6 @@ returns-4 c =
       λ R L E cube. c .try-data-beside-data-and-check2 .ensures .1 R (a .q .0 ∷ []) (subst (λ (xs : List ℕ). Arranged xs (a .p .0 ∷ a .q .0 ∷ [])) (sym E) same)
           (l1 .if1 .left) (below-one (a .q .0) (c .before .if4 .taken)) (only-one (a .q .0) (a .q .0)) (λ e. cube),
     )
-
-array-read-try-root : tie.Need-array-read-try-root
-array-read-try-root c = search needs
-
-array-read-try-root-2 : tie.Need-array-read-try-root-2
-array-read-try-root-2 c = search needs
-
-try-root-requires : tie.Need-try-root-requires
-try-root-requires c κs = search needs
 
 returns-5 : tie.Need-returns-5
 returns-5 c =
@@ -85,18 +64,5 @@ returns-5 c =
     )
 
 pub try-data-beside-two-spec : {M : Type 1} → statement M
-try-data-beside-two-spec =
-    tie.close
-    (tie.spec
-    try-data-beside-data-and-check-requires
-    returns
-    try-data-beside-checks-requires
-    returns-2
-    try-data-beside-checks-requires-2
-    returns-3
-    try-data-beside-data-and-check-requires-2
-    returns-4
-    array-read-try-root
-    array-read-try-root-2
-    try-root-requires
-    returns-5)
+try-data-beside-two-spec = tie.close (tie.spec (λ c κs. search needs) returns (λ c κs. search needs) returns-2 (λ c κs. search needs) returns-3
+    (λ c κs. search needs) returns-4 (λ c. search needs) (λ c. search needs) (λ c κs. search needs) returns-5)

@@ -8,22 +8,10 @@ use Rattle.code.proofs.restoring.Trying.{searched-outside, searched-lis
 use Rattle.code.proofs.beside.try_place.Statement.{statement}
 use Rattle.code.proofs.beside.try_place.Tie as tie
 
-cast-i : tie.Need-cast-i
-cast-i c = search needs
-
-nothing-requires : tie.Need-nothing-requires
-nothing-requires c κs = search needs
-
 returns : tie.Need-returns
 returns c =
     let a = c .before .before .before .before .before .args in
     (c .nothing .ensures .0, λ R. searched-outside (a .p .0) (c .nothing .ensures .1) (omega (arith, R .lent .size, c .before .if1 .taken)))
-
-listed-requires : tie.Need-listed-requires
-listed-requires c κs = search needs
-
-nothing-requires-2 : tie.Need-nothing-requires-2
-nothing-requires-2 c κs = search needs
 
 returns-2 : tie.Need-returns-2
 returns-2 c =
@@ -32,15 +20,6 @@ returns-2 c =
       c .nothing2 .ensures .0,
       λ R. searched-listed (a .p .0) (c .nothing2 .ensures .1) (l .listed .result) (l .listed .ensures) (c .before .if2 .taken),
     )
-
-shared-slice-read-extended : tie.Need-shared-slice-read-extended
-shared-slice-read-extended c = search needs
-
-extended-requires : tie.Need-extended-requires
-extended-requires c κs = search needs
-
-solve-trial-requires : tie.Need-solve-trial-requires
-solve-trial-requires c κs = search needs
 
 returns-3 : tie.Need-returns-3
 returns-3 c =
@@ -57,16 +36,5 @@ returns-3 c =
     )
 
 pub try-place-spec : {M : Type 1} → statement M
-try-place-spec =
-    tie.close
-    (tie.spec
-    cast-i
-    nothing-requires
-    returns
-    listed-requires
-    nothing-requires-2
-    returns-2
-    shared-slice-read-extended
-    extended-requires
-    solve-trial-requires
-    returns-3)
+try-place-spec = tie.close (tie.spec (λ c. search needs) (λ c κs. search needs) returns (λ c κs. search needs) (λ c κs. search needs) returns-2
+    (λ c. search needs) (λ c κs. search needs) (λ c κs. search needs) returns-3)

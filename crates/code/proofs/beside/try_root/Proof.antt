@@ -7,15 +7,6 @@ use Rattle.code.proofs.finding.BesideWays.{root-out, root-place}
 use Rattle.code.proofs.beside.try_root.Statement.{statement}
 use Rattle.code.proofs.beside.try_root.Tie as tie
 
-items-of-requires : tie.Need-items-of-requires
-items-of-requires c κs = search needs
-
-first-root-requires : tie.Need-first-root-requires
-first-root-requires c κs = search needs
-
-nothing-requires : tie.Need-nothing-requires
-nothing-requires c κs = search needs
-
 returns : tie.Need-returns
 returns c =
     let r = c .before .before .before .before in
@@ -25,12 +16,6 @@ returns c =
       λ R. root-out (a .width) (R .width) (a .word .now) (placesOf (a .t)) (a .square) (a .linear) (a .constant) _ (i .result)
           (omega (arith, R .lent .size, i .ensures .0)) (r .first-root .result) (r .first-root .ensures .1) (c .nothing .ensures .1) (c .before .if1 .taken),
     )
-
-place-of-requires : tie.Need-place-of-requires
-place-of-requires c κs = search needs
-
-try-place-requires : tie.Need-try-place-requires
-try-place-requires c κs = search needs
 
 returns-2 : tie.Need-returns-2
 returns-2 c =
@@ -45,13 +30,5 @@ returns-2 c =
     )
 
 pub try-root-spec : {M : Type 1} → statement M
-try-root-spec =
-    tie.close
-    (tie.spec
-    items-of-requires
-    first-root-requires
-    nothing-requires
-    returns
-    place-of-requires
-    try-place-requires
-    returns-2)
+try-root-spec = tie.close (tie.spec (λ c κs. search needs) (λ c κs. search needs) (λ c κs. search needs) returns (λ c κs. search needs)
+    (λ c κs. search needs) returns-2)

@@ -12,12 +12,6 @@ use Rattle.code.proofs.finding.CheckPlaces.{first-lt}
 use Rattle.code.proofs.beside.without_two.Statement.{statement}
 use Rattle.code.proofs.beside.without_two.Tie as tie
 
-differences-requires : tie.Need-differences-requires
-differences-requires c κs = search needs
-
-differences-requires-2 : tie.Need-differences-requires-2
-differences-requires-2 c κs = search needs
-
 returns : tie.Need-returns
 returns c = λ w R hp hq.
     (let d = c .before in
@@ -26,12 +20,6 @@ returns c = λ w R hp hq.
     c .differences2 .ensures (R .width) hq (first-lt R (a .p .0) (d .differences .result) first)
     ∙ ap (λ (v : List ℕ). five (eliminate (a .width) 1 (point (a .width) (a .q .0)) (at v))) first)
 
-returns-2 : tie.Need-returns-2
-returns-2 c = λ w R hp hq. absurd (omega (arith, hp, hq, c .if2 .left))
-
-returns-3 : tie.Need-returns-3
-returns-3 c = λ w R hp hq. absurd (omega (arith, hp, hq, c .if1 .left))
-
 pub without-two-spec : {M : Type 1} → statement M
-without-two-spec =
-    tie.close (tie.spec differences-requires differences-requires-2 returns returns-2 returns-3)
+without-two-spec = tie.close (tie.spec (λ c κs. search needs) (λ c κs. search needs) returns
+    (λ c w R hp hq. absurd (omega (arith, hp, hq, c .if2 .left))) (λ c w R hp hq. absurd (omega (arith, hp, hq, c .if1 .left))))

@@ -18,37 +18,10 @@ Inv-loop xs q n mask found₀ p₀ found p =
 abbrev μ-loop : tie.MeasureT-loop
 μ-loop xs q n mask found₀ p₀ found p = n - p
 
-returns : tie.Need-returns Inv-loop μ-loop
-returns c = λ t. absurd (false≢true t)
-
-returns-2 : tie.Need-returns-2 Inv-loop μ-loop
-returns-2 c = λ t. absurd (false≢true t)
-
-sub-mask : tie.Need-sub-mask Inv-loop μ-loop
-sub-mask c = search needs
-
-mul-mask : tie.Need-mul-mask Inv-loop μ-loop
-mul-mask c = search needs
-
-eight-requires : tie.Need-eight-requires Inv-loop μ-loop
-eight-requires c κs = search needs
-
 loop-holds : tie.Need-loop-holds Inv-loop μ-loop
 loop-holds c =
     let a = c .before .before .before .before .args in
     (search needs, search needs, search needs, gathered-start (a .xs .now) (a .q) (search needs) (c .eight .result) (c .eight .ensures))
-
-sub-loop : tie.Need-sub-loop Inv-loop μ-loop
-sub-loop c = search needs
-
-eight-requires-2 : tie.Need-eight-requires-2 Inv-loop μ-loop
-eight-requires-2 c κs = search needs
-
-add-p : tie.Need-add-p Inv-loop μ-loop
-add-p c = search needs
-
-loop-less : tie.Need-loop-less Inv-loop μ-loop
-loop-less c = search needs
 
 loop-again : tie.Need-loop-again Inv-loop μ-loop
 loop-again c =
@@ -64,20 +37,6 @@ returns-3 c = λ t.
     gathered-end (a .xs .now) (a .q) (l .loop .p) (l .loop .found) (l .loop .inv .3) (search needs) (search needs) (eqb-true _ _ t))
 
 pub all-below-spec : {M : Type 1} → statement M
-all-below-spec =
-    tie.close
-    (tie.spec
-    Inv-loop
-    μ-loop
-    returns
-    returns-2
-    sub-mask
-    mul-mask
-    eight-requires
-    loop-holds
-    sub-loop
-    eight-requires-2
-    add-p
-    loop-less
-    loop-again
-    returns-3)
+all-below-spec = tie.close (tie.spec Inv-loop μ-loop (λ c t. absurd (false≢true t)) (λ c t. absurd (false≢true t)) (λ c. search needs)
+    (λ c. search needs) (λ c κs. search needs) loop-holds (λ c. search needs) (λ c κs. search needs) (λ c. search needs) (λ c. search needs)
+    loop-again returns-3)

@@ -7,18 +7,6 @@ use Rattle.code.proofs.Blocks.{block-below}
 use Rattle.code.proofs.block.block_below.Statement.{statement}
 use Rattle.code.proofs.block.block_below.Tie as tie
 
-returns : tie.Need-returns
-returns c = λ t. absurd (false≢true t)
-
-eight-requires : tie.Need-eight-requires
-eight-requires c κs = search needs
-
-sub-result : tie.Need-sub-result
-sub-result c = search needs
-
-mul-result : tie.Need-mul-result
-mul-result c = search needs
-
 returns-2 : tie.Need-returns-2
 returns-2 c =
     let s = c .before .before .before .args in
@@ -26,4 +14,4 @@ returns-2 c =
     λ t. block-below (s .xs .now) (s .i) (e .result) (s .q) (omega arith) (e .ensures) (eqb-true _ _ t)
 
 pub block-below-spec : {M : Type 1} → statement M
-block-below-spec = tie.close (tie.spec returns eight-requires sub-result mul-result returns-2)
+block-below-spec = tie.close (tie.spec (λ c t. absurd (false≢true t)) (λ c κs. search needs) (λ c. search needs) (λ c. search needs) returns-2)

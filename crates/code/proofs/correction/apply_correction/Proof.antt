@@ -47,27 +47,6 @@ module _ (c : tie.After-place-at Inv-loop μ-loop) where
 index : (c : tie.In-loop Inv-loop μ-loop) → c .before .loop .i - 1 < 5
 index c = omega (arith, start (c .before .before) .pre, c .before .loop .inv .within, c .loop-test .taken)
 
-loop-holds : tie.Need-loop-holds Inv-loop μ-loop
-loop-holds c = written-start _ _ _ _ _ (few-places c)
-
-sub-i : tie.Need-sub-i Inv-loop μ-loop
-sub-i c = search needs
-
-place-at-requires : tie.Need-place-at-requires Inv-loop μ-loop
-place-at-requires c κs = index c
-
-cast-p : tie.Need-cast-p Inv-loop μ-loop
-cast-p c = search needs
-
-slice-read-old : tie.Need-slice-read-old Inv-loop μ-loop
-slice-read-old c = below (c .before .before)
-
-array-read-value : tie.Need-array-read-value Inv-loop μ-loop
-array-read-value c = index (c .before .before .before)
-
-change-at-requires : tie.Need-change-at-requires Inv-loop μ-loop
-change-at-requires c κs = search needs
-
 add-k : tie.Need-add-k Inv-loop μ-loop
 add-k c =
     let v = c .before .before .before in
@@ -76,12 +55,6 @@ add-k c =
     (c .change-at .ensures) in
     omega (arith, fits, s .pre)
 
-slice-write-word : tie.Need-slice-write-word Inv-loop μ-loop
-slice-write-word c = below (c .before .before .before)
-
-loop-less : tie.Need-loop-less Inv-loop μ-loop
-loop-less c = search needs
-
 loop-again : tie.Need-loop-again Inv-loop μ-loop
 loop-again c =
     let v = c .before .before .before in
@@ -89,28 +62,8 @@ loop-again c =
     written-on (few v) (few′ v) (s .pre .2) (s .pre .3) (turn v .loop .inv) (v .before .loop-test .taken) (v .place-at .result .0) (v .place-at .ensures) _
     (c .change-at .ensures)
 
-same-length : tie.Need-same-length Inv-loop μ-loop
-same-length c = written-size (c .before .loop .inv)
-
-returns : tie.Need-returns Inv-loop μ-loop
-returns c = written-end (c .before .loop .inv) (omega arith)
-
 pub apply-correction-spec : {M : Type 1} → statement M
-apply-correction-spec =
-    tie.close
-    (tie.spec
-    Inv-loop
-    μ-loop
-    loop-holds
-    sub-i
-    place-at-requires
-    cast-p
-    slice-read-old
-    array-read-value
-    change-at-requires
-    add-k
-    slice-write-word
-    loop-less
-    loop-again
-    same-length
-    returns)
+apply-correction-spec = tie.close (tie.spec Inv-loop μ-loop (λ c. written-start _ _ _ _ _ (few-places c)) (λ c. search needs) (λ c κs. index c)
+    (λ c. search needs) (λ c. below (c .before .before)) (λ c. index (c .before .before .before)) (λ c κs. search needs) add-k
+    (λ c. below (c .before .before .before)) (λ c. search needs) loop-again (λ c. written-size (c .before .loop .inv))
+    (λ c. written-end (c .before .loop .inv) (omega arith)))

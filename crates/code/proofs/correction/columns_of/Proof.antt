@@ -19,27 +19,6 @@ Inv-loop width places count columns₀ j₀ columns j = (j ≤ count) × SystemC
 abbrev μ-loop : tie.MeasureT-loop
 μ-loop width places count columns₀ j₀ columns j = count - j
 
-loop-holds : tie.Need-loop-holds Inv-loop μ-loop
-loop-holds c = (omega arith, columns-start _ (numbers (c .args .places)))
-
-place-at-requires : tie.Need-place-at-requires Inv-loop μ-loop
-place-at-requires c κs = search needs
-
-whole-column-requires : tie.Need-whole-column-requires Inv-loop μ-loop
-whole-column-requires c κs = search needs
-
-mul-columns : tie.Need-mul-columns Inv-loop μ-loop
-mul-columns c = search needs
-
-array-set-from-columns : tie.Need-array-set-from-columns Inv-loop μ-loop
-array-set-from-columns c = search needs
-
-add-j : tie.Need-add-j Inv-loop μ-loop
-add-j c = search needs
-
-loop-less : tie.Need-loop-less Inv-loop μ-loop
-loop-less c = search needs
-
 loop-again : tie.Need-loop-again Inv-loop μ-loop
 loop-again c =
     let v = c .before in
@@ -58,17 +37,5 @@ returns c =
     subst (λ (n : ℕ). SystemColumns (a .width) (take n (numbers (a .places))) (c .before .loop .columns)) e (c .before .loop .inv .1)
 
 pub columns-of-spec : {M : Type 1} → statement M
-columns-of-spec =
-    tie.close
-    (tie.spec
-    Inv-loop
-    μ-loop
-    loop-holds
-    place-at-requires
-    whole-column-requires
-    mul-columns
-    array-set-from-columns
-    add-j
-    loop-less
-    loop-again
-    returns)
+columns-of-spec = tie.close (tie.spec Inv-loop μ-loop (λ c. (omega arith, columns-start _ (numbers (c .args .places)))) (λ c κs. search needs)
+    (λ c κs. search needs) (λ c. search needs) (λ c. search needs) (λ c. search needs) (λ c. search needs) loop-again returns)

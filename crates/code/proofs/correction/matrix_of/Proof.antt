@@ -18,39 +18,6 @@ use Rattle.code.proofs.correction.matrix_of.Tie as tie
 wide : (s : tie.Start) → length (s .args .places) ≡ unknowns
 wide s = search needs
 
-columns-of-requires : tie.Need-columns-of-requires
-columns-of-requires c κs = search needs
-
-array-read-row-at : tie.Need-array-read-row-at
-array-read-row-at c = search needs
-
-row-at-requires : tie.Need-row-at-requires
-row-at-requires c κs = search needs
-
-array-read-row-at-2 : tie.Need-array-read-row-at-2
-array-read-row-at-2 c = search needs
-
-row-at-requires-2 : tie.Need-row-at-requires-2
-row-at-requires-2 c κs = search needs
-
-array-read-row-at-3 : tie.Need-array-read-row-at-3
-array-read-row-at-3 c = search needs
-
-row-at-requires-3 : tie.Need-row-at-requires-3
-row-at-requires-3 c κs = search needs
-
-array-read-row-at-4 : tie.Need-array-read-row-at-4
-array-read-row-at-4 c = search needs
-
-row-at-requires-4 : tie.Need-row-at-requires-4
-row-at-requires-4 c κs = search needs
-
-array-read-row-at-5 : tie.Need-array-read-row-at-5
-array-read-row-at-5 c = search needs
-
-row-at-requires-5 : tie.Need-row-at-requires-5
-row-at-requires-5 c κs = search needs
-
 returns : tie.Need-returns
 returns c =
     let r5 = c .before in
@@ -73,18 +40,5 @@ returns c =
     }
 
 pub matrix-of-spec : {M : Type 1} → statement M
-matrix-of-spec =
-    tie.close
-    (tie.spec
-    columns-of-requires
-    array-read-row-at
-    row-at-requires
-    array-read-row-at-2
-    row-at-requires-2
-    array-read-row-at-3
-    row-at-requires-3
-    array-read-row-at-4
-    row-at-requires-4
-    array-read-row-at-5
-    row-at-requires-5
-    returns)
+matrix-of-spec = tie.close (tie.spec (λ c κs. search needs) (λ c. search needs) (λ c κs. search needs) (λ c. search needs) (λ c κs. search needs)
+    (λ c. search needs) (λ c κs. search needs) (λ c. search needs) (λ c κs. search needs) (λ c. search needs) (λ c κs. search needs) returns)

@@ -9,36 +9,6 @@ use Rattle.code.proofs.solving.RowLaws.{column-entries}
 use Rattle.code.proofs.correction.row_at.Statement.{statement}
 use Rattle.code.proofs.correction.row_at.Tie as tie
 
-index-1-t9 : tie.Need-index-1-t9
-index-1-t9 c = search needs
-
-index-2-t9 : tie.Need-index-2-t9
-index-2-t9 c = search needs
-
-index-1-t14 : tie.Need-index-1-t14
-index-1-t14 c = search needs
-
-index-2-t14 : tie.Need-index-2-t14
-index-2-t14 c = search needs
-
-index-1-t19 : tie.Need-index-1-t19
-index-1-t19 c = search needs
-
-index-2-t19 : tie.Need-index-2-t19
-index-2-t19 c = search needs
-
-index-1-t24 : tie.Need-index-1-t24
-index-1-t24 c = search needs
-
-index-2-t24 : tie.Need-index-2-t24
-index-2-t24 c = search needs
-
-index-1-t29 : tie.Need-index-1-t29
-index-1-t29 c = search needs
-
-index-2-t29 : tie.Need-index-2-t29
-index-2-t29 c = search needs
-
 returns : tie.Need-returns
 returns c =
     let a = c .before .before .before .before .before .args in
@@ -46,17 +16,5 @@ returns c =
     ap (λ (xs : List ℕ). a .sum ∷ xs ++ 0 ∷ 0 ∷ []) (column-entries (a .t2) (a .k) n)
 
 pub row-at-spec : {M : Type 1} → statement M
-row-at-spec =
-    tie.close
-    (tie.spec
-    index-1-t9
-    index-2-t9
-    index-1-t14
-    index-2-t14
-    index-1-t19
-    index-2-t19
-    index-1-t24
-    index-2-t24
-    index-1-t29
-    index-2-t29
-    returns)
+row-at-spec = tie.close (tie.spec (λ c. search needs) (λ c. search needs) (λ c. search needs) (λ c. search needs) (λ c. search needs)
+    (λ c. search needs) (λ c. search needs) (λ c. search needs) (λ c. search needs) (λ c. search needs) returns)

@@ -4,12 +4,6 @@ use Rattle.code.proofs.restoring.Correcting.{trial-solved}
 use Rattle.code.proofs.correction.solve_trial.Statement.{statement}
 use Rattle.code.proofs.correction.solve_trial.Tie as tie
 
-matrix-of-requires : tie.Need-matrix-of-requires
-matrix-of-requires c κs = search needs
-
-solve-requires : tie.Need-solve-requires
-solve-requires c κs = search needs
-
 returns : tie.Need-returns
 returns c =
     let s = c .before in
@@ -19,4 +13,4 @@ returns c =
     )
 
 pub solve-trial-spec : {M : Type 1} → statement M
-solve-trial-spec = tie.close (tie.spec matrix-of-requires solve-requires returns)
+solve-trial-spec = tie.close (tie.spec (λ c κs. search needs) (λ c κs. search needs) returns)

@@ -9,24 +9,6 @@ use Rattle.code.specs.Word.{checks, at}
 use Rattle.code.proofs.errors.coefficient.Statement.{statement}
 use Rattle.code.proofs.errors.coefficient.Tie as tie
 
-array-read-multiply : tie.Need-array-read-multiply
-array-read-multiply c = search needs
-
-array-read-multiply-2 : tie.Need-array-read-multiply-2
-array-read-multiply-2 c = search needs
-
-multiply-requires : tie.Need-multiply-requires
-multiply-requires c κs = search needs
-
-array-read-multiply-3 : tie.Need-array-read-multiply-3
-array-read-multiply-3 c = search needs
-
-array-read-multiply-4 : tie.Need-array-read-multiply-4
-array-read-multiply-4 c = search needs
-
-multiply-requires-2 : tie.Need-multiply-requires-2
-multiply-requires-2 c κs = search needs
-
 returns : tie.Need-returns
 returns c = λ w h.
     (let s = c .before .before in
@@ -37,13 +19,5 @@ returns c = λ w h.
     (c .multiply2 .ensures ∙ multiplied-product (o (a .k) (s .pre .2)) (o (a .l) (s .pre .3))))
 
 pub coefficient-spec : {M : Type 1} → statement M
-coefficient-spec =
-    tie.close
-    (tie.spec
-    array-read-multiply
-    array-read-multiply-2
-    multiply-requires
-    array-read-multiply-3
-    array-read-multiply-4
-    multiply-requires-2
-    returns)
+coefficient-spec = tie.close (tie.spec (λ c. search needs) (λ c. search needs) (λ c κs. search needs) (λ c. search needs) (λ c. search needs)
+    (λ c κs. search needs) returns)

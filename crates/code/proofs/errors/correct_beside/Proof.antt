@@ -6,15 +6,6 @@ use Rattle.code.proofs.finding.PlainWays.{beside-over, beside-found}
 use Rattle.code.proofs.errors.correct_beside.Statement.{statement}
 use Rattle.code.proofs.errors.correct_beside.Tie as tie
 
-masked-requires : tie.Need-masked-requires
-masked-requires c κs = search needs
-
-nonzeros-requires : tie.Need-nonzeros-requires
-nonzeros-requires c κs = search needs
-
-nothing-requires : tie.Need-nothing-requires
-nothing-requires c κs = search needs
-
 returns : tie.Need-returns
 returns c =
     let n = c .before .before in
@@ -24,18 +15,6 @@ returns c =
       λ R e hp lp hy. beside-over R (a .p) (a .y) (k .masked .result) (k .masked .ensures (R .width) hy) (n .nonzeros .result) (n .nonzeros .ensures .1) (a .reach) _
           (c .nothing .ensures .1) (c .before .if1 .taken),
     )
-
-add-t16 : tie.Need-add-t16
-add-t16 c = search needs
-
-slice-aggregate-byte-at : tie.Need-slice-aggregate-byte-at
-slice-aggregate-byte-at c = search needs
-
-byte-at-requires : tie.Need-byte-at-requires
-byte-at-requires c κs = search needs
-
-correction-of-requires : tie.Need-correction-of-requires
-correction-of-requires c κs = search needs
 
 returns-2 : tie.Need-returns-2
 returns-2 c =
@@ -52,15 +31,5 @@ returns-2 c =
     )
 
 pub correct-beside-spec : {M : Type 1} → statement M
-correct-beside-spec =
-    tie.close
-    (tie.spec
-    masked-requires
-    nonzeros-requires
-    nothing-requires
-    returns
-    add-t16
-    slice-aggregate-byte-at
-    byte-at-requires
-    correction-of-requires
-    returns-2)
+correct-beside-spec = tie.close (tie.spec (λ c κs. search needs) (λ c κs. search needs) (λ c κs. search needs) returns (λ c. search needs)
+    (λ c. search needs) (λ c κs. search needs) (λ c κs. search needs) returns-2)

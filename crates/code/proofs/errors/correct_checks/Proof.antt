@@ -6,32 +6,11 @@ use Rattle.code.proofs.finding.PlainWays.{checks-over, checks-found}
 use Rattle.code.proofs.errors.correct_checks.Statement.{statement}
 use Rattle.code.proofs.errors.correct_checks.Tie as tie
 
-nonzeros-requires : tie.Need-nonzeros-requires
-nonzeros-requires c κs = search needs
-
-nothing-requires : tie.Need-nothing-requires
-nothing-requires c κs = search needs
-
 returns : tie.Need-returns
 returns c =
     let n = c .before .before in
     let a = n .before .before .before .args in
     (c .nothing .ensures .0, λ m R e. checks-over m (a .word .now) (a .t) (n .nonzeros .result) (n .nonzeros .ensures .1) (a .reach) _ (c .nothing .ensures .1) (c .before .if1 .taken))
-
-slice-aggregate-byte-at : tie.Need-slice-aggregate-byte-at
-slice-aggregate-byte-at c = search needs
-
-byte-at-requires : tie.Need-byte-at-requires
-byte-at-requires c κs = search needs
-
-slice-aggregate-byte-at-2 : tie.Need-slice-aggregate-byte-at-2
-slice-aggregate-byte-at-2 c = search needs
-
-byte-at-requires-2 : tie.Need-byte-at-requires-2
-byte-at-requires-2 c κs = search needs
-
-correction-of-requires : tie.Need-correction-of-requires
-correction-of-requires c κs = search needs
 
 returns-2 : tie.Need-returns-2
 returns-2 c =
@@ -47,15 +26,5 @@ returns-2 c =
     )
 
 pub correct-checks-spec : {M : Type 1} → statement M
-correct-checks-spec =
-    tie.close
-    (tie.spec
-    nonzeros-requires
-    nothing-requires
-    returns
-    slice-aggregate-byte-at
-    byte-at-requires
-    slice-aggregate-byte-at-2
-    byte-at-requires-2
-    correction-of-requires
-    returns-2)
+correct-checks-spec = tie.close (tie.spec (λ c κs. search needs) (λ c κs. search needs) returns (λ c. search needs) (λ c κs. search needs)
+    (λ c. search needs) (λ c κs. search needs) (λ c κs. search needs) returns-2)

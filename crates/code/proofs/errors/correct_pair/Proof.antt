@@ -16,24 +16,6 @@ values : (v : tie.After-pair-values) → let a = start v .args in Ready (a .widt
     → a .p .0 < places (a .width) → PairValues (a .width) (at (a .t .sums)) (a .p .0) (a .q .0) (v .pair-values .result)
 values v R hq l lp = v .pair-values .ensures (R .width) (sums-lt R) hq l lp
 
-pair-values-requires : tie.Need-pair-values-requires
-pair-values-requires c κs = search needs
-
-masked-requires : tie.Need-masked-requires
-masked-requires c κs = search needs
-
-masked-requires-2 : tie.Need-masked-requires-2
-masked-requires-2 c κs = search needs
-
-slice-aggregate-all-zero : tie.Need-slice-aggregate-all-zero
-slice-aggregate-all-zero c = search needs
-
-all-zero-requires : tie.Need-all-zero-requires
-all-zero-requires c κs = search needs
-
-correction-of-requires : tie.Need-correction-of-requires
-correction-of-requires c κs = search needs
-
 returns : tie.Need-returns
 returns c =
     let z = c .before .before in
@@ -47,9 +29,6 @@ returns c =
           (k .before .masked .ensures (R .width) (Y .small .0)) (k .masked2 .ensures (R .width) (Y .small .1)) _
           (z .all-zero .result) (z .all-zero .ensures) (c .before .if1 .taken) (c .correction-of .ensures .1) (c .correction-of .ensures .2)),
     )
-
-nothing-requires : tie.Need-nothing-requires
-nothing-requires c κs = search needs
 
 returns-2 : tie.Need-returns-2
 returns-2 c =
@@ -66,15 +45,5 @@ returns-2 c =
     )
 
 pub correct-pair-spec : {M : Type 1} → statement M
-correct-pair-spec =
-    tie.close
-    (tie.spec
-    pair-values-requires
-    masked-requires
-    masked-requires-2
-    slice-aggregate-all-zero
-    all-zero-requires
-    correction-of-requires
-    returns
-    nothing-requires
-    returns-2)
+correct-pair-spec = tie.close (tie.spec (λ c κs. search needs) (λ c κs. search needs) (λ c κs. search needs) (λ c. search needs)
+    (λ c κs. search needs) (λ c κs. search needs) returns (λ c κs. search needs) returns-2)

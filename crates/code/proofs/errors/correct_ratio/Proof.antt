@@ -10,31 +10,10 @@ use Rattle.code.proofs.finding.PlainWays.{ratio-zero, ratio-out, ratio-
 use Rattle.code.proofs.errors.correct_ratio.Statement.{statement}
 use Rattle.code.proofs.errors.correct_ratio.Tie as tie
 
-array-read-x : tie.Need-array-read-x
-array-read-x c = search needs
-
-add-z : tie.Need-add-z
-add-z c = search needs
-
-array-read-z : tie.Need-array-read-z
-array-read-z c = search needs
-
-nothing-requires : tie.Need-nothing-requires
-nothing-requires c κs = search needs
-
 returns : tie.Need-returns
 returns c =
     let a = c .before .before .before .before .args in
     (c .nothing .ensures .0, λ R e. ratio-zero (R .width) (a .word .now) (a .t .sums) (a .reach) (a .a) _ (c .nothing .ensures .1) (c .before .if1 .taken))
-
-items-of-requires : tie.Need-items-of-requires
-items-of-requires c κs = search needs
-
-first-root-requires : tie.Need-first-root-requires
-first-root-requires c κs = search needs
-
-nothing-requires-2 : tie.Need-nothing-requires-2
-nothing-requires-2 c κs = search needs
 
 returns-2 : tie.Need-returns-2
 returns-2 c =
@@ -45,15 +24,6 @@ returns-2 c =
       λ R e. ratio-out (R .width) (a .word .now) (a .t .sums) (a .reach) (a .a) _ (i .result) (omega (arith, R .lent .size, i .ensures .0))
           (r .first-root .result) (r .first-root .ensures .1) (c .nothing2 .ensures .1) (c .before .if2 .taken),
     )
-
-place-of-requires : tie.Need-place-of-requires
-place-of-requires c κs = search needs
-
-value-from-requires : tie.Need-value-from-requires
-value-from-requires c κs = search needs
-
-correct-beside-requires : tie.Need-correct-beside-requires
-correct-beside-requires c κs = search needs
 
 returns-3 : tie.Need-returns-3
 returns-3 c =
@@ -74,19 +44,6 @@ returns-3 c =
     )
 
 pub correct-ratio-spec : {M : Type 1} → statement M
-correct-ratio-spec =
-    tie.close
-    (tie.spec
-    array-read-x
-    add-z
-    array-read-z
-    nothing-requires
-    returns
-    items-of-requires
-    first-root-requires
-    nothing-requires-2
-    returns-2
-    place-of-requires
-    value-from-requires
-    correct-beside-requires
-    returns-3)
+correct-ratio-spec = tie.close (tie.spec (λ c. search needs) (λ c. search needs) (λ c. search needs) (λ c κs. search needs) returns
+    (λ c κs. search needs) (λ c κs. search needs) (λ c κs. search needs) returns-2 (λ c κs. search needs) (λ c κs. search needs)
+    (λ c κs. search needs) returns-3)

@@ -33,12 +33,6 @@ module _ (r : tie.After-two-roots) (R : Ready (start r .args .width) (start r .a
   last : r .before .before .coefficient3 .result ≡ constant m s
   last = r .before .before .coefficient3 .ensures (R .width) (sums-lt R)
 
-coefficient-requires : tie.Need-coefficient-requires
-coefficient-requires c κs = search needs
-
-nothing-requires : tie.Need-nothing-requires
-nothing-requires c κs = search needs
-
 returns : tie.Need-returns
 returns c =
     let l = c .before .before in
@@ -47,21 +41,6 @@ returns c =
       λ R e. roots-zero (R .width) (a .word .now) (a .t .sums) _ (c .nothing .ensures .1)
           (sym (l .coefficient .ensures (R .width) (sums-lt R)) ∙ c .before .if1 .taken),
     )
-
-coefficient-requires-2 : tie.Need-coefficient-requires-2
-coefficient-requires-2 c κs = search needs
-
-coefficient-requires-3 : tie.Need-coefficient-requires-3
-coefficient-requires-3 c κs = search needs
-
-items-of-requires : tie.Need-items-of-requires
-items-of-requires c κs = search needs
-
-two-roots-requires : tie.Need-two-roots-requires
-two-roots-requires c κs = search needs
-
-nothing-requires-2 : tie.Need-nothing-requires-2
-nothing-requires-2 c κs = search needs
 
 returns-2 : tie.Need-returns-2
 returns-2 c =
@@ -72,9 +51,6 @@ returns-2 c =
           (r .two-roots .ensures) (c .nothing2 .ensures .1) (c .before .if2 .taken),
     )
 
-nothing-requires-3 : tie.Need-nothing-requires-3
-nothing-requires-3 c κs = search needs
-
 returns-3 : tie.Need-returns-3
 returns-3 c =
     let r = c .before .before .before .before .before in
@@ -83,15 +59,6 @@ returns-3 c =
       λ R e. roots-out (R .width) (a .word .now) (a .t .sums) _ _ (size r R) _ _ _ (top r R) (mid r R) (last r R) (r .two-roots .result)
           (r .two-roots .ensures) (c .nothing3 .ensures .1) (c .before .if3 .taken),
     )
-
-place-of-requires : tie.Need-place-of-requires
-place-of-requires c κs = search needs
-
-place-of-requires-2 : tie.Need-place-of-requires-2
-place-of-requires-2 c κs = search needs
-
-correct-pair-requires : tie.Need-correct-pair-requires
-correct-pair-requires c κs = search needs
 
 returns-4 : tie.Need-returns-4
 returns-4 c =
@@ -109,21 +76,6 @@ returns-4 c =
     )
 
 pub correct-roots-spec : {M : Type 1} → statement M
-correct-roots-spec =
-    tie.close
-    (tie.spec
-    coefficient-requires
-    nothing-requires
-    returns
-    coefficient-requires-2
-    coefficient-requires-3
-    items-of-requires
-    two-roots-requires
-    nothing-requires-2
-    returns-2
-    nothing-requires-3
-    returns-3
-    place-of-requires
-    place-of-requires-2
-    correct-pair-requires
-    returns-4)
+correct-roots-spec = tie.close (tie.spec (λ c κs. search needs) (λ c κs. search needs) returns (λ c κs. search needs) (λ c κs. search needs)
+    (λ c κs. search needs) (λ c κs. search needs) (λ c κs. search needs) returns-2 (λ c κs. search needs) returns-3 (λ c κs. search needs)
+    (λ c κs. search needs) (λ c κs. search needs) returns-4)

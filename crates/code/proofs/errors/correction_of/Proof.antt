@@ -7,12 +7,6 @@ use Rattle.code.proofs.finding.PlainWays.{correction-adds}
 use Rattle.code.proofs.errors.correction_of.Statement.{statement}
 use Rattle.code.proofs.errors.correction_of.Tie as tie
 
-byte-at-requires : tie.Need-byte-at-requires
-byte-at-requires c κs = search needs
-
-byte-at-requires-2 : tie.Need-byte-at-requires-2
-byte-at-requires-2 c κs = search needs
-
 returns : tie.Need-returns
 returns c =
     let p = c .before .byte-at in
@@ -26,4 +20,4 @@ returns c =
     )
 
 pub correction-of-spec : {M : Type 1} → statement M
-correction-of-spec = tie.close (tie.spec byte-at-requires byte-at-requires-2 returns)
+correction-of-spec = tie.close (tie.spec (λ c κs. search needs) (λ c κs. search needs) returns)

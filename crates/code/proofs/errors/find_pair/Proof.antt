@@ -6,23 +6,11 @@ use Rattle.code.proofs.finding.PlainWays.{plain-none}
 use Rattle.code.proofs.errors.find_pair.Statement.{statement}
 use Rattle.code.proofs.errors.find_pair.Tie as tie
 
-correct-checks-requires : tie.Need-correct-checks-requires
-correct-checks-requires c κs = search needs
-
-solved-requires : tie.Need-solved-requires
-solved-requires c κs = search needs
-
 returns : tie.Need-returns
 returns c =
     let y = c .before .solved in
     let x = c .before .before .correct-checks in
     (x .ensures .0, λ R e. searched-found (le-refl 2) (y .result) (y .ensures) (c .if1 .taken) (x .ensures .1 _ R e))
-
-correct-roots-requires : tie.Need-correct-roots-requires
-correct-roots-requires c κs = search needs
-
-solved-requires-2 : tie.Need-solved-requires-2
-solved-requires-2 c κs = search needs
 
 returns-2 : tie.Need-returns-2
 returns-2 c =
@@ -30,20 +18,11 @@ returns-2 c =
     let x = c .before .before .correct-roots in
     (x .ensures .0, λ R e. searched-found (le-refl 2) (y .result) (y .ensures) (c .if2 .taken) (x .ensures .1 R e))
 
-correct-ratio-requires : tie.Need-correct-ratio-requires
-correct-ratio-requires c κs = search needs
-
-solved-requires-3 : tie.Need-solved-requires-3
-solved-requires-3 c κs = search needs
-
 returns-3 : tie.Need-returns-3
 returns-3 c =
     let y = c .before .solved3 in
     let x = c .before .before .correct-ratio in
     (x .ensures .0, λ R e. searched-found (le-refl 2) (y .result) (y .ensures) (c .if3 .taken) (x .ensures .1 R e))
-
-correct-ratio-requires-2 : tie.Need-correct-ratio-requires-2
-correct-ratio-requires-2 c κs = search needs
 
 returns-4 : tie.Need-returns-4
 returns-4 c =
@@ -63,17 +42,5 @@ returns-4 c =
     )
 
 pub find-pair-spec : {M : Type 1} → statement M
-find-pair-spec =
-    tie.close
-    (tie.spec
-    correct-checks-requires
-    solved-requires
-    returns
-    correct-roots-requires
-    solved-requires-2
-    returns-2
-    correct-ratio-requires
-    solved-requires-3
-    returns-3
-    correct-ratio-requires-2
-    returns-4)
+find-pair-spec = tie.close (tie.spec (λ c κs. search needs) (λ c κs. search needs) returns (λ c κs. search needs) (λ c κs. search needs) returns-2
+    (λ c κs. search needs) (λ c κs. search needs) returns-3 (λ c κs. search needs) returns-4)

@@ -7,20 +7,11 @@ use Rattle.code.proofs.finding.PlainWays.{plain-none}
 use Rattle.code.proofs.errors.find_single.Statement.{statement}
 use Rattle.code.proofs.errors.find_single.Tie as tie
 
-correct-checks-requires : tie.Need-correct-checks-requires
-correct-checks-requires c κs = search needs
-
-solved-requires : tie.Need-solved-requires
-solved-requires c κs = search needs
-
 returns : tie.Need-returns
 returns c =
     let y = c .before .solved in
     let x = c .before .before .correct-checks in
     (x .ensures .0, λ R e. searched-found (le-refl 1) (y .result) (y .ensures) (c .if1 .taken) (x .ensures .1 _ R e))
-
-correct-ratio-requires : tie.Need-correct-ratio-requires
-correct-ratio-requires c κs = search needs
 
 returns-2 : tie.Need-returns-2
 returns-2 c =
@@ -34,6 +25,4 @@ returns-2 c =
     )
 
 pub find-single-spec : {M : Type 1} → statement M
-find-single-spec =
-    tie.close
-    (tie.spec correct-checks-requires solved-requires returns correct-ratio-requires returns-2)
+find-single-spec = tie.close (tie.spec (λ c κs. search needs) (λ c κs. search needs) returns (λ c κs. search needs) returns-2)

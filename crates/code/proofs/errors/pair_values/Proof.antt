@@ -13,24 +13,6 @@ use Rattle.code.proofs.finding.PlainWays.{pair-values}
 use Rattle.code.proofs.errors.pair_values.Statement.{statement}
 use Rattle.code.proofs.errors.pair_values.Tie as tie
 
-column-requires : tie.Need-column-requires
-column-requires c κs = search needs
-
-column-requires-2 : tie.Need-column-requires-2
-column-requires-2 c κs = search needs
-
-array-read-second-value : tie.Need-array-read-second-value
-array-read-second-value c = search needs
-
-array-read-second-value-2 : tie.Need-array-read-second-value-2
-array-read-second-value-2 c = search needs
-
-second-value-requires : tie.Need-second-value-requires
-second-value-requires c κs = search needs
-
-array-read-first : tie.Need-array-read-first
-array-read-first c = search needs
-
 returns : tie.Need-returns
 returns c =
     λ w h hq l lp.
@@ -44,13 +26,5 @@ returns c =
     (c .second-value .ensures (operand-of m _ _ w (x .ensures w) (column-lt F _ _)) (operand-of m _ _ w (y .ensures w) (column-lt F _ _)) (o 0 (omega arith)) (o 1 (omega arith))))
 
 pub pair-values-spec : {M : Type 1} → statement M
-pair-values-spec =
-    tie.close
-    (tie.spec
-    column-requires
-    column-requires-2
-    array-read-second-value
-    array-read-second-value-2
-    second-value-requires
-    array-read-first
-    returns)
+pair-values-spec = tie.close (tie.spec (λ c κs. search needs) (λ c κs. search needs) (λ c. search needs) (λ c. search needs) (λ c κs. search needs)
+    (λ c. search needs) returns)

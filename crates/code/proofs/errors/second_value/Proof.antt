@@ -9,15 +9,6 @@ use Rattle.field.proofs.Bytes.{xor-add, multiplied-product, inverted-inverse}
 use Rattle.code.proofs.errors.second_value.Statement.{statement}
 use Rattle.code.proofs.errors.second_value.Tie as tie
 
-multiply-requires : tie.Need-multiply-requires
-multiply-requires c κs = search needs
-
-invert-requires : tie.Need-invert-requires
-invert-requires c κs = search needs
-
-multiply-requires-2 : tie.Need-multiply-requires-2
-multiply-requires-2 c κs = search needs
-
 returns : tie.Need-returns
 returns c =
     λ ox oy os on.
@@ -33,5 +24,4 @@ returns c =
     ∙ ap₂ (product m) d i)
 
 pub second-value-spec : {M : Type 1} → statement M
-second-value-spec =
-    tie.close (tie.spec multiply-requires invert-requires multiply-requires-2 returns)
+second-value-spec = tie.close (tie.spec (λ c κs. search needs) (λ c κs. search needs) (λ c κs. search needs) returns)

@@ -9,15 +9,6 @@ use Rattle.code.proofs.Columns.{column-lt}
 use Rattle.code.proofs.errors.value_from.Statement.{statement}
 use Rattle.code.proofs.errors.value_from.Tie as tie
 
-column-requires : tie.Need-column-requires
-column-requires c κs = search needs
-
-invert-requires : tie.Need-invert-requires
-invert-requires c κs = search needs
-
-multiply-requires : tie.Need-multiply-requires
-multiply-requires c κs = search needs
-
 returns : tie.Need-returns
 returns c = λ w h.
     (let l = c .before .before in
@@ -30,4 +21,4 @@ returns c = λ w h.
     ∙ ap (product m (a .x)) (i ∙ ap (inverse m) k))
 
 pub value-from-spec : {M : Type 1} → statement M
-value-from-spec = tie.close (tie.spec column-requires invert-requires multiply-requires returns)
+value-from-spec = tie.close (tie.spec (λ c κs. search needs) (λ c κs. search needs) (λ c κs. search needs) returns)

@@ -19,18 +19,12 @@ none l =
     let z : t .count ≡ 0 = omega (arith, l .if2 .left) in
     ap (λ (n : ℕ). take n (numbers (t .places))) z
 
-solve-trial-requires : tie.Need-solve-trial-requires
-solve-trial-requires c κs = search needs
-
 returns : tie.Need-returns
 returns c =
     let a = c .before .before .before .args in (
       c .solve-trial .ensures .0,
       λ R. near-zero (a .width) (a .word .now) (placesOf (a .t)) (a .reach) _ (R .lent) (c .before .if1 .taken) (c .solve-trial .ensures .1 _ R),
     )
-
-find-beside-requires : tie.Need-find-beside-requires
-find-beside-requires c κs = search needs
 
 returns-2 : tie.Need-returns-2
 returns-2 c =
@@ -43,9 +37,6 @@ returns-2 c =
           (c .find-beside .ensures .1 R (λ e. cubes-beside (a .width) (R .width) (distance-of (a .width) (R .width)) (omega (arith, s .pre .1, one)))),
     )
 
-find-single-requires : tie.Need-find-single-requires
-find-single-requires c κs = search needs
-
 returns-3 : tie.Need-returns-3
 returns-3 c =
     let t3 = c .before in
@@ -56,9 +47,6 @@ returns-3 c =
           (subst (λ (xs : List ℕ). Searched (a .width) (a .word .now) xs 1 (NoneWithin (a .width) (a .word .now) xs 1) (c .find-single .result)) (sym e)
           (c .find-single .ensures .1 R e)),
     )
-
-find-pair-requires : tie.Need-find-pair-requires
-find-pair-requires c κs = search needs
 
 returns-4 : tie.Need-returns-4
 returns-4 c =
@@ -74,14 +62,5 @@ returns-4 c =
     )
 
 pub find-near-spec : {M : Type 1} → statement M
-find-near-spec =
-    tie.close
-    (tie.spec
-    solve-trial-requires
-    returns
-    find-beside-requires
-    returns-2
-    find-single-requires
-    returns-3
-    find-pair-requires
-    returns-4)
+find-near-spec = tie.close (tie.spec (λ c κs. search needs) returns (λ c κs. search needs) returns-2 (λ c κs. search needs) returns-3
+    (λ c κs. search needs) returns-4)

@@ -19,22 +19,11 @@ returns c = λ w.
     (let a = c .before .before .args in
     sym (ap (λ (p : ℕ). column (a .width) p (a .k)) (c .if2 .taken) ∙ column-unit (a .width) (a .k) (search needs)))
 
-returns-2 : tie.Need-returns-2
-returns-2 c = λ w.
-    (let a = c .before .before .args in
-    sym (column-none (a .width) (a .p .0) (a .k) (c .before .if1 .taken) (c .if2 .left)))
-
-exponent-of-requires : tie.Need-exponent-of-requires
-exponent-of-requires c κs = search needs
-
 multiple-requires : tie.Need-multiple-requires
 multiple-requires c κs =
     let i : c .exponent-of .result .0 ≤ 255 = omega (arith, ap (λ (e : Exponent). e .0) (c .exponent-of .ensures)) in
     let k : c .before .before .args .k ≤ 255 = omega arith in
     lt-of-le-of-lt (mul-le-mul k i) (lit< tt)
-
-raise-requires : tie.Need-raise-requires
-raise-requires c κs = search needs
 
 returns-3 : tie.Need-returns-3
 returns-3 c = λ w.
@@ -46,5 +35,6 @@ returns-3 c = λ w.
     ∙ sym (column-power m (a .p .0) (a .k) (c .before .before .before .if1 .left)))
 
 pub column-spec : {M : Type 1} → statement M
-column-spec =
-    tie.close (tie.spec returns returns-2 exponent-of-requires multiple-requires raise-requires returns-3)
+column-spec = tie.close (tie.spec returns
+    (λ c w. (let a = c .before .before .args in sym (column-none (a .width) (a .p .0) (a .k) (c .before .if1 .taken) (c .if2 .left))))
+    (λ c κs. search needs) multiple-requires (λ c κs. search needs) returns-3)

@@ -10,12 +10,6 @@ use Rattle.code.proofs.Columns.{column-power}
 use Rattle.code.proofs.place.point.Statement.{statement}
 use Rattle.code.proofs.place.point.Tie as tie
 
-exponent-of-requires : tie.Need-exponent-of-requires
-exponent-of-requires c κs = search needs
-
-power-of-alpha-requires : tie.Need-power-of-alpha-requires
-power-of-alpha-requires c κs = omega (arith, ap (λ (e : Exponent). e .0) (c .exponent-of .ensures))
-
 returns : tie.Need-returns
 returns c = λ w.
     (let s = c .before .before .before in
@@ -24,13 +18,6 @@ returns c = λ w.
     c .power-of-alpha .ensures ∙ ap (λ (e : Exponent). power 7 α (e .0)) (c .before .exponent-of .ensures) ∙ ap (power 7 α) once
     ∙ sym (column-power 7 p 1 (s .pre)) ∙ ap (λ (m : ℕ). column m p 1) (sym (c .before .before .if1 .taken)))
 
-column-requires : tie.Need-column-requires
-column-requires c κs = search needs
-
-returns-2 : tie.Need-returns-2
-returns-2 c = search needs
-
 pub point-spec : {M : Type 1} → statement M
-point-spec =
-    tie.close
-    (tie.spec exponent-of-requires power-of-alpha-requires returns column-requires returns-2)
+point-spec = tie.close (tie.spec (λ c κs. search needs) (λ c κs. omega (arith, ap (λ (e : Exponent). e .0) (c .exponent-of .ensures))) returns
+    (λ c κs. search needs) (λ c. search needs))

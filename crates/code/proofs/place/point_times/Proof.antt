@@ -4,21 +4,6 @@ use Rattle.code.proofs.finding.Times.{point-five}
 use Rattle.code.proofs.place.point_times.Statement.{statement}
 use Rattle.code.proofs.place.point_times.Tie as tie
 
-point-requires : tie.Need-point-requires
-point-requires c κs = search needs
-
-multiply-requires : tie.Need-multiply-requires
-multiply-requires c κs = search needs
-
-multiply-requires-2 : tie.Need-multiply-requires-2
-multiply-requires-2 c κs = search needs
-
-multiply-requires-3 : tie.Need-multiply-requires-3
-multiply-requires-3 c κs = search needs
-
-multiply-requires-4 : tie.Need-multiply-requires-4
-multiply-requires-4 c κs = search needs
-
 returns : tie.Need-returns
 returns c = λ w h.
     (let m3 = c .before in
@@ -30,6 +15,5 @@ returns c = λ w h.
     (m2 .multiply2 .ensures) (m3 .multiply3 .ensures) (c .multiply4 .ensures))
 
 pub point-times-spec : {M : Type 1} → statement M
-point-times-spec =
-    tie.close
-    (tie.spec point-requires multiply-requires multiply-requires-2 multiply-requires-3 multiply-requires-4 returns)
+point-times-spec = tie.close (tie.spec (λ c κs. search needs) (λ c κs. search needs) (λ c κs. search needs) (λ c κs. search needs)
+    (λ c κs. search needs) returns)

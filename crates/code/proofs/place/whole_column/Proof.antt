@@ -12,21 +12,6 @@ use Rattle.code.proofs.finding.Times.{powers-column, times-one}
 use Rattle.code.proofs.place.whole_column.Statement.{statement}
 use Rattle.code.proofs.place.whole_column.Tie as tie
 
-column-requires : tie.Need-column-requires
-column-requires c κs = search needs
-
-column-requires-2 : tie.Need-column-requires-2
-column-requires-2 c κs = search needs
-
-column-requires-3 : tie.Need-column-requires-3
-column-requires-3 c κs = search needs
-
-column-requires-4 : tie.Need-column-requires-4
-column-requires-4 c κs = search needs
-
-column-requires-5 : tie.Need-column-requires-5
-column-requires-5 c κs = search needs
-
 returns : tie.Need-returns
 returns c = λ w.
     (let k4 = c .before in
@@ -36,12 +21,6 @@ returns c = λ w.
     let a = k1 .before .before .args in
     five-of (column (a .width) (a .p .0)) _ _ _ _ _
     (k1 .column .ensures w) (k2 .column2 .ensures w) (k3 .column3 .ensures w) (k4 .column4 .ensures w) (c .column5 .ensures w))
-
-exponent-of-requires : tie.Need-exponent-of-requires
-exponent-of-requires c κs = search needs
-
-powers-from-requires : tie.Need-powers-from-requires
-powers-from-requires c κs = (search needs, omega (arith, ap (λ (e : Exponent). e .0) (c .exponent-of .ensures)))
 
 returns-2 : tie.Need-returns-2
 returns-2 c = λ w.
@@ -53,24 +32,8 @@ returns-2 c = λ w.
     ∙ powers-column p (e .exponent-of .result .0) (l1 .if1 .left) (ap (λ (e : Exponent). e .0) (e .exponent-of .ensures))
     ∙ ap (λ (m : ℕ). five (column m p)) (sym (i2 .if2 .taken)))
 
-point-times-requires : tie.Need-point-times-requires
-point-times-requires c κs = search needs
-
-returns-3 : tie.Need-returns-3
-returns-3 c = λ w. c .point-times .ensures w (field-of _ w .one-lt) ∙ times-one _ w _
-
 pub whole-column-spec : {M : Type 1} → statement M
-whole-column-spec =
-    tie.close
-    (tie.spec
-    column-requires
-    column-requires-2
-    column-requires-3
-    column-requires-4
-    column-requires-5
-    returns
-    exponent-of-requires
-    powers-from-requires
-    returns-2
-    point-times-requires
-    returns-3)
+whole-column-spec = tie.close (tie.spec (λ c κs. search needs) (λ c κs. search needs) (λ c κs. search needs) (λ c κs. search needs)
+    (λ c κs. search needs) returns (λ c κs. search needs)
+    (λ c κs. (search needs, omega (arith, ap (λ (e : Exponent). e .0) (c .exponent-of .ensures)))) returns-2 (λ c κs. search needs)
+    (λ c w. c .point-times .ensures w (field-of _ w .one-lt) ∙ times-one _ w _))

@@ -5,11 +5,5 @@ use Rattle.code.proofs.Questions.{allZero-below}
 use Rattle.code.proofs.question.all_zero.Statement.{statement}
 use Rattle.code.proofs.question.all_zero.Tie as tie
 
-below-requires : tie.Need-below-requires
-below-requires c κs = search needs
-
-returns : tie.Need-returns
-returns c = c .below .ensures ∙ allZero-below (c .before .before .args .xs .now)
-
 pub all-zero-spec : {M : Type 1} → statement M
-all-zero-spec = tie.close (tie.spec below-requires returns)
+all-zero-spec = tie.close (tie.spec (λ c κs. search needs) (λ c. c .below .ensures ∙ allZero-below (c .before .before .args .xs .now)))

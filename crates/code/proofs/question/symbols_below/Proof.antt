@@ -15,35 +15,11 @@ Inv-loop word erasures q i₀ i = (i ≤ length word) × (symbolsFrom q erasures
 abbrev μ-loop : tie.MeasureT-loop
 μ-loop word erasures q i₀ i = length word - i
 
-pass-all-below-requires : tie.Need-pass-all-below-requires Inv-loop μ-loop
-pass-all-below-requires c κs = search needs
-
 loop-holds : tie.Need-loop-holds Inv-loop μ-loop
 loop-holds c =
     let s = c .before .before .before .args in
     let a = c .pass-all-below in
     (a .ensures .within, symbols-run (s .q) (s .erasures .now) (s .word .now) 0 (a .result) (a .ensures) refl)
-
-shared-slice-read-if1 : tie.Need-shared-slice-read-if1 Inv-loop μ-loop
-shared-slice-read-if1 c = search needs
-
-cast-contains : tie.Need-cast-contains Inv-loop μ-loop
-cast-contains c = search needs
-
-contains-requires : tie.Need-contains-requires Inv-loop μ-loop
-contains-requires c κs = search needs
-
-returns : tie.Need-returns Inv-loop μ-loop
-returns c = search (needs, symbols-stop)
-
-add-pass-below : tie.Need-add-pass-below Inv-loop μ-loop
-add-pass-below c = search needs
-
-pass-below-requires : tie.Need-pass-below-requires Inv-loop μ-loop
-pass-below-requires c κs = search needs
-
-loop-less : tie.Need-loop-less Inv-loop μ-loop
-loop-less c = search needs
 
 loop-again : tie.Need-loop-again Inv-loop μ-loop
 loop-again c =
@@ -58,23 +34,7 @@ loop-again c =
     in
     (a .ensures .within, symbols-run (s .q) es w (i + 1) (a .result) (a .ensures) next)
 
-returns-2 : tie.Need-returns-2 Inv-loop μ-loop
-returns-2 c = search (needs, symbols-end)
-
 pub symbols-below-spec : {M : Type 1} → statement M
-symbols-below-spec =
-    tie.close
-    (tie.spec
-    Inv-loop
-    μ-loop
-    pass-all-below-requires
-    loop-holds
-    shared-slice-read-if1
-    cast-contains
-    contains-requires
-    returns
-    add-pass-below
-    pass-below-requires
-    loop-less
-    loop-again
-    returns-2)
+symbols-below-spec = tie.close (tie.spec Inv-loop μ-loop (λ c κs. search needs) loop-holds (λ c. search needs) (λ c. search needs)
+    (λ c κs. search needs) (λ c. search (needs, symbols-stop)) (λ c. search needs) (λ c κs. search needs) (λ c. search needs) loop-again
+    (λ c. search (needs, symbols-end)))

@@ -47,15 +47,6 @@ found s =
     subst (λ (ls : List ℕ). Searched (a .width) (a .word .now) ls (a .reach) (NoneWithin (a .width) (a .word .now) ls (a .reach)) (s .find-correction .result))
     (began s .erasure-trial .ensures .1) (s .find-correction .ensures .1 (ready (began s)))
 
-erasure-trial-requires : tie.Need-erasure-trial-requires
-erasure-trial-requires c κs = work (c .before .before .before)
-
-is-clean-requires : tie.Need-is-clean-requires
-is-clean-requires c κs = search needs
-
-same-length : tie.Need-same-length
-same-length c = search needs
-
 returns : tie.Need-returns
 returns c =
     let s = c .before .before in
@@ -71,12 +62,6 @@ find-correction-requires c κs =
     let e = s .erasure-trial .ensures .0 in
     (omega (arith, w .few, e), omega (arith, e, passes (start s) .1), w .long, w .short)
 
-enum-told : tie.Need-enum-told
-enum-told c = search needs
-
-enum-told-2 : tie.Need-enum-told-2
-enum-told-2 c = search needs
-
 apply-correction-requires : tie.Need-apply-correction-requires
 apply-correction-requires c κs =
     let s = c .before .before .before in
@@ -89,12 +74,6 @@ apply-correction-requires c κs =
       found s .one e .distinct,
     )
 
-enum-told-3 : tie.Need-enum-told-3
-enum-told-3 c = search needs
-
-same-length-2 : tie.Need-same-length-2
-same-length-2 c = search needs
-
 returns-2 : tie.Need-returns-2
 returns-2 c =
     let s = c .before .before in
@@ -103,9 +82,6 @@ returns-2 c =
     let e : s .find-correction .result .found ≡ None = search needs in
     restores-none (a .width) (a .word .now) (a .erasures .now) (a .reach) (t .pre)
     (found s .none e) _ refl
-
-same-length-3 : tie.Need-same-length-3
-same-length-3 c = search needs
 
 returns-3 : tie.Need-returns-3
 returns-3 c =
@@ -117,9 +93,6 @@ returns-3 c =
     restores-found (a .width) (a .word .now) (a .erasures .now) (a .reach) (t .pre) (s .find-correction .result) (w .result) _ (found s .one e)
     (w .ensures .0) (w .ensures .1)
 
-same-length-4 : tie.Need-same-length-4
-same-length-4 c = search needs
-
 returns-4 : tie.Need-returns-4
 returns-4 c =
     let s = c .before .before in
@@ -129,21 +102,6 @@ returns-4 c =
     restores-several (a .width) (a .word .now) (a .erasures .now) (a .reach) (t .pre) (found s .several e) _ refl
 
 pub correct-word-spec : {M : Type 1} → statement M
-correct-word-spec =
-    tie.close
-    (tie.spec
-    erasure-trial-requires
-    is-clean-requires
-    same-length
-    returns
-    find-correction-requires
-    enum-told
-    enum-told-2
-    apply-correction-requires
-    enum-told-3
-    same-length-2
-    returns-2
-    same-length-3
-    returns-3
-    same-length-4
-    returns-4)
+correct-word-spec = tie.close (tie.spec (λ c κs. work (c .before .before .before)) (λ c κs. search needs) (λ c. search needs) returns
+    find-correction-requires (λ c. search needs) (λ c. search needs) apply-correction-requires (λ c. search needs) (λ c. search needs) returns-2
+    (λ c. search needs) returns-3 (λ c. search needs) returns-4)

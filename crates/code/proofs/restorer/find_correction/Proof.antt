@@ -6,21 +6,6 @@ use Rattle.code.proofs.restoring.Trying.{searched-last, none-within}
 use Rattle.code.proofs.restorer.find_correction.Statement.{statement}
 use Rattle.code.proofs.restorer.find_correction.Tie as tie
 
-enum-told : tie.Need-enum-told
-enum-told c = search needs
-
-find-near-requires : tie.Need-find-near-requires
-find-near-requires c κs = search needs
-
-enum-told-2 : tie.Need-enum-told-2
-enum-told-2 c = search needs
-
-search-requires : tie.Need-search-requires
-search-requires c κs = search needs
-
-returns : tie.Need-returns
-returns c = search needs
-
 returns-2 : tie.Need-returns-2
 returns-2 c =
     let a = c .before .before .before .before .args in (
@@ -29,5 +14,5 @@ returns-2 c =
     )
 
 pub find-correction-spec : {M : Type 1} → statement M
-find-correction-spec =
-    tie.close (tie.spec enum-told find-near-requires enum-told-2 search-requires returns returns-2)
+find-correction-spec = tie.close (tie.spec (λ c. search needs) (λ c κs. search needs) (λ c. search needs) (λ c κs. search needs) (λ c. search needs)
+    returns-2)

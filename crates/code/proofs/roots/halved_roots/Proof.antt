@@ -6,30 +6,6 @@ use Rattle.code.proofs.finding.Quadratic.{halved-roots}
 use Rattle.code.proofs.roots.halved_roots.Statement.{statement}
 use Rattle.code.proofs.roots.halved_roots.Tie as tie
 
-invert-requires : tie.Need-invert-requires
-invert-requires c κs = search needs
-
-multiply-requires : tie.Need-multiply-requires
-multiply-requires c κs = search needs
-
-multiply-requires-2 : tie.Need-multiply-requires-2
-multiply-requires-2 c κs = search needs
-
-multiply-requires-3 : tie.Need-multiply-requires-3
-multiply-requires-3 c κs = search needs
-
-half-trace-requires : tie.Need-half-trace-requires
-half-trace-requires c κs = search needs
-
-ratio-exponent-requires : tie.Need-ratio-exponent-requires
-ratio-exponent-requires c κs = search needs
-
-ratio-exponent-requires-2 : tie.Need-ratio-exponent-requires-2
-ratio-exponent-requires-2 c κs = search needs
-
-sorted-requires : tie.Need-sorted-requires
-sorted-requires c κs = search needs
-
 returns : tie.Need-returns
 returns c = λ la lb lc.
     (let r2 = c .before in
@@ -47,15 +23,5 @@ returns c = λ la lb lc.
     (r2 .ratio-exponent2 .ensures .0) (ratio-own _ _ _ (r2 .ratio-exponent2 .ensures .1)) (c .sorted .ensures .0) (c .sorted .ensures .1))
 
 pub halved-roots-spec : {M : Type 1} → statement M
-halved-roots-spec =
-    tie.close
-    (tie.spec
-    invert-requires
-    multiply-requires
-    multiply-requires-2
-    multiply-requires-3
-    half-trace-requires
-    ratio-exponent-requires
-    ratio-exponent-requires-2
-    sorted-requires
-    returns)
+halved-roots-spec = tie.close (tie.spec (λ c κs. search needs) (λ c κs. search needs) (λ c κs. search needs) (λ c κs. search needs)
+    (λ c κs. search needs) (λ c κs. search needs) (λ c κs. search needs) (λ c κs. search needs) returns)

@@ -19,9 +19,6 @@ Inv-loop width square linear constant n i₀ d₀ e₀ i d e =
 abbrev μ-loop : tie.MeasureT-loop
 μ-loop width square linear constant n i₀ d₀ e₀ i d e = n - i
 
-loop-holds : tie.Need-loop-holds Inv-loop μ-loop
-loop-holds c = (search needs, search needs, λ a b w C. scanning-start C)
-
 returns : tie.Need-returns Inv-loop μ-loop
 returns c =
     let l = c .before .before in (
@@ -29,18 +26,6 @@ returns c =
       l .loop .inv .1,
       λ a b w C. scanning-found (l .before .args .width) w (l .before .args .n) (l .loop .inv .2 a b w C) (sym (xor-add (l .loop .d) (l .loop .e)) ∙ c .if1 .taken),
     )
-
-shift-requires : tie.Need-shift-requires Inv-loop μ-loop
-shift-requires c κs = search needs
-
-shift-requires-2 : tie.Need-shift-requires-2 Inv-loop μ-loop
-shift-requires-2 c κs = search needs
-
-add-i : tie.Need-add-i Inv-loop μ-loop
-add-i c = search needs
-
-loop-less : tie.Need-loop-less Inv-loop μ-loop
-loop-less c = search needs
 
 loop-again : tie.Need-loop-again Inv-loop μ-loop
 loop-again c =
@@ -61,16 +46,5 @@ returns-2 c =
     )
 
 pub root-from-spec : {M : Type 1} → statement M
-root-from-spec =
-    tie.close
-    (tie.spec
-    Inv-loop
-    μ-loop
-    loop-holds
-    returns
-    shift-requires
-    shift-requires-2
-    add-i
-    loop-less
-    loop-again
-    returns-2)
+root-from-spec = tie.close (tie.spec Inv-loop μ-loop (λ c. (search needs, search needs, λ a b w C. scanning-start C)) returns (λ c κs. search needs)
+    (λ c κs. search needs) (λ c. search needs) (λ c. search needs) loop-again returns-2)

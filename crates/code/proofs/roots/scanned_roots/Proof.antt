@@ -8,9 +8,6 @@ use Rattle.code.proofs.finding.Quadratic.{scan-low, scan-high}
 use Rattle.code.proofs.roots.scanned_roots.Statement.{statement}
 use Rattle.code.proofs.roots.scanned_roots.Tie as tie
 
-root-from-requires : tie.Need-root-from-requires
-root-from-requires c κs = search needs
-
 returns : tie.Need-returns
 returns c = λ w hs hl en i j l lj Q.
     (let r = c .before .before in
@@ -19,18 +16,6 @@ returns c = λ w hs hl en i j l lj Q.
     let S = r .root-from .ensures .2 (a .square) (a .linear) w (carried-start F (a .square) (a .linear) hs hl) in
     let e = scan-low F Q hs l (omega (arith, en, lj)) (a .n) (r .root-from .result) lj (omega (arith, en)) S in
     absurd (omega (arith, e, c .if1 .taken)))
-
-shift-requires : tie.Need-shift-requires
-shift-requires c κs = search needs
-
-shift-requires-2 : tie.Need-shift-requires-2
-shift-requires-2 c κs = search needs
-
-add-t15 : tie.Need-add-t15
-add-t15 c = search needs
-
-root-from-requires-2 : tie.Need-root-from-requires-2
-root-from-requires-2 c κs = search needs
 
 returns-2 : tie.Need-returns-2
 returns-2 c = λ w hs hl en i j l lj Q.
@@ -46,13 +31,5 @@ returns-2 c = λ w hs hl en i j l lj Q.
     (e, scan-high F Q hs l (omega (arith, en, lj)) (a .n) _ (g .root-from2 .result) lj (omega (arith, en)) e S′ (g .root-from2 .ensures .0)))
 
 pub scanned-roots-spec : {M : Type 1} → statement M
-scanned-roots-spec =
-    tie.close
-    (tie.spec
-    root-from-requires
-    returns
-    shift-requires
-    shift-requires-2
-    add-t15
-    root-from-requires-2
-    returns-2)
+scanned-roots-spec = tie.close (tie.spec (λ c κs. search needs) returns (λ c κs. search needs) (λ c κs. search needs) (λ c. search needs)
+    (λ c κs. search needs) returns-2)

@@ -15,13 +15,6 @@ returns c = λ k y.
     let F = field-of (a .width) (k .width) in
     sym (ap (λ (z : ℕ). add (a .x) (product (a .width) (a .k) z)) (c .if1 .taken) ∙ ap (add (a .x)) (F .product-zero (a .k)) ∙ F .add-zero (a .x)))
 
-multiply-requires : tie.Need-multiply-requires
-multiply-requires c κs = search needs
-
-returns-2 : tie.Need-returns-2
-returns-2 c = λ k y.
-    (let x = c .before .before .args .x in
-    xor-add x (c .multiply .result) ∙ ap (add x) (c .multiply .ensures ∙ multiplied-product k y))
-
 pub add-product-spec : {M : Type 1} → statement M
-add-product-spec = tie.close (tie.spec returns multiply-requires returns-2)
+add-product-spec = tie.close (tie.spec returns (λ c κs. search needs)
+    (λ c k y. (let x = c .before .before .args .x in xor-add x (c .multiply .result) ∙ ap (add x) (c .multiply .ensures ∙ multiplied-product k y))))

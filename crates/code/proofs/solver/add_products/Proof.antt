@@ -20,31 +20,6 @@ Inv-loop width k row by out₀ j₀ out j =
 abbrev μ-loop : tie.MeasureT-loop
 μ-loop width k row by out₀ j₀ out j = columns - j
 
-loop-holds : tie.Need-loop-holds Inv-loop μ-loop
-loop-holds c = search (needs, filled-start)
-
-array-read-add-product : tie.Need-array-read-add-product Inv-loop μ-loop
-array-read-add-product c = search needs
-
-array-read-add-product-2 : tie.Need-array-read-add-product-2 Inv-loop μ-loop
-array-read-add-product-2 c = search needs
-
-add-product-requires : tie.Need-add-product-requires Inv-loop μ-loop
-add-product-requires c κs = search needs
-
-array-write-out : tie.Need-array-write-out Inv-loop μ-loop
-array-write-out c = search needs
-
-add-j : tie.Need-add-j Inv-loop μ-loop
-add-j c = search needs
-
-loop-less : tie.Need-loop-less Inv-loop μ-loop
-loop-less c = search needs
-
-loop-again : tie.Need-loop-again Inv-loop μ-loop
-loop-again c =
-    filled-on (c .before .before .loop .inv) (omega arith) (λ h. c .add-product .ensures (h .0) (h .1 _ (omega arith)))
-
 returns : tie.Need-returns Inv-loop μ-loop
 returns c =
     let start = c .before .before .args in
@@ -54,17 +29,6 @@ returns c =
     (λ j h. getD-rowAdd (start .width) (start .t2) (start .k) (start .t4) j (long ∙ sym wide) (omega arith))
 
 pub add-products-spec : {M : Type 1} → statement M
-add-products-spec =
-    tie.close
-    (tie.spec
-    Inv-loop
-    μ-loop
-    loop-holds
-    array-read-add-product
-    array-read-add-product-2
-    add-product-requires
-    array-write-out
-    add-j
-    loop-less
-    loop-again
-    returns)
+add-products-spec = tie.close (tie.spec Inv-loop μ-loop (λ c. search (needs, filled-start)) (λ c. search needs) (λ c. search needs)
+    (λ c κs. search needs) (λ c. search needs) (λ c. search needs) (λ c. search needs)
+    (λ c. filled-on (c .before .before .loop .inv) (omega arith) (λ h. c .add-product .ensures (h .0) (h .1 _ (omega arith)))) returns)

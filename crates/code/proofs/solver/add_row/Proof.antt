@@ -11,9 +11,6 @@ use Rattle.code.proofs.solving.RowLaws.{below-order, eight-rowAdd}
 use Rattle.code.proofs.solver.add_row.Statement.{statement}
 use Rattle.code.proofs.solver.add_row.Tie as tie
 
-add-multiple-requires : tie.Need-add-multiple-requires
-add-multiple-requires c κs = search needs
-
 returns : tie.Need-returns
 returns c =
     let start = c .before .before in
@@ -26,11 +23,5 @@ returns c =
     ∙ eight-rowAdd 7 (a .row) (a .k) (a .by) long wide
     ∙ ap (λ (m : ℕ). rowAdd m (a .row) (a .k) (a .by)) (sym seven)
 
-add-products-requires : tie.Need-add-products-requires
-add-products-requires c κs = search needs
-
-returns-2 : tie.Need-returns-2
-returns-2 c = λ k y M. c .add-products .ensures k y
-
 pub add-row-spec : {M : Type 1} → statement M
-add-row-spec = tie.close (tie.spec add-multiple-requires returns add-products-requires returns-2)
+add-row-spec = tie.close (tie.spec (λ c κs. search needs) returns (λ c κs. search needs) (λ c k y M. c .add-products .ensures k y))

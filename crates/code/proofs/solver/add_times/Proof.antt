@@ -11,12 +11,6 @@ use Rattle.code.proofs.solving.RowLaws.{below-order, eight-rowAdd}
 use Rattle.code.proofs.solver.add_times.Statement.{statement}
 use Rattle.code.proofs.solver.add_times.Tie as tie
 
-multiples-requires : tie.Need-multiples-requires
-multiples-requires c κs = search needs
-
-add-multiple-requires : tie.Need-add-multiple-requires
-add-multiple-requires c κs = search needs
-
 returns : tie.Need-returns
 returns c =
     let m = c .before in
@@ -31,11 +25,5 @@ returns c =
     ∙ eight-rowAdd 7 (a .row) (a .k) (a .by) long wide
     ∙ ap (λ (m : ℕ). rowAdd m (a .row) (a .k) (a .by)) (sym seven)
 
-add-products-requires : tie.Need-add-products-requires
-add-products-requires c κs = search needs
-
-returns-2 : tie.Need-returns-2
-returns-2 c = c .add-products .ensures
-
 pub add-times-spec : {M : Type 1} → statement M
-add-times-spec = tie.close (tie.spec multiples-requires add-multiple-requires returns add-products-requires returns-2)
+add-times-spec = tie.close (tie.spec (λ c κs. search needs) (λ c κs. search needs) returns (λ c κs. search needs) (λ c. c .add-products .ensures))

@@ -8,9 +8,6 @@ use Rattle.code.proofs.solving.RowLaws.{zero-rowAdd}
 use Rattle.code.proofs.solver.scale_row.Statement.{statement}
 use Rattle.code.proofs.solver.scale_row.Tie as tie
 
-add-times-requires : tie.Need-add-times-requires
-add-times-requires c κs = search needs
-
 returns : tie.Need-returns
 returns c =
     let start = c .before in
@@ -19,4 +16,4 @@ returns c =
     λ k y. c .add-times .ensures k y ∙ zero-rowAdd (field-of (a .width) (k .width)) (a .k) (a .row) long
 
 pub scale-row-spec : {M : Type 1} → statement M
-scale-row-spec = tie.close (tie.spec add-times-requires returns)
+scale-row-spec = tie.close (tie.spec (λ c κs. search needs) returns)

@@ -7,18 +7,8 @@ use Rattle.code.proofs.Loops.{front-copied}
 use Rattle.code.proofs.trial.copied.Statement.{statement}
 use Rattle.code.proofs.trial.copied.Tie as tie
 
-array-borrow-prefix-out : tie.Need-array-borrow-prefix-out
-array-borrow-prefix-out c = search needs
-
-slice-aggregate-copy : tie.Need-slice-aggregate-copy
-slice-aggregate-copy c = sym (length-take-le (length (c .before .before .args .word .now)) (replicate 132 0) (search needs))
-
-copy-requires : tie.Need-copy-requires
-copy-requires c κs = length-take-le (length (c .before .before .args .word .now)) (replicate 132 0) (search needs)
-
-returns : tie.Need-returns
-returns c = front-copied _ (c .before .before .before .before .args .word .now) _ _ (c .before .copy .ensures) refl
-
 pub copied-spec : {M : Type 1} → statement M
-copied-spec =
-    tie.close (tie.spec array-borrow-prefix-out slice-aggregate-copy copy-requires returns)
+copied-spec = tie.close (tie.spec (λ c. search needs)
+    (λ c. sym (length-take-le (length (c .before .before .args .word .now)) (replicate 132 0) (search needs)))
+    (λ c κs. length-take-le (length (c .before .before .args .word .now)) (replicate 132 0) (search needs))
+    (λ c. front-copied _ (c .before .before .before .before .args .word .now) _ _ (c .before .copy .ensures) refl))

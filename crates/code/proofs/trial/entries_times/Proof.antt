@@ -6,21 +6,6 @@ use Rattle.code.specs.inner.Place.{column}
 use Rattle.code.proofs.trial.entries_times.Statement.{statement}
 use Rattle.code.proofs.trial.entries_times.Tie as tie
 
-entry-times-requires : tie.Need-entry-times-requires
-entry-times-requires c κs = search needs
-
-entry-times-requires-2 : tie.Need-entry-times-requires-2
-entry-times-requires-2 c κs = search needs
-
-entry-times-requires-3 : tie.Need-entry-times-requires-3
-entry-times-requires-3 c κs = search needs
-
-entry-times-requires-4 : tie.Need-entry-times-requires-4
-entry-times-requires-4 c κs = search needs
-
-entry-times-requires-5 : tie.Need-entry-times-requires-5
-entry-times-requires-5 c κs = search needs
-
 returns : tie.Need-returns
 returns c = λ w h.
     (let k3 = c .before in
@@ -33,12 +18,5 @@ returns c = λ w h.
     (c .entry-times5 .ensures w h))
 
 pub entries-times-spec : {M : Type 1} → statement M
-entries-times-spec =
-    tie.close
-    (tie.spec
-    entry-times-requires
-    entry-times-requires-2
-    entry-times-requires-3
-    entry-times-requires-4
-    entry-times-requires-5
-    returns)
+entries-times-spec = tie.close (tie.spec (λ c κs. search needs) (λ c κs. search needs) (λ c κs. search needs) (λ c κs. search needs)
+    (λ c κs. search needs) returns)

@@ -10,12 +10,6 @@ use Rattle.code.proofs.Columns.{column-lt}
 use Rattle.code.proofs.trial.entry_times.Statement.{statement}
 use Rattle.code.proofs.trial.entry_times.Tie as tie
 
-column-requires : tie.Need-column-requires
-column-requires c κs = search needs
-
-multiply-requires : tie.Need-multiply-requires
-multiply-requires c κs = search needs
-
 returns : tie.Need-returns
 returns c = λ w h.
     (let a = c .before .before .args in
@@ -26,4 +20,4 @@ returns c = λ w h.
     ∙ ap (λ (y : ℕ). product m y (a .x)) e)
 
 pub entry-times-spec : {M : Type 1} → statement M
-entry-times-spec = tie.close (tie.spec column-requires multiply-requires returns)
+entry-times-spec = tie.close (tie.spec (λ c κs. search needs) (λ c κs. search needs) returns)

@@ -11,12 +11,6 @@ use Rattle.code.proofs.restoring.Repairing.{plain-sums}
 use Rattle.code.proofs.trial.erasure_trial.Statement.{statement}
 use Rattle.code.proofs.trial.erasure_trial.Tie as tie
 
-row-of-places-requires : tie.Need-row-of-places-requires
-row-of-places-requires c κs = search needs
-
-word-syndromes-requires : tie.Need-word-syndromes-requires
-word-syndromes-requires c κs = search needs
-
 returns : tie.Need-returns
 returns c =
     let e = c .before .before .row-of-places .ensures in
@@ -51,6 +45,4 @@ returns-2 c =
     )
 
 pub erasure-trial-spec : {M : Type 1} → statement M
-erasure-trial-spec =
-    tie.close
-    (tie.spec row-of-places-requires word-syndromes-requires returns masked-sums-requires returns-2)
+erasure-trial-spec = tie.close (tie.spec (λ c κs. search needs) (λ c κs. search needs) returns masked-sums-requires returns-2)

@@ -5,15 +5,6 @@ use Rattle.code.proofs.restoring.Trying.{extended-symbol, extended-read
 use Rattle.code.proofs.trial.extended.Statement.{statement}
 use Rattle.code.proofs.trial.extended.Tie as tie
 
-prepended-requires : tie.Need-prepended-requires
-prepended-requires c κs = search needs
-
-add-t9 : tie.Need-add-t9
-add-t9 c = search needs
-
-masked-requires : tie.Need-masked-requires
-masked-requires c κs = search needs
-
 returns : tie.Need-returns
 returns c =
     let a = c .before .before .before .before .args in
@@ -27,4 +18,4 @@ returns c =
     )
 
 pub extended-spec : {M : Type 1} → statement M
-extended-spec = tie.close (tie.spec prepended-requires add-t9 masked-requires returns)
+extended-spec = tie.close (tie.spec (λ c κs. search needs) (λ c. search needs) (λ c κs. search needs) returns)

@@ -26,9 +26,6 @@ module _ (s : tie.Start Inv-loop μ-loop) where
   room′ : s .args .count ≤ length (s .args .t5)
   room′ = let five : length (s .args .t5) ≡ unknowns = search needs in omega (arith, s .pre, five)
 
-loop-holds : tie.Need-loop-holds Inv-loop μ-loop
-loop-holds c = (refl, put-start (c .args .n) (c .args .count) (numbers (c .args .places)) (c .args .t5) (c .args .row) (room c))
-
 array-write-out : tie.Need-array-write-out Inv-loop μ-loop
 array-write-out c =
     let v = c .before in
@@ -57,17 +54,6 @@ returns c =
     put-end (a .n) (a .count) (numbers (a .places)) (a .t5) (take (a .n) (a .row)) (l .loop .out) (l .loop .i) (l .loop .inv .1) (omega arith)
 
 pub filled-spec : {M : Type 1} → statement M
-filled-spec =
-    tie.close
-    (tie.spec
-    Inv-loop
-    μ-loop
-    loop-holds
-    (λ c. search needs)
-    (λ c κs. search needs)
-    (λ c. search needs)
-    (λ c. search needs)
-    array-write-out
-    (λ c. search needs)
-    loop-again
-    returns)
+filled-spec = tie.close (tie.spec Inv-loop μ-loop
+    (λ c. (refl, put-start (c .args .n) (c .args .count) (numbers (c .args .places)) (c .args .t5) (c .args .row) (room c))) (λ c. search needs)
+    (λ c κs. search needs) (λ c. search needs) (λ c. search needs) array-write-out (λ c. search needs) loop-again returns)

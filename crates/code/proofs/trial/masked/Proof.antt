@@ -13,39 +13,6 @@ use Rattle.code.specs.inner.Place.{column}
 use Rattle.code.proofs.trial.masked.Statement.{statement}
 use Rattle.code.proofs.trial.masked.Tie as tie
 
-column-times-requires : tie.Need-column-times-requires
-column-times-requires c κs = search needs
-
-array-read-t10 : tie.Need-array-read-t10
-array-read-t10 c = search needs
-
-array-read-t13 : tie.Need-array-read-t13
-array-read-t13 c = search needs
-
-array-read-t17 : tie.Need-array-read-t17
-array-read-t17 c = search needs
-
-array-read-t20 : tie.Need-array-read-t20
-array-read-t20 c = search needs
-
-array-read-t24 : tie.Need-array-read-t24
-array-read-t24 c = search needs
-
-array-read-t27 : tie.Need-array-read-t27
-array-read-t27 c = search needs
-
-array-read-t31 : tie.Need-array-read-t31
-array-read-t31 c = search needs
-
-array-read-t34 : tie.Need-array-read-t34
-array-read-t34 c = search needs
-
-array-read-t38 : tie.Need-array-read-t38
-array-read-t38 c = search needs
-
-array-read-t41 : tie.Need-array-read-t41
-array-read-t41 c = search needs
-
 returns : tie.Need-returns
 returns c = λ w h.
     (let a = c .before .args in
@@ -60,18 +27,5 @@ returns c = λ w h.
     (xor-add _ _ ∙ ap (add _) (s 4 (lit< tt))))
 
 pub masked-spec : {M : Type 1} → statement M
-masked-spec =
-    tie.close
-    (tie.spec
-    column-times-requires
-    array-read-t10
-    array-read-t13
-    array-read-t17
-    array-read-t20
-    array-read-t24
-    array-read-t27
-    array-read-t31
-    array-read-t34
-    array-read-t38
-    array-read-t41
-    returns)
+masked-spec = tie.close (tie.spec (λ c κs. search needs) (λ c. search needs) (λ c. search needs) (λ c. search needs) (λ c. search needs)
+    (λ c. search needs) (λ c. search needs) (λ c. search needs) (λ c. search needs) (λ c. search needs) (λ c. search needs) returns)

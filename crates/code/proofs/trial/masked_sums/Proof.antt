@@ -19,21 +19,6 @@ start s = s .before .before .before
 size : (s : tie.After-filled) → length (start s .args .word .now) ≡ length (take (length (start s .args .word .now)) (s .filled .result))
 size s = filled-size _ _ _ _ _ (s .before .copied .ensures) (s .filled .ensures)
 
-copied-requires : tie.Need-copied-requires
-copied-requires c κs = search needs
-
-filled-requires : tie.Need-filled-requires
-filled-requires c κs = search needs
-
-array-share-prefix-row : tie.Need-array-share-prefix-row
-array-share-prefix-row c = search needs
-
-slice-aggregate-word-syndromes : tie.Need-slice-aggregate-word-syndromes
-slice-aggregate-word-syndromes c = size (c .before)
-
-word-syndromes-requires : tie.Need-word-syndromes-requires
-word-syndromes-requires c κs = omega (arith, size (c .before), start (c .before) .pre)
-
 returns : tie.Need-returns
 returns c = λ v W.
     (let s = c .before .before in
@@ -47,12 +32,5 @@ returns c = λ v W.
     (filled-word _ _ _ _ _ (s .before .copied .ensures) (s .filled .ensures)) (c .word-syndromes .result) (c .word-syndromes .ensures v))
 
 pub masked-sums-spec : {M : Type 1} → statement M
-masked-sums-spec =
-    tie.close
-    (tie.spec
-    copied-requires
-    filled-requires
-    array-share-prefix-row
-    slice-aggregate-word-syndromes
-    word-syndromes-requires
-    returns)
+masked-sums-spec = tie.close (tie.spec (λ c κs. search needs) (λ c κs. search needs) (λ c. search needs) (λ c. size (c .before))
+    (λ c κs. omega (arith, size (c .before), start (c .before) .pre)) returns)

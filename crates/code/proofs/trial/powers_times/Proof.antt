@@ -8,15 +8,6 @@ use Rattle.code.proofs.finding.Times.{powers-times}
 use Rattle.code.proofs.trial.powers_times.Statement.{statement}
 use Rattle.code.proofs.trial.powers_times.Tie as tie
 
-ratio-exponent-requires : tie.Need-ratio-exponent-requires
-ratio-exponent-requires c κs = search needs
-
-exponent-of-requires : tie.Need-exponent-of-requires
-exponent-of-requires c κs = search needs
-
-powers-from-requires : tie.Need-powers-from-requires
-powers-from-requires c κs = (c .before .ratio-exponent .ensures .0, omega (arith, ap (λ (e : Exponent). e .0) (c .exponent-of .ensures)))
-
 returns : tie.Need-returns
 returns c = λ h n.
     (let i = c .before in
@@ -27,4 +18,5 @@ returns c = λ h n.
     (r .ratio-exponent .result .0) h n (ratio-own _ _ _ (r .ratio-exponent .ensures .1)))
 
 pub powers-times-spec : {M : Type 1} → statement M
-powers-times-spec = tie.close (tie.spec ratio-exponent-requires exponent-of-requires powers-from-requires returns)
+powers-times-spec = tie.close (tie.spec (λ c κs. search needs) (λ c κs. search needs)
+    (λ c κs. (c .before .ratio-exponent .ensures .0, omega (arith, ap (λ (e : Exponent). e .0) (c .exponent-of .ensures)))) returns)

@@ -18,9 +18,6 @@ Inv-loop places count out₀ j₀ out j =
 abbrev μ-loop : tie.MeasureT-loop
 μ-loop places count out₀ j₀ out j = count - j
 
-loop-holds : tie.Need-loop-holds Inv-loop μ-loop
-loop-holds c = (refl, omega arith, refl)
-
 loop-again : tie.Need-loop-again Inv-loop μ-loop
 loop-again c =
     let l = c .before .before .loop in
@@ -39,16 +36,5 @@ returns c =
     ap (λ (n : ℕ). take (n + 1) (numbers (l .out))) (sym e) ∙ l .inv .2 ∙ ap (λ (n : ℕ). a .p .0 ∷ take n (numbers (a .places))) e
 
 pub prepended-spec : {M : Type 1} → statement M
-prepended-spec =
-    tie.close
-    (tie.spec
-    Inv-loop
-    μ-loop
-    loop-holds
-    (λ c κs. search needs)
-    (λ c. search needs)
-    (λ c. search needs)
-    (λ c. search needs)
-    (λ c. search needs)
-    loop-again
-    returns)
+prepended-spec = tie.close (tie.spec Inv-loop μ-loop (λ c. (refl, omega arith, refl)) (λ c κs. search needs) (λ c. search needs) (λ c. search needs)
+    (λ c. search needs) (λ c. search needs) loop-again returns)

@@ -18,9 +18,6 @@ Inv-loop erasures out₀ i₀ out i = (length out ≡ unknowns) × (i ≤ length
 abbrev μ-loop : tie.MeasureT-loop
 μ-loop erasures out₀ i₀ out i = length erasures - i
 
-loop-holds : tie.Need-loop-holds Inv-loop μ-loop
-loop-holds c = (refl, omega arith, refl)
-
 loop-again : tie.Need-loop-again Inv-loop μ-loop
 loop-again c =
     let l = c .before .before .loop in
@@ -38,15 +35,5 @@ returns c =
     ap (λ (n : ℕ). take n (numbers (l .out))) (sym e) ∙ l .inv .2 ∙ ap (λ (n : ℕ). take n es) e ∙ take-all (length es) es (le-refl (length es))
 
 pub row-of-places-spec : {M : Type 1} → statement M
-row-of-places-spec =
-    tie.close
-    (tie.spec
-    Inv-loop
-    μ-loop
-    loop-holds
-    (λ c. search needs)
-    (λ c. search needs)
-    (λ c. search needs)
-    (λ c. search needs)
-    loop-again
-    returns)
+row-of-places-spec = tie.close (tie.spec Inv-loop μ-loop (λ c. (refl, omega arith, refl)) (λ c. search needs) (λ c. search needs) (λ c. search needs)
+    (λ c. search needs) loop-again returns)

@@ -16,12 +16,5 @@ returns c =
     (simp append-assoc at (writes-on two (c .before .before .put-two2 .ensures .0)), omega arith)
 
 pub put-clock-spec : {M : Type 1} → statement M
-put-clock-spec =
-    tie.close
-    (tie.spec
-    (λ c κs. search needs)
-    (λ c κs. search needs)
-    (λ c. search needs)
-    (λ c κs. search needs)
-    (λ c. search needs)
+put-clock-spec = tie.close (tie.spec (λ c κs. search needs) (λ c κs. search needs) (λ c. search needs) (λ c κs. search needs) (λ c. search needs)
     returns)

@@ -11,10 +11,4 @@ returns c =
     (writes-on (at-put-byte .put-byte .ensures) (c .before .before .put-small .ensures .0), omega arith)
 
 pub put-column-spec : {M : Type 1} → statement M
-put-column-spec =
-    tie.close
-    (tie.spec
-    (λ c κs. search needs)
-    (λ c κs. search needs)
-    (λ c. search needs)
-    returns)
+put-column-spec = tie.close (tie.spec (λ c κs. search needs) (λ c κs. search needs) (λ c. search needs) returns)

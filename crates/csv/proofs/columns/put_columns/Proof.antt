@@ -19,9 +19,6 @@ Inv-loop out₀ at symbols next₀ i₀ out next i =
 abbrev μ-loop : tie.MeasureT-loop
 μ-loop out₀ at symbols next₀ i₀ out next i = quarters - i
 
-loop-holds : tie.Need-loop-holds Inv-loop μ-loop
-loop-holds c = (omega arith, omega arith, refl, columns-none (c .before .before .args .symbols .now) _ _ (omega arith))
-
 loop-again : tie.Need-loop-again Inv-loop μ-loop
 loop-again c =
     let turn = c .before .before .before .before .before .before in
@@ -33,22 +30,8 @@ loop-again c =
       columns-more symbols (turn .loop .i) (omega arith) (turn .loop .inv .3) (c .before .before .put-column .ensures .0),
     )
 
-returns : tie.Need-returns Inv-loop μ-loop
-returns c =
-    let all : c .before .loop .i ≡ quarters = omega arith in
-    (rw all at (c .before .loop .inv .3), omega arith)
-
 pub put-columns-spec : {M : Type 1} → statement M
-put-columns-spec =
-    tie.close
-    (tie.spec
-    Inv-loop
-    μ-loop
-    loop-holds
-    (λ c. search needs)
-    (λ c κs. search needs)
-    (λ c. search needs)
-    (λ c. search needs)
-    loop-again
-    (λ c. search needs)
-    returns)
+put-columns-spec = tie.close (tie.spec Inv-loop μ-loop
+    (λ c. (omega arith, omega arith, refl, columns-none (c .before .before .args .symbols .now) _ _ (omega arith))) (λ c. search needs)
+    (λ c κs. search needs) (λ c. search needs) (λ c. search needs) loop-again (λ c. search needs)
+    (λ c. let all : c .before .loop .i ≡ quarters = omega arith in (rw all at (c .before .loop .inv .3), omega arith)))

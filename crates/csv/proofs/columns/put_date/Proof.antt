@@ -32,16 +32,5 @@ returns c =
     (simp append-assoc at (writes-on four (c .before .before .put-two2 .ensures .0)), omega arith)
 
 pub put-date-spec : {M : Type 1} → statement M
-put-date-spec =
-    tie.close
-    (tie.spec
-    (λ c. search needs)
-    (λ c κs. search needs)
-    (λ c κs. search needs)
-    (λ c. search needs)
-    put-two-requires
-    (λ c κs. search needs)
-    (λ c. search needs)
-    put-two-requires-2
-    (λ c. search needs)
-    returns)
+put-date-spec = tie.close (tie.spec (λ c. search needs) (λ c κs. search needs) (λ c κs. search needs) (λ c. search needs) put-two-requires
+    (λ c κs. search needs) (λ c. search needs) put-two-requires-2 (λ c. search needs) returns)

@@ -5,39 +5,6 @@ use Rattle.csv.proofs.Overwriting.{digits-written, digits-room}
 use Rattle.csv.proofs.columns.put_small.Statement.{statement}
 use Rattle.csv.proofs.columns.put_small.Tie as tie
 
-reaches-requires : tie.Need-reaches-requires
-reaches-requires c κs = search needs
-
-add-a : tie.Need-add-a
-add-a c = search needs
-
-reaches-requires-2 : tie.Need-reaches-requires-2
-reaches-requires-2 c κs = search needs
-
-add-b : tie.Need-add-b
-add-b c = search needs
-
-add-put-byte : tie.Need-add-put-byte
-add-put-byte c = search needs
-
-put-byte-requires : tie.Need-put-byte-requires
-put-byte-requires c κs = search needs
-
-add-put-byte-2 : tie.Need-add-put-byte-2
-add-put-byte-2 c = search needs
-
-put-byte-requires-2 : tie.Need-put-byte-requires-2
-put-byte-requires-2 c κs = search needs
-
-add-put-byte-3 : tie.Need-add-put-byte-3
-add-put-byte-3 c = search needs
-
-put-byte-requires-3 : tie.Need-put-byte-requires-3
-put-byte-requires-3 c κs = search needs
-
-same-length : tie.Need-same-length
-same-length c = search needs
-
 returns : tie.Need-returns
 returns c =
     let b2 = c .before .before in
@@ -56,18 +23,5 @@ returns c =
     )
 
 pub put-small-spec : {M : Type 1} → statement M
-put-small-spec =
-    tie.close
-    (tie.spec
-    reaches-requires
-    add-a
-    reaches-requires-2
-    add-b
-    add-put-byte
-    put-byte-requires
-    add-put-byte-2
-    put-byte-requires-2
-    add-put-byte-3
-    put-byte-requires-3
-    same-length
-    returns)
+put-small-spec = tie.close (tie.spec (λ c κs. search needs) (λ c. search needs) (λ c κs. search needs) (λ c. search needs) (λ c. search needs)
+    (λ c κs. search needs) (λ c. search needs) (λ c κs. search needs) (λ c. search needs) (λ c κs. search needs) (λ c. search needs) returns)

@@ -11,10 +11,4 @@ returns c =
     (writes-on (at-put-byte .put-byte .ensures) (c .before .before .put-clock .ensures .0), omega arith)
 
 pub put-time-spec : {M : Type 1} → statement M
-put-time-spec =
-    tie.close
-    (tie.spec
-    (λ c κs. search needs)
-    (λ c κs. search needs)
-    (λ c. search needs)
-    returns)
+put-time-spec = tie.close (tie.spec (λ c κs. search needs) (λ c κs. search needs) (λ c. search needs) returns)

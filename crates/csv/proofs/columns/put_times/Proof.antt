@@ -19,29 +19,12 @@ Inv-loop out₀ at next₀ n₀ out next n =
 abbrev μ-loop : tie.MeasureT-loop
 μ-loop out₀ at next₀ n₀ out next n = quarters - n
 
-loop-holds : tie.Need-loop-holds Inv-loop μ-loop
-loop-holds c = (omega arith, omega arith, refl, times-none _ _ (omega arith))
-
 loop-again : tie.Need-loop-again Inv-loop μ-loop
 loop-again c =
     let turn = c .before .before .before .before .before in
     (omega arith, omega arith, omega arith, times-more (turn .loop .n) (turn .loop .inv .3) (c .before .before .put-time .ensures .0))
 
-returns : tie.Need-returns Inv-loop μ-loop
-returns c =
-    let all : c .before .loop .n ≡ quarters = omega arith in
-    (rw all at (c .before .loop .inv .3), omega arith)
-
 pub put-times-spec : {M : Type 1} → statement M
-put-times-spec =
-    tie.close
-    (tie.spec
-    Inv-loop
-    μ-loop
-    loop-holds
-    (λ c κs. search needs)
-    (λ c. search needs)
-    (λ c. search needs)
-    loop-again
-    (λ c. search needs)
-    returns)
+put-times-spec = tie.close (tie.spec Inv-loop μ-loop (λ c. (omega arith, omega arith, refl, times-none _ _ (omega arith))) (λ c κs. search needs)
+    (λ c. search needs) (λ c. search needs) loop-again (λ c. search needs)
+    (λ c. let all : c .before .loop .n ≡ quarters = omega arith in (rw all at (c .before .loop .inv .3), omega arith)))

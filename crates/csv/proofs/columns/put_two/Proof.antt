@@ -13,12 +13,4 @@ returns c =
     (rw (two-digits (s .args .n) (s .pre .1)) (writes-on (at-put-byte .put-byte .ensures) (c .before .before .put-byte2 .ensures)), omega arith)
 
 pub put-two-spec : {M : Type 1} → statement M
-put-two-spec =
-    tie.close
-    (tie.spec
-    (λ c. search needs)
-    (λ c κs. search needs)
-    (λ c. search needs)
-    (λ c κs. search needs)
-    (λ c. search needs)
-    returns)
+put-two-spec = tie.close (tie.spec (λ c. search needs) (λ c κs. search needs) (λ c. search needs) (λ c κs. search needs) (λ c. search needs) returns)

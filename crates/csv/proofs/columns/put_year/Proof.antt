@@ -14,11 +14,4 @@ returns c =
     (rw (year-digits (s .args .year) (omega arith)) both, omega arith)
 
 pub put-year-spec : {M : Type 1} → statement M
-put-year-spec =
-    tie.close
-    (tie.spec
-    (λ c. search needs)
-    (λ c κs. search needs)
-    (λ c κs. search needs)
-    (λ c. search needs)
-    returns)
+put-year-spec = tie.close (tie.spec (λ c. search needs) (λ c κs. search needs) (λ c κs. search needs) (λ c. search needs) returns)

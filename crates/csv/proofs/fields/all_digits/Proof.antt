@@ -15,9 +15,6 @@ Inv-loop text i₀ i = (i ≤ length text) × (allDigits text ≡ allDigits (dro
 abbrev μ-loop : tie.MeasureT-loop
 μ-loop text i₀ i = length text - i
 
-loop-holds : tie.Need-loop-holds Inv-loop μ-loop
-loop-holds c = (omega arith, refl)
-
 returns : tie.Need-returns Inv-loop μ-loop
 returns c =
     let at-loop-test = c .before .before .before in
@@ -36,22 +33,7 @@ loop-again c =
     let x = c .before .is-digit in
     (omega arith, digits-on (s .args .text .now) (l .i) (l .inv .1) (at-loop-test .loop-test .taken) (x .result) (x .ensures) (c .if1 .left))
 
-returns-2 : tie.Need-returns-2 Inv-loop μ-loop
-returns-2 c =
-    let l = c .before .loop in
-    digits-end (c .before .before .before .args .text .now) (l .i) (l .inv .1) (c .loop-test .left)
-
 pub all-digits-spec : {M : Type 1} → statement M
-all-digits-spec =
-    tie.close
-    (tie.spec
-    Inv-loop
-    μ-loop
-    loop-holds
-    (λ c. search needs)
-    (λ c κs. search needs)
-    returns
-    (λ c. search needs)
-    (λ c. search needs)
-    loop-again
-    returns-2)
+all-digits-spec = tie.close (tie.spec Inv-loop μ-loop (λ c. (omega arith, refl)) (λ c. search needs) (λ c κs. search needs) returns
+    (λ c. search needs) (λ c. search needs) loop-again
+    (λ c. let l = c .before .loop in digits-end (c .before .before .before .args .text .now) (l .i) (l .inv .1) (c .loop-test .left)))

@@ -13,9 +13,6 @@ Inv-loop text i₀ i = (i ≤ length text) × Reaches text i
 abbrev μ-loop : tie.MeasureT-loop
 μ-loop text i₀ i = length text - i
 
-loop-holds : tie.Need-loop-holds Inv-loop μ-loop
-loop-holds c = (omega arith, reaches-start (c .args .text .now))
-
 returns : tie.Need-returns Inv-loop μ-loop
 returns c =
     let turn = c .before .before .before in
@@ -30,21 +27,7 @@ loop-again c =
     let l = turn .loop in
     (omega arith, reaches-on (s .args .text .now) (l .i) (l .inv .1) (c .before .before .loop-test .taken) (c .if1 .left))
 
-returns-2 : tie.Need-returns-2 Inv-loop μ-loop
-returns-2 c =
-    let l = c .before .loop in
-    reaches-end (c .before .before .args .text .now) (l .i) (l .inv .1) (c .loop-test .left)
-
 pub column-end-spec : {M : Type 1} → statement M
-column-end-spec =
-    tie.close
-    (tie.spec
-    Inv-loop
-    μ-loop
-    loop-holds
-    (λ c. search needs)
-    returns
-    (λ c. search needs)
-    (λ c. search needs)
-    loop-again
-    returns-2)
+column-end-spec = tie.close (tie.spec Inv-loop μ-loop (λ c. (omega arith, reaches-start (c .args .text .now))) (λ c. search needs) returns
+    (λ c. search needs) (λ c. search needs) loop-again
+    (λ c. let l = c .before .loop in reaches-end (c .before .before .args .text .now) (l .i) (l .inv .1) (c .loop-test .left)))

@@ -17,9 +17,6 @@ Inv-loop text n₀ i₀ n i = (n ≤ i) × (i ≤ length text) × (n + occurs se
 abbrev μ-loop : tie.MeasureT-loop
 μ-loop text n₀ i₀ n i = length text - i
 
-loop-holds : tie.Need-loop-holds Inv-loop μ-loop
-loop-holds c = (omega arith, omega arith, occurs-start separator (c .args .text .now))
-
 loop-again : tie.Need-loop-again Inv-loop μ-loop
 loop-again c =
     ⊎-elim
@@ -27,21 +24,7 @@ loop-again c =
     (λ w. (omega arith, omega arith, search (needs, occurs-no)))
     (c .if1 .came)
 
-returns : tie.Need-returns Inv-loop μ-loop
-returns c =
-    let l = c .before .loop in
-    occurs-end separator (c .before .before .args .text .now) (l .i) (l .n) (l .inv .2) (c .loop-test .left)
-
 pub commas-spec : {M : Type 1} → statement M
-commas-spec =
-    tie.close
-    (tie.spec
-    Inv-loop
-    μ-loop
-    loop-holds
-    (λ c. search needs)
-    (λ c. search needs)
-    (λ c. search needs)
-    (λ c. search needs)
-    loop-again
-    returns)
+commas-spec = tie.close (tie.spec Inv-loop μ-loop (λ c. (omega arith, omega arith, occurs-start separator (c .args .text .now))) (λ c. search needs)
+    (λ c. search needs) (λ c. search needs) (λ c. search needs) loop-again
+    (λ c. let l = c .before .loop in occurs-end separator (c .before .before .args .text .now) (l .i) (l .n) (l .inv .2) (c .loop-test .left)))

@@ -4,12 +4,6 @@ use Rattle.csv.proofs.Values.{date-early, date-late, date-there, date-m
 use Rattle.csv.proofs.fields.date_from.Statement.{statement}
 use Rattle.csv.proofs.fields.date_from.Tie as tie
 
-returns : tie.Need-returns
-returns c = let a = c .before .args in date-early (a .year) (a .month) (a .day) (c .if1 .taken)
-
-returns-2 : tie.Need-returns-2
-returns-2 c = let a = c .before .before .args in date-late (a .year) (a .month) (a .day) (c .before .if1 .left) (c .if2 .taken)
-
 returns-3 : tie.Need-returns-3
 returns-3 c =
     let told = c .before .before .before in
@@ -27,12 +21,6 @@ returns-4 c =
     date-missing (a .year) (a .month) (a .day) (told .if1 .left) (c .before .before .if2 .left) (x .result) (x .ensures) (c .if3 .left)
 
 pub date-from-spec : {M : Type 1} → statement M
-date-from-spec =
-    tie.close
-    (tie.spec
-    returns
-    returns-2
-    (λ c. search needs)
-    (λ c κs. search needs)
-    returns-3
-    returns-4)
+date-from-spec = tie.close (tie.spec (λ c. let a = c .before .args in date-early (a .year) (a .month) (a .day) (c .if1 .taken))
+    (λ c. let a = c .before .before .args in date-late (a .year) (a .month) (a .day) (c .before .if1 .left) (c .if2 .taken)) (λ c. search needs)
+    (λ c κs. search needs) returns-3 returns-4)

@@ -8,11 +8,6 @@ use Rattle.csv.proofs.Values.{date-shapeless, date-shaped, date-long}
 use Rattle.csv.proofs.fields.date_in.Statement.{statement}
 use Rattle.csv.proofs.fields.date_in.Tie as tie
 
-returns : tie.Need-returns
-returns c =
-    let x = c .before .has-hyphens in
-    date-shapeless (c .before .before .before .args .text .now) (x .result) (x .ensures) (c .if1 .taken)
-
 year-in-requires : tie.Need-year-in-requires
 year-in-requires c κs =
     let x = c .before .has-hyphens in
@@ -47,13 +42,6 @@ returns-2 c =
     ∙ date-shaped (s .args .text .now) (x .result) (x .ensures) (told .if1 .left)
 
 pub date-in-spec : {M : Type 1} → statement M
-date-in-spec =
-    tie.close
-    (tie.spec
-    (λ c κs. search needs)
-    returns
-    year-in-requires
-    two-at-requires
-    two-at-requires-2
-    (λ c κs. search needs)
-    returns-2)
+date-in-spec = tie.close (tie.spec (λ c κs. search needs)
+    (λ c. let x = c .before .has-hyphens in date-shapeless (c .before .before .before .args .text .now) (x .result) (x .ensures) (c .if1 .taken))
+    year-in-requires two-at-requires two-at-requires-2 (λ c κs. search needs) returns-2)

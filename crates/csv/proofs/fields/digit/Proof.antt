@@ -6,16 +6,6 @@ use Rattle.csv.proofs.Values.{digit-least, digit-most}
 use Rattle.csv.proofs.fields.digit.Statement.{statement}
 use Rattle.csv.proofs.fields.digit.Tie as tie
 
-sub-result : tie.Need-sub-result
-sub-result c = omega (arith, digit-least (c .args .x) (c .pre))
-
-returns : tie.Need-returns
-returns c = (refl, omega (arith, digit-most (c .args .x) (c .pre)))
-
 pub digit-spec : {M : Type 1} → statement M
-digit-spec =
-    tie.close
-    (tie.spec
-    sub-result
-    (λ c. search needs)
-    returns)
+digit-spec = tie.close (tie.spec (λ c. omega (arith, digit-least (c .args .x) (c .pre))) (λ c. search needs)
+    (λ c. (refl, omega (arith, digit-most (c .args .x) (c .pre)))))

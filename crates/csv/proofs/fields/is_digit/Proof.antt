@@ -3,15 +3,5 @@ use Rattle.csv.proofs.Values.{digit-low, digit-high}
 use Rattle.csv.proofs.fields.is_digit.Statement.{statement}
 use Rattle.csv.proofs.fields.is_digit.Tie as tie
 
-returns : tie.Need-returns
-returns c = digit-low (c .before .args .x) (c .if1 .taken)
-
-returns-2 : tie.Need-returns-2
-returns-2 c = digit-high (c .before .args .x) (c .if1 .left)
-
 pub is-digit-spec : {M : Type 1} → statement M
-is-digit-spec =
-    tie.close
-    (tie.spec
-    returns
-    returns-2)
+is-digit-spec = tie.close (tie.spec (λ c. digit-low (c .before .args .x) (c .if1 .taken)) (λ c. digit-high (c .before .args .x) (c .if1 .left)))

@@ -4,12 +4,6 @@ use Rattle.csv.proofs.Values.{number-empty, number-long, number-digits}
 use Rattle.csv.proofs.fields.is_number.Statement.{statement}
 use Rattle.csv.proofs.fields.is_number.Tie as tie
 
-returns : tie.Need-returns
-returns c = let a = c .before .before .args in number-empty (a .most) (a .text .now) (c .if1 .taken)
-
-returns-2 : tie.Need-returns-2
-returns-2 c = let a = c .before .before .before .args in number-long (a .most) (a .text .now) (c .before .if1 .left) (c .if2 .taken)
-
 returns-3 : tie.Need-returns-3
 returns-3 c =
     let s = c .before .before .before .before in
@@ -17,10 +11,6 @@ returns-3 c =
     number-digits (a .most) (a .text .now) (c .before .before .if1 .left) (c .before .if2 .left) (c .all-digits .result) (c .all-digits .ensures)
 
 pub is-number-spec : {M : Type 1} → statement M
-is-number-spec =
-    tie.close
-    (tie.spec
-    returns
-    returns-2
-    (λ c κs. search needs)
-    returns-3)
+is-number-spec = tie.close (tie.spec (λ c. let a = c .before .before .args in number-empty (a .most) (a .text .now) (c .if1 .taken))
+    (λ c. let a = c .before .before .before .args in number-long (a .most) (a .text .now) (c .before .if1 .left) (c .if2 .taken))
+    (λ c κs. search needs) returns-3)

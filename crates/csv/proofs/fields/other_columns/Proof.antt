@@ -16,12 +16,6 @@ returns c =
     ∙ ap (λ (n : ℕ). drop (n + 1) text) first
     ∙ others-dropped text (omega (arith, first, c .before .if1 .taken))
 
-sub-result-2 : tie.Need-sub-result-2
-sub-result-2 c = omega (arith, c .before .pre, first-short (c .before .args .text .now))
-
-part-result-start-2 : tie.Need-part-result-start-2
-part-result-start-2 c = omega (arith, c .before .pre, first-short (c .before .args .text .now))
-
 returns-2 : tie.Need-returns-2
 returns-2 c =
     let text = c .before .before .args .text .now in
@@ -29,15 +23,6 @@ returns-2 c =
     rest-all text (c .before .before .args .end) ∙ ap (λ (n : ℕ). drop n text) first ∙ others-none text (omega (arith, first, c .before .if1 .left))
 
 pub other-columns-spec : {M : Type 1} → statement M
-other-columns-spec =
-    tie.close
-    (tie.spec
-    (λ c. search needs)
-    (λ c. search needs)
-    (λ c. search needs)
-    (λ c. search needs)
-    returns
-    sub-result-2
-    part-result-start-2
-    (λ c. search needs)
-    returns-2)
+other-columns-spec = tie.close (tie.spec (λ c. search needs) (λ c. search needs) (λ c. search needs) (λ c. search needs) returns
+    (λ c. omega (arith, c .before .pre, first-short (c .before .args .text .now)))
+    (λ c. omega (arith, c .before .pre, first-short (c .before .args .text .now))) (λ c. search needs) returns-2)

@@ -12,9 +12,6 @@ returns c =
     let x = c .before .is-number in
     symbol-none (a .fault) (a .text .now) (x .result) (x .ensures) (c .if1 .taken)
 
-value-of-requires : tie.Need-value-of-requires
-value-of-requires c κs = let x = c .before .is-number in sym (x .ensures) ∙ not-false (x .result) (c .if1 .left)
-
 returns-2 : tie.Need-returns-2
 returns-2 c =
     let at-is-number = c .before .before .before in
@@ -34,12 +31,5 @@ returns-3 c =
     symbol-large (a .fault) (a .text .now) (x .result) (x .ensures) (c .before .before .if1 .left) (v .result) (v .ensures) (c .if2 .left)
 
 pub symbol-in-spec : {M : Type 1} → statement M
-symbol-in-spec =
-    tie.close
-    (tie.spec
-    (λ c κs. search needs)
-    returns
-    value-of-requires
-    (λ c. search needs)
-    returns-2
-    returns-3)
+symbol-in-spec = tie.close (tie.spec (λ c κs. search needs) returns
+    (λ c κs. let x = c .before .is-number in sym (x .ensures) ∙ not-false (x .result) (c .if1 .left)) (λ c. search needs) returns-2 returns-3)

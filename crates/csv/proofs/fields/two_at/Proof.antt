@@ -41,31 +41,7 @@ digits c =
     let y = c .before .is-digit2 in
     digits-both _ _ (x .result) (x .ensures) (c .before .before .if1 .left) (y .result) (y .ensures) (c .if2 .left)
 
-sub-result : tie.Need-sub-result
-sub-result c = let f = digits c in omega arith
-
-mul-result : tie.Need-mul-result
-mul-result c = let f = digits c in omega arith
-
-sub-result-2 : tie.Need-sub-result-2
-sub-result-2 c = let f = digits c in omega arith
-
-add-result : tie.Need-add-result
-add-result c = let f = digits c in omega arith
-
 pub two-at-spec : {M : Type 1} → statement M
-two-at-spec =
-    tie.close
-    (tie.spec
-    (λ c. search needs)
-    (λ c. search needs)
-    (λ c. search needs)
-    (λ c κs. search needs)
-    returns
-    (λ c κs. search needs)
-    returns-2
-    sub-result
-    mul-result
-    sub-result-2
-    add-result
-    returns-3)
+two-at-spec = tie.close (tie.spec (λ c. search needs) (λ c. search needs) (λ c. search needs) (λ c κs. search needs) returns (λ c κs. search needs)
+    returns-2 (λ c. let f = digits c in omega arith) (λ c. let f = digits c in omega arith) (λ c. let f = digits c in omega arith)
+    (λ c. let f = digits c in omega arith) returns-3)

@@ -5,23 +5,10 @@ use Rattle.csv.proofs.Values.{number-some, number-few, number-at, value
 use Rattle.csv.proofs.fields.value_of.Statement.{statement}
 use Rattle.csv.proofs.fields.value_of.Tie as tie
 
-shared-slice-read-digit : tie.Need-shared-slice-read-digit
-shared-slice-read-digit c = omega (arith, number-some 3 (c .before .before .args .text .now) (c .before .before .pre))
-
-digit-requires : tie.Need-digit-requires
-digit-requires c κs =
-    let s = c .before .before in
-    number-at 3 (s .args .text .now) (s .pre) 0 (omega (arith, number-some 3 (s .args .text .now) (s .pre)))
-
 returns : tie.Need-returns
 returns c =
     let s = c .before .before .before .before in
     value-one (s .args .text .now) (c .before .digit .result) (c .if1 .taken) (c .before .digit .ensures .0)
-
-shared-slice-read-digit-2 : tie.Need-shared-slice-read-digit-2
-shared-slice-read-digit-2 c =
-    let s = c .before .before .before .before .before in
-    omega (arith, number-some 3 (s .args .text .now) (s .pre), c .before .if1 .left)
 
 digit-requires-2 : tie.Need-digit-requires-2
 digit-requires-2 c κs =
@@ -60,21 +47,9 @@ returns-3 c =
     (at-digit .digit .ensures .0) (at-digit2 .digit2 .ensures .0) (c .digit3 .ensures .0)
 
 pub value-of-spec : {M : Type 1} → statement M
-value-of-spec =
-    tie.close
-    (tie.spec
-    shared-slice-read-digit
-    digit-requires
+value-of-spec = tie.close (tie.spec (λ c. omega (arith, number-some 3 (c .before .before .args .text .now) (c .before .before .pre)))
+    (λ c κs. let s = c .before .before in number-at 3 (s .args .text .now) (s .pre) 0 (omega (arith, number-some 3 (s .args .text .now) (s .pre))))
     returns
-    shared-slice-read-digit-2
-    digit-requires-2
-    (λ c. search needs)
-    (λ c. search needs)
-    returns-2
-    shared-slice-read-digit-3
-    digit-requires-3
-    (λ c. search needs)
-    (λ c. search needs)
-    (λ c. search needs)
-    (λ c. search needs)
-    returns-3)
+    (λ c. let s = c .before .before .before .before .before in omega (arith, number-some 3 (s .args .text .now) (s .pre), c .before .if1 .left))
+    digit-requires-2 (λ c. search needs) (λ c. search needs) returns-2 shared-slice-read-digit-3 digit-requires-3 (λ c. search needs)
+    (λ c. search needs) (λ c. search needs) (λ c. search needs) returns-3)

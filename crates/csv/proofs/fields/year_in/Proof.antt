@@ -19,14 +19,5 @@ returns-2 c =
     year-none (s .args .text .now) (a .result) (b .result) (a .ensures) (b .ensures) (c .if1 .left)
 
 pub year-in-spec : {M : Type 1} → statement M
-year-in-spec =
-    tie.close
-    (tie.spec
-    (λ c κs. search needs)
-    (λ c κs. search needs)
-    (λ c. search needs)
-    (λ c. search needs)
-    (λ c. search needs)
-    (λ c. search needs)
-    returns
-    returns-2)
+year-in-spec = tie.close (tie.spec (λ c κs. search needs) (λ c κs. search needs) (λ c. search needs) (λ c. search needs) (λ c. search needs)
+    (λ c. search needs) returns returns-2)

@@ -34,12 +34,4 @@ returns-3 c =
     (c .if2 .left)
 
 pub header-in-spec : {M : Type 1} → statement M
-header-in-spec =
-    tie.close
-    (tie.spec
-    (λ c κs. search needs)
-    (λ c κs. search needs)
-    returns
-    (λ c κs. search needs)
-    returns-2
-    returns-3)
+header-in-spec = tie.close (tie.spec (λ c κs. search needs) (λ c κs. search needs) returns (λ c κs. search needs) returns-2 returns-3)

@@ -13,10 +13,4 @@ returns c =
     (writes-on (at-put-names .put-names .ensures .0) (c .before .before .put-times .ensures .0), omega arith)
 
 pub put-columns-spec : {M : Type 1} → statement M
-put-columns-spec =
-    tie.close
-    (tie.spec
-    (λ c κs. search needs)
-    (λ c κs. search needs)
-    (λ c. search needs)
-    returns)
+put-columns-spec = tie.close (tie.spec (λ c κs. search needs) (λ c κs. search needs) (λ c. search needs) returns)

@@ -39,15 +39,5 @@ returns-2 c =
     )
 
 pub list-record-spec : {M : Type 1} → statement M
-list-record-spec =
-    tie.close
-    (tie.spec
-    (λ c κs. search needs)
-    (λ c. search needs)
-    put-sheet-requires
-    (λ c κs. search needs)
-    (λ c. search needs)
-    (λ c κs. search needs)
-    (λ c. search needs)
-    returns
-    returns-2)
+list-record-spec = tie.close (tie.spec (λ c κs. search needs) (λ c. search needs) put-sheet-requires (λ c κs. search needs) (λ c. search needs)
+    (λ c κs. search needs) (λ c. search needs) returns returns-2)

@@ -21,9 +21,6 @@ Inv-loop batch out₀ n done₀ i₀ out done i =
 abbrev μ-loop : tie.MeasureT-loop
 μ-loop batch out₀ n done₀ i₀ out done i = n - i
 
-loop-holds : tie.Need-loop-holds Inv-loop μ-loop
-loop-holds c = (omega arith, search needs, omega arith, lists-none _ _ _)
-
 list-slot-requires : tie.Need-list-slot-requires Inv-loop μ-loop
 list-slot-requires c κs =
     let turn = c .before .before .before in
@@ -55,18 +52,5 @@ returns c =
     lists-end (a .s) (a .batch .now) (c .before .loop .i) all (c .before .loop .inv .3)
 
 pub list-sheets-spec : {M : Type 1} → statement M
-list-sheets-spec =
-    tie.close
-    (tie.spec
-    Inv-loop
-    μ-loop
-    (λ c κs. search needs)
-    loop-holds
-    (λ c. search needs)
-    (λ c κs. search needs)
-    list-slot-requires
-    (λ c. search needs)
-    (λ c. search needs)
-    loop-again
-    (λ c. search needs)
-    returns)
+list-sheets-spec = tie.close (tie.spec Inv-loop μ-loop (λ c κs. search needs) (λ c. (omega arith, search needs, omega arith, lists-none _ _ _))
+    (λ c. search needs) (λ c κs. search needs) list-slot-requires (λ c. search needs) (λ c. search needs) loop-again (λ c. search needs) returns)

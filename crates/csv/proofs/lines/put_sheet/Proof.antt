@@ -58,17 +58,5 @@ returns c =
     )
 
 pub put-sheet-spec : {M : Type 1} → statement M
-put-sheet-spec =
-    tie.close
-    (tie.spec
-    (λ c κs. search needs)
-    (λ c κs. search needs)
-    (λ c κs. search needs)
-    (λ c. search needs)
-    (λ c κs. search needs)
-    (λ c κs. search needs)
-    (λ c κs. search needs)
-    (λ c κs. search needs)
-    put-byte-requires-3
-    (λ c. search needs)
-    returns)
+put-sheet-spec = tie.close (tie.spec (λ c κs. search needs) (λ c κs. search needs) (λ c κs. search needs) (λ c. search needs) (λ c κs. search needs)
+    (λ c κs. search needs) (λ c κs. search needs) (λ c κs. search needs) put-byte-requires-3 (λ c. search needs) returns)

@@ -14,14 +14,6 @@ Inv-loop text from i₀ i = (from ≤ i) × (i ≤ length text) × OneLine text 
 abbrev μ-loop : tie.MeasureT-loop
 μ-loop text from i₀ i = length text - i
 
-loop-holds : tie.Need-loop-holds Inv-loop μ-loop
-loop-holds c = (omega arith, search needs, line-starts (c .args .text .now) (c .args .from))
-
-returns : tie.Need-returns Inv-loop μ-loop
-returns c =
-    let l = c .before .before .before .loop in
-    record { first = l .inv .0; inside = l .inv .1; end = λ h. c .if1 .taken; one = l .inv .2 }
-
 loop-again : tie.Need-loop-again Inv-loop μ-loop
 loop-again c =
     let turn = c .before .before .before in
@@ -34,15 +26,7 @@ returns-2 c =
     record { first = l .inv .0; inside = l .inv .1; end = λ h. absurd (omega (arith, h, c .loop-test .left)); one = l .inv .2 }
 
 pub line-end-spec : {M : Type 1} → statement M
-line-end-spec =
-    tie.close
-    (tie.spec
-    Inv-loop
-    μ-loop
-    loop-holds
+line-end-spec = tie.close (tie.spec Inv-loop μ-loop (λ c. (omega arith, search needs, line-starts (c .args .text .now) (c .args .from)))
     (λ c. search needs)
-    returns
-    (λ c. search needs)
-    (λ c. search needs)
-    loop-again
-    returns-2)
+    (λ c. let l = c .before .before .before .loop in record { first = l .inv .0; inside = l .inv .1; end = λ h. c .if1 .taken; one = l .inv .2 })
+    (λ c. search needs) (λ c. search needs) loop-again returns-2)

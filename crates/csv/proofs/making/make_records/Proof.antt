@@ -20,14 +20,6 @@ Inv-loop text out₀ done₀ out done =
 abbrev μ-loop : tie.MeasureT-loop
 μ-loop text out₀ done₀ out done = length text - done .taken
 
-loop-holds : tie.Need-loop-holds Inv-loop μ-loop
-loop-holds c =
-    let s = c .before .before in
-    (s .pre .0, refl, making-start (s .args .text .now) (s .args .s) (s .args .out .now))
-
-line-end-requires : tie.Need-line-end-requires Inv-loop μ-loop
-line-end-requires c κs = c .before .before .loop .inv .2 .inside
-
 returns : tie.Need-returns Inv-loop μ-loop
 returns c =
     let l = c .before .before .before .before .loop in
@@ -72,24 +64,7 @@ returns-3 c =
     making-end (l .inv .2) (l .inv .0) (line-none (c .before .before .before .before .before .args .text .now) (l .done .taken) (omega arith))
 
 pub make-records-spec : {M : Type 1} → statement M
-make-records-spec =
-    tie.close
-    (tie.spec
-    Inv-loop
-    μ-loop
-    loop-holds
-    line-end-requires
-    (λ c. search needs)
-    returns
-    (λ c. search needs)
-    (λ c. search needs)
-    (λ c. search needs)
-    (λ c. search needs)
-    take-line-requires
-    (λ c κs. search needs)
-    (λ c. search needs)
-    returns-2
-    loop-less
-    loop-again
-    (λ c. search needs)
-    returns-3)
+make-records-spec = tie.close (tie.spec Inv-loop μ-loop
+    (λ c. let s = c .before .before in (s .pre .0, refl, making-start (s .args .text .now) (s .args .s) (s .args .out .now)))
+    (λ c κs. c .before .before .loop .inv .2 .inside) (λ c. search needs) returns (λ c. search needs) (λ c. search needs) (λ c. search needs)
+    (λ c. search needs) take-line-requires (λ c κs. search needs) (λ c. search needs) returns-2 loop-less loop-again (λ c. search needs) returns-3)

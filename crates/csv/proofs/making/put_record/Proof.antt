@@ -14,11 +14,4 @@ returns c =
     written-as (at-record-of .record-of .ensures ∙ made-sheet (s .args .symbols .now) (s .pre .1)) (at-put-bytes .put-bytes .ensures)
 
 pub put-record-spec : {M : Type 1} → statement M
-put-record-spec =
-    tie.close
-    (tie.spec
-    (λ c κs. search needs)
-    (λ c. search needs)
-    (λ c κs. search needs)
-    (λ c. search needs)
-    returns)
+put-record-spec = tie.close (tie.spec (λ c κs. search needs) (λ c. search needs) (λ c κs. search needs) (λ c. search needs) returns)

@@ -25,14 +25,5 @@ returns-3 c =
     ap (headerRead (c .before .before .before .before .before .args .s)) (sym told ∙ x .ensures)
 
 pub take-header-spec : {M : Type 1} → statement M
-take-header-spec =
-    tie.close
-    (tie.spec
-    (λ c. search needs)
-    (λ c κs. search needs)
-    (λ c. search needs)
-    (λ c. search needs)
-    (λ c. search needs)
-    returns
-    returns-2
-    returns-3)
+take-header-spec = tie.close (tie.spec (λ c. search needs) (λ c κs. search needs) (λ c. search needs) (λ c. search needs) (λ c. search needs) returns
+    returns-2 returns-3)

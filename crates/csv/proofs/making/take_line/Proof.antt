@@ -15,11 +15,4 @@ returns-2 c =
     sheet-taken (s .args .done .state) (s .args .end) (s .pre .0) (s .args .line .now) (search needs) (c .before .before .take-sheet .ensures)
 
 pub take-line-spec : {M : Type 1} → statement M
-take-line-spec =
-    tie.close
-    (tie.spec
-    (λ c κs. search needs)
-    returns
-    (λ c κs. search needs)
-    (λ c. search needs)
-    returns-2)
+take-line-spec = tie.close (tie.spec (λ c κs. search needs) returns (λ c κs. search needs) (λ c. search needs) returns-2)

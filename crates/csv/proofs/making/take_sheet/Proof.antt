@@ -38,14 +38,5 @@ returns-2 c =
     (told-fault (a .done .state .full) (a .line .now) (x .result) (x .ensures) _ (c .before .answer .given .1)) (s .pre .1 .inside)
 
 pub take-sheet-spec : {M : Type 1} → statement M
-take-sheet-spec =
-    tie.close
-    (tie.spec
-    (λ c. search needs)
-    (λ c κs. search needs)
-    (λ c. search needs)
-    put-record-requires
-    (λ c. search needs)
-    (λ c. search needs)
-    returns
-    returns-2)
+take-sheet-spec = tie.close (tie.spec (λ c. search needs) (λ c κs. search needs) (λ c. search needs) put-record-requires (λ c. search needs)
+    (λ c. search needs) returns returns-2)

@@ -4,9 +4,6 @@ use Rattle.csv.proofs.ReadLines.{slot-without, slot-wrong, slot-number}
 use Rattle.csv.proofs.reader.read_columns.Statement.{statement}
 use Rattle.csv.proofs.reader.read_columns.Tie as tie
 
-returns : tie.Need-returns
-returns c = let a = c .before .before .before .args in slot-without (a .full) (a .text .now) _ (c .before .if1 .taken) (c .read-date .ensures)
-
 returns-2 : tie.Need-returns-2
 returns-2 c =
     let at-first-column = c .before .before .before in
@@ -32,16 +29,7 @@ returns-3 c =
     (c .before .before .if2 .left) (rest .ensures) (c .read-date2 .ensures)
 
 pub read-columns-spec : {M : Type 1} → statement M
-read-columns-spec =
-    tie.close
-    (tie.spec
-    (λ c κs. search needs)
-    returns
-    (λ c κs. search needs)
-    (λ c κs. search needs)
-    (λ c κs. search needs)
-    (λ c κs. search needs)
-    returns-2
-    (λ c κs. search needs)
-    (λ c κs. search needs)
-    returns-3)
+read-columns-spec = tie.close (tie.spec (λ c κs. search needs)
+    (λ c. let a = c .before .before .before .args in slot-without (a .full) (a .text .now) _ (c .before .if1 .taken) (c .read-date .ensures))
+    (λ c κs. search needs) (λ c κs. search needs) (λ c κs. search needs) (λ c κs. search needs) returns-2 (λ c κs. search needs)
+    (λ c κs. search needs) returns-3)

@@ -48,16 +48,5 @@ returns-2 c =
     }
 
 pub read-count-spec : {M : Type 1} → statement M
-read-count-spec =
-    tie.close
-    (tie.spec
-    (λ c. search needs)
-    (λ c. search needs)
-    (λ c. search needs)
-    (λ c κs. search needs)
-    (λ c κs. search needs)
-    (λ c κs. search needs)
-    add-stop
-    (λ c. search needs)
-    returns
-    returns-2)
+read-count-spec = tie.close (tie.spec (λ c. search needs) (λ c. search needs) (λ c. search needs) (λ c κs. search needs) (λ c κs. search needs)
+    (λ c κs. search needs) add-stop (λ c. search needs) returns returns-2)

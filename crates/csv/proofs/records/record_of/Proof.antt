@@ -24,13 +24,5 @@ returns c =
     record-made (s .args .symbols .now) _ refl (x .result) _ (x .ensures) _ (c .before .clear-header .ensures)
 
 pub record-of-spec : {M : Type 1} → statement M
-record-of-spec =
-    tie.close
-    (tie.spec
-    (λ c. search needs)
-    (λ c. search needs)
-    (λ c. search needs)
-    (λ c κs. search needs)
-    slice-aggregate-clear-header
-    (λ c κs. search needs)
-    returns)
+record-of-spec = tie.close (tie.spec (λ c. search needs) (λ c. search needs) (λ c. search needs) (λ c κs. search needs) slice-aggregate-clear-header
+    (λ c κs. search needs) returns)

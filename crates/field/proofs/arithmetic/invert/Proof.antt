@@ -11,32 +11,11 @@ use Rattle.field.proofs.Widths.{fieldAt, Width.seven}
 use Rattle.field.proofs.arithmetic.invert.Statement.{statement}
 use Rattle.field.proofs.arithmetic.invert.Tie as tie
 
-small-order-requires : tie.Need-small-order-requires
-small-order-requires c κs = search needs
-
-sub-t6 : tie.Need-sub-t6
-sub-t6 c = omega (arith, c .small-order .ensures .0)
-
-cast-t7 : tie.Need-cast-t7
-cast-t7 c = search needs
-
-raise-requires : tie.Need-raise-requires
-raise-requires c κs = search needs
-
 returns : tie.Need-returns
 unfolding inverse
 returns c =
     sym (inverted-at _ 7 (width-large _ (λ l. l .taken) (λ g. g .1 .left) (c .before .if1 .came)) _
     ∙ ap (inverse 7) (c .if3 .taken) ∙ zero-power-ne 7 126 (λ z. omega (arith, z)))
-
-logarithm-requires : tie.Need-logarithm-requires
-logarithm-requires c κs = search needs
-
-sub-t12 : tie.Need-sub-t12
-sub-t12 c = omega (arith, c .before .logarithm .ensures .0)
-
-power-of-alpha-requires : tie.Need-power-of-alpha-requires
-power-of-alpha-requires c κs = omega (arith, c .before .logarithm .ensures .0)
 
 returns-2 : tie.Need-returns-2
 unfolding inverse
@@ -60,16 +39,6 @@ returns-3 c =
     ∙ sym (inverted-at _ 7 (width-large _ (λ l. l .taken) (λ g. g .1 .left) (s .if1 .came)) _)
 
 pub invert-spec : {M : Type 1} → statement M
-invert-spec =
-    tie.close
-    (tie.spec
-    small-order-requires
-    sub-t6
-    cast-t7
-    raise-requires
-    returns
-    logarithm-requires
-    sub-t12
-    power-of-alpha-requires
-    returns-2
-    returns-3)
+invert-spec = tie.close (tie.spec (λ c κs. search needs) (λ c. omega (arith, c .small-order .ensures .0)) (λ c. search needs) (λ c κs. search needs)
+    returns (λ c κs. search needs) (λ c. omega (arith, c .before .logarithm .ensures .0)) (λ c κs. omega (arith, c .before .logarithm .ensures .0))
+    returns-2 returns-3)

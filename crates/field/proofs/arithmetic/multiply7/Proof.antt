@@ -11,24 +11,6 @@ use Rattle.field.proofs.Steps.{product-exponents}
 use Rattle.field.proofs.arithmetic.multiply7.Statement.{statement}
 use Rattle.field.proofs.arithmetic.multiply7.Tie as tie
 
-returns : tie.Need-returns
-returns c = let y = c .before .args .b % 128 in sym (ap (λ (x : ℕ). product 7 x y) (c .if1 .taken) ∙ product-zero-l 7 y)
-
-returns-2 : tie.Need-returns-2
-returns-2 c = sym (ap (product 7 _) (c .if2 .taken) ∙ product-zero-r 7 _)
-
-logarithm-requires : tie.Need-logarithm-requires
-logarithm-requires c κs = search needs
-
-logarithm-requires-2 : tie.Need-logarithm-requires-2
-logarithm-requires-2 c κs = search needs
-
-add-t8 : tie.Need-add-t8
-add-t8 c = omega (arith, c .logarithm2 .ensures .0, c .before .logarithm .ensures .0)
-
-power-of-alpha-requires : tie.Need-power-of-alpha-requires
-power-of-alpha-requires c κs = omega (arith, c .logarithm2 .ensures .0, c .before .logarithm .ensures .0)
-
 returns-3 : tie.Need-returns-3
 returns-3 c =
     let i = c .before .before .logarithm in
@@ -38,13 +20,8 @@ returns-3 c =
     (j .ensures .1 ∙ unit-own _ (c .before .before .before .if2 .left))
 
 pub multiply7-spec : {M : Type 1} → statement M
-multiply7-spec =
-    tie.close
-    (tie.spec
-    returns
-    returns-2
-    logarithm-requires
-    logarithm-requires-2
-    add-t8
-    power-of-alpha-requires
-    returns-3)
+multiply7-spec = tie.close (tie.spec
+    (λ c. let y = c .before .args .b % 128 in sym (ap (λ (x : ℕ). product 7 x y) (c .if1 .taken) ∙ product-zero-l 7 y))
+    (λ c. sym (ap (product 7 _) (c .if2 .taken) ∙ product-zero-r 7 _)) (λ c κs. search needs) (λ c κs. search needs)
+    (λ c. omega (arith, c .logarithm2 .ensures .0, c .before .logarithm .ensures .0))
+    (λ c κs. omega (arith, c .logarithm2 .ensures .0, c .before .logarithm .ensures .0)) returns-3)

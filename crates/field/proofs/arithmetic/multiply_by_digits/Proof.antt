@@ -23,18 +23,6 @@ Inv-loop width a b q p r₀ x₀ y₀ r x y = Small width → (x < order width) 
 abbrev μ-loop : tie.MeasureT-loop
 μ-loop width a b q p r₀ x₀ y₀ r x y = y
 
-small-order-requires : tie.Need-small-order-requires Inv-loop μ-loop
-small-order-requires c κs = search needs
-
-small-polynomial-requires : tie.Need-small-polynomial-requires Inv-loop μ-loop
-small-polynomial-requires c κs = search needs
-
-rem-x : tie.Need-rem-x Inv-loop μ-loop
-rem-x c = omega (arith, c .before .small-order .ensures .0)
-
-rem-y : tie.Need-rem-y Inv-loop μ-loop
-rem-y c = omega (arith, c .before .small-order .ensures .0)
-
 loop-holds : tie.Need-loop-holds Inv-loop μ-loop
 loop-holds c = λ small.
     (let s = c .before .before .args in
@@ -43,12 +31,6 @@ loop-holds c = λ small.
       subst (λ (q : ℕ). s .b % q < order m) (sym e) (mod-lt (s .b) (pow-pos m)),
       add-zero-l _ ∙ ap (λ (q : ℕ). product m (s .a % q) (s .b % q)) e ∙ sym (multiplied-at m m (width-own m (small-width m small)) (s .a) (s .b)),
     ))
-
-double-requires : tie.Need-double-requires Inv-loop μ-loop
-double-requires c κs = search needs
-
-loop-less : tie.Need-loop-less Inv-loop μ-loop
-loop-less c = omega arith
 
 loop-again : tie.Need-loop-again Inv-loop μ-loop
 unfolding add
@@ -79,17 +61,6 @@ returns c = λ small.
     product-end m (field-of m (small-width m small) .positive) (l .loop .r) (l .loop .y) (l .loop .x) _ (omega arith) (l .loop .inv small .1))
 
 pub multiply-by-digits-spec : {M : Type 1} → statement M
-multiply-by-digits-spec =
-    tie.close
-    (tie.spec
-    Inv-loop
-    μ-loop
-    small-order-requires
-    small-polynomial-requires
-    rem-x
-    rem-y
-    loop-holds
-    double-requires
-    loop-less
-    loop-again
-    returns)
+multiply-by-digits-spec = tie.close (tie.spec Inv-loop μ-loop (λ c κs. search needs) (λ c κs. search needs)
+    (λ c. omega (arith, c .before .small-order .ensures .0)) (λ c. omega (arith, c .before .small-order .ensures .0)) loop-holds
+    (λ c κs. search needs) (λ c. omega arith) loop-again returns)

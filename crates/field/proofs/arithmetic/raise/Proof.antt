@@ -10,18 +10,6 @@ use Rattle.field.proofs.Bytes.{width-own, width-large, small-width, ope
 use Rattle.field.proofs.arithmetic.raise.Statement.{statement}
 use Rattle.field.proofs.arithmetic.raise.Tie as tie
 
-small-order-requires : tie.Need-small-order-requires
-small-order-requires c κs = search needs
-
-rem-raise-by-squares : tie.Need-rem-raise-by-squares
-rem-raise-by-squares c = omega (arith, c .small-order .ensures .0)
-
-raise-by-squares-requires : tie.Need-raise-by-squares-requires
-raise-by-squares-requires c κs = search needs
-
-raise7-requires : tie.Need-raise7-requires
-raise7-requires c κs = search needs
-
 returns : tie.Need-returns
 returns c =
     let range = c .before .before .before in
@@ -34,16 +22,6 @@ returns c =
     c .raise-by-squares .ensures (subst (λ (q : ℕ). Operand m (s .a % q)) (sym e) (operand-low m (s .a) w))
     ∙ ap (λ (q : ℕ). power m (s .a % q) i) e ∙ sym (raised-at m m (width-own m w) (s .a) i)
 
-returns-2 : tie.Need-returns-2
-returns-2 c = c .raise7 .ensures ∙ sym (raised-at _ 7 (width-large _ (λ l. l .taken) (λ g. g .1 .left) (c .before .if1 .came)) _ _)
-
 pub raise-spec : {M : Type 1} → statement M
-raise-spec =
-    tie.close
-    (tie.spec
-    small-order-requires
-    rem-raise-by-squares
-    raise-by-squares-requires
-    raise7-requires
-    returns
-    returns-2)
+raise-spec = tie.close (tie.spec (λ c κs. search needs) (λ c. omega (arith, c .small-order .ensures .0)) (λ c κs. search needs) (λ c κs. search needs)
+    returns (λ c. c .raise7 .ensures ∙ sym (raised-at _ 7 (width-large _ (λ l. l .taken) (λ g. g .1 .left) (c .before .if1 .came)) _ _)))

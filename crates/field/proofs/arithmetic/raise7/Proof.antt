@@ -13,34 +13,11 @@ use Rattle.field.proofs.Steps.{power-exponent, zero-power-ne}
 use Rattle.field.proofs.arithmetic.raise7.Statement.{statement}
 use Rattle.field.proofs.arithmetic.raise7.Tie as tie
 
-returns : tie.Need-returns
-returns c = sym (ap (power 7 _) (c .if1 .taken) ∙ power-zero 7 _)
-
-returns-2 : tie.Need-returns-2
-returns-2 c =
-    let e = c .before .before .args .e .0 in
-    sym (ap (λ (x : ℕ). power 7 x e) (c .if2 .taken) ∙ zero-power-ne 7 e (c .before .if1 .left))
-
-logarithm-requires : tie.Need-logarithm-requires
-logarithm-requires c κs = search needs
-
-cast-i : tie.Need-cast-i
-cast-i c = search needs
-
-cast-k : tie.Need-cast-k
-cast-k c = search needs
-
 mul-k : tie.Need-mul-k
 mul-k c =
     let i : c .before .logarithm .result .0 ≤ 126 = omega (arith, c .before .logarithm .ensures .0) in
     let e : c .before .before .before .before .args .e .0 ≤ 65535 = omega arith in
     record { fits = lt-of-le-of-lt (mul-le-mul i e) (lit< tt) }
-
-cast-t11 : tie.Need-cast-t11
-cast-t11 c = search needs
-
-power-of-alpha-requires : tie.Need-power-of-alpha-requires
-power-of-alpha-requires c κs = search needs
 
 returns-3 : tie.Need-returns-3
 returns-3 c =
@@ -50,15 +27,6 @@ returns-3 c =
     ∙ power-exponent 7 (fieldAt seven) (s .args .a % 128) (s .args .e .0) (i .result .0) (i .ensures .1 ∙ unit-own _ (c .before .before .before .if2 .left))
 
 pub raise7-spec : {M : Type 1} → statement M
-raise7-spec =
-    tie.close
-    (tie.spec
-    returns
-    returns-2
-    logarithm-requires
-    cast-i
-    cast-k
-    mul-k
-    cast-t11
-    power-of-alpha-requires
-    returns-3)
+raise7-spec = tie.close (tie.spec (λ c. sym (ap (power 7 _) (c .if1 .taken) ∙ power-zero 7 _))
+    (λ c. let e = c .before .before .args .e .0 in sym (ap (λ (x : ℕ). power 7 x e) (c .if2 .taken) ∙ zero-power-ne 7 e (c .before .if1 .left)))
+    (λ c κs. search needs) (λ c. search needs) (λ c. search needs) mul-k (λ c. search needs) (λ c κs. search needs) returns-3)

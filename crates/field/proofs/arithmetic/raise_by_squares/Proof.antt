@@ -25,15 +25,6 @@ loop-holds c = λ o.
     let F = field-of m (o .width) in
     (record { width = o .width; symbol = F .one-lt }, o, F .one-product (power m (c .args .a) (c .args .e .0)) (F .power-lt (c .args .a) (c .args .e .0))))
 
-multiply-requires : tie.Need-multiply-requires Inv-loop μ-loop
-multiply-requires c κs = search needs
-
-multiply-requires-2 : tie.Need-multiply-requires-2 Inv-loop μ-loop
-multiply-requires-2 c κs = search needs
-
-loop-less : tie.Need-loop-less Inv-loop μ-loop
-loop-less c = omega arith
-
 loop-again : tie.Need-loop-again Inv-loop μ-loop
 loop-again c = λ o.
     (let l = c .before .before .before in
@@ -68,14 +59,5 @@ returns c = λ o.
     power-end m (field-of m (o .width) .positive) (l .loop .r) (l .loop .x) (l .loop .n) _ (i .0 .symbol) (omega arith) (i .2))
 
 pub raise-by-squares-spec : {M : Type 1} → statement M
-raise-by-squares-spec =
-    tie.close
-    (tie.spec
-    Inv-loop
-    μ-loop
-    loop-holds
-    multiply-requires
-    multiply-requires-2
-    loop-less
-    loop-again
+raise-by-squares-spec = tie.close (tie.spec Inv-loop μ-loop loop-holds (λ c κs. search needs) (λ c κs. search needs) (λ c. omega arith) loop-again
     returns)

@@ -6,18 +6,6 @@ use Rattle.field.proofs.Steps.{ratio-exponents}
 use Rattle.field.proofs.arithmetic.ratio_exponent.Statement.{statement}
 use Rattle.field.proofs.arithmetic.ratio_exponent.Tie as tie
 
-logarithm-requires : tie.Need-logarithm-requires
-logarithm-requires c κs = search needs
-
-logarithm-requires-2 : tie.Need-logarithm-requires-2
-logarithm-requires-2 c κs = search needs
-
-add-t6 : tie.Need-add-t6
-add-t6 c = search needs
-
-sub-t7 : tie.Need-sub-t7
-sub-t7 c = search needs
-
 returns : tie.Need-returns
 returns c =
     let i = c .before .logarithm in
@@ -27,5 +15,4 @@ returns c =
     )
 
 pub ratio-exponent-spec : {M : Type 1} → statement M
-ratio-exponent-spec =
-    tie.close (tie.spec logarithm-requires logarithm-requires-2 add-t6 sub-t7 returns)
+ratio-exponent-spec = tie.close (tie.spec (λ c κs. search needs) (λ c κs. search needs) (λ c. search needs) (λ c. search needs) returns)

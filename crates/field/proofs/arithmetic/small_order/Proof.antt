@@ -6,14 +6,6 @@ use Rattle.field.proofs.Bytes.{small-five}
 use Rattle.field.proofs.arithmetic.small_order.Statement.{statement}
 use Rattle.field.proofs.arithmetic.small_order.Tie as tie
 
-returns : tie.Need-returns
-returns c = (lit≤ tt, λ s. sym (ap order (c .match .keys1)))
-
-returns-2 : tie.Need-returns-2
-returns-2 c = (lit≤ tt, λ s. sym (ap order (c .match .keys2)))
-
-returns-3 : tie.Need-returns-3
-returns-3 c = (lit≤ tt, λ s. sym (ap order (small-five _ s (c .match .rest .0 .1) (c .match .rest .1))))
-
 pub small-order-spec : {M : Type 1} → statement M
-small-order-spec = tie.close (tie.spec returns returns-2 returns-3)
+small-order-spec = tie.close (tie.spec (λ c. (lit≤ tt, λ s. sym (ap order (c .match .keys1)))) (λ c. (lit≤ tt, λ s. sym (ap order (c .match .keys2))))
+    (λ c. (lit≤ tt, λ s. sym (ap order (small-five _ s (c .match .rest .0 .1) (c .match .rest .1))))))

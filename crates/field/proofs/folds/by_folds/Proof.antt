@@ -9,45 +9,6 @@ use Rattle.field.proofs.Values.{sum-of-packed}
 use Rattle.field.proofs.folds.by_folds.Statement.{statement}
 use Rattle.field.proofs.folds.by_folds.Tie as tie
 
-words-requires : tie.Need-words-requires
-words-requires c κs = search needs
-
-sevenths-requires : tie.Need-sevenths-requires
-sevenths-requires c κs = search needs
-
-eighths-requires : tie.Need-eighths-requires
-eighths-requires c κs = search needs
-
-fold0-requires : tie.Need-fold0-requires
-fold0-requires c κs = search needs
-
-sum1-requires : tie.Need-sum1-requires
-sum1-requires c κs = search needs
-
-sum2-requires : tie.Need-sum2-requires
-sum2-requires c κs = search needs
-
-sum3-requires : tie.Need-sum3-requires
-sum3-requires c κs = search needs
-
-sum4-requires : tie.Need-sum4-requires
-sum4-requires c κs = search needs
-
-byte-requires : tie.Need-byte-requires
-byte-requires c κs = search needs
-
-byte-requires-2 : tie.Need-byte-requires-2
-byte-requires-2 c κs = search needs
-
-byte-requires-3 : tie.Need-byte-requires-3
-byte-requires-3 c κs = search needs
-
-byte-requires-4 : tie.Need-byte-requires-4
-byte-requires-4 c κs = search needs
-
-byte-requires-5 : tie.Need-byte-requires-5
-byte-requires-5 c κs = search needs
-
 returns : tie.Need-returns
 returns c =
     let b4 = c .before in
@@ -79,20 +40,6 @@ returns c =
     (sum-of-packed cs size Seventh ws x held kx 4 (s4 .sum4 .result) (c .byte5 .result) (conjugates .5) (conjugates .4) (conjugates .3) (conjugates .2) (s4 .sum4 .ensures) (c .byte5 .ensures))
 
 pub by-folds-spec : {M : Type 1} → statement M
-by-folds-spec =
-    tie.close
-    (tie.spec
-    words-requires
-    sevenths-requires
-    eighths-requires
-    fold0-requires
-    sum1-requires
-    sum2-requires
-    sum3-requires
-    sum4-requires
-    byte-requires
-    byte-requires-2
-    byte-requires-3
-    byte-requires-4
-    byte-requires-5
-    returns)
+by-folds-spec = tie.close (tie.spec (λ c κs. search needs) (λ c κs. search needs) (λ c κs. search needs) (λ c κs. search needs) (λ c κs. search needs)
+    (λ c κs. search needs) (λ c κs. search needs) (λ c κs. search needs) (λ c κs. search needs) (λ c κs. search needs) (λ c κs. search needs)
+    (λ c κs. search needs) (λ c κs. search needs) returns)

@@ -5,30 +5,6 @@ use Rattle.field.proofs.Values.{chain}
 use Rattle.field.proofs.folds.eighths.Statement.{statement}
 use Rattle.field.proofs.folds.eighths.Tie as tie
 
-by-eighths-requires : tie.Need-by-eighths-requires
-by-eighths-requires c κs = search needs
-
-halves-requires : tie.Need-halves-requires
-halves-requires c κs = search needs
-
-by-eighths-requires-2 : tie.Need-by-eighths-requires-2
-by-eighths-requires-2 c κs = search needs
-
-halves-requires-2 : tie.Need-halves-requires-2
-halves-requires-2 c κs = search needs
-
-by-eighths-requires-3 : tie.Need-by-eighths-requires-3
-by-eighths-requires-3 c κs = search needs
-
-halves-requires-3 : tie.Need-halves-requires-3
-halves-requires-3 c κs = search needs
-
-by-eighths-requires-4 : tie.Need-by-eighths-requires-4
-by-eighths-requires-4 c κs = search needs
-
-pack-requires : tie.Need-pack-requires
-pack-requires c κs = search needs
-
 returns : tie.Need-returns
 returns c =
     let f4 = c .before in
@@ -44,15 +20,5 @@ returns c =
     (f3 .by-eighths3 .ensures) (h3 .halves3 .ensures) (f4 .by-eighths4 .ensures) (c .pack .ensures)
 
 pub eighths-spec : {M : Type 1} → statement M
-eighths-spec =
-    tie.close
-    (tie.spec
-    by-eighths-requires
-    halves-requires
-    by-eighths-requires-2
-    halves-requires-2
-    by-eighths-requires-3
-    halves-requires-3
-    by-eighths-requires-4
-    pack-requires
-    returns)
+eighths-spec = tie.close (tie.spec (λ c κs. search needs) (λ c κs. search needs) (λ c κs. search needs) (λ c κs. search needs) (λ c κs. search needs)
+    (λ c κs. search needs) (λ c κs. search needs) (λ c κs. search needs) returns)

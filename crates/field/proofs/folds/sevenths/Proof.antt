@@ -5,30 +5,6 @@ use Rattle.field.proofs.Values.{chain}
 use Rattle.field.proofs.folds.sevenths.Statement.{statement}
 use Rattle.field.proofs.folds.sevenths.Tie as tie
 
-by-sevenths-requires : tie.Need-by-sevenths-requires
-by-sevenths-requires c κs = search needs
-
-halves-requires : tie.Need-halves-requires
-halves-requires c κs = search needs
-
-by-sevenths-requires-2 : tie.Need-by-sevenths-requires-2
-by-sevenths-requires-2 c κs = search needs
-
-halves-requires-2 : tie.Need-halves-requires-2
-halves-requires-2 c κs = search needs
-
-by-sevenths-requires-3 : tie.Need-by-sevenths-requires-3
-by-sevenths-requires-3 c κs = search needs
-
-halves-requires-3 : tie.Need-halves-requires-3
-halves-requires-3 c κs = search needs
-
-by-sevenths-requires-4 : tie.Need-by-sevenths-requires-4
-by-sevenths-requires-4 c κs = search needs
-
-pack-requires : tie.Need-pack-requires
-pack-requires c κs = search needs
-
 returns : tie.Need-returns
 returns c =
     let f4 = c .before in
@@ -44,15 +20,5 @@ returns c =
     (f3 .by-sevenths3 .ensures) (h3 .halves3 .ensures) (f4 .by-sevenths4 .ensures) (c .pack .ensures)
 
 pub sevenths-spec : {M : Type 1} → statement M
-sevenths-spec =
-    tie.close
-    (tie.spec
-    by-sevenths-requires
-    halves-requires
-    by-sevenths-requires-2
-    halves-requires-2
-    by-sevenths-requires-3
-    halves-requires-3
-    by-sevenths-requires-4
-    pack-requires
-    returns)
+sevenths-spec = tie.close (tie.spec (λ c κs. search needs) (λ c κs. search needs) (λ c κs. search needs) (λ c κs. search needs) (λ c κs. search needs)
+    (λ c κs. search needs) (λ c κs. search needs) (λ c κs. search needs) returns)

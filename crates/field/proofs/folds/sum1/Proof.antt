@@ -5,15 +5,6 @@ use Rattle.field.proofs.Folding.{folded}
 use Rattle.field.proofs.folds.sum1.Statement.{statement}
 use Rattle.field.proofs.folds.sum1.Tie as tie
 
-shift-requires : tie.Need-shift-requires
-shift-requires c κs = search needs
-
-shift-requires-2 : tie.Need-shift-requires-2
-shift-requires-2 c κs = search needs
-
-shift-requires-3 : tie.Need-shift-requires-3
-shift-requires-3 c κs = search needs
-
 returns : tie.Need-returns
 unfolding add
 returns c = λ f b q.
@@ -22,4 +13,4 @@ returns c = λ f b q.
     (d .before .shift .ensures) (d .shift2 .ensures) (c .shift3 .ensures) b q)
 
 pub sum1-spec : {M : Type 1} → statement M
-sum1-spec = tie.close (tie.spec shift-requires shift-requires-2 shift-requires-3 returns)
+sum1-spec = tie.close (tie.spec (λ c κs. search needs) (λ c κs. search needs) (λ c κs. search needs) returns)

@@ -5,15 +5,6 @@ use Rattle.field.proofs.Folding.{folded}
 use Rattle.field.proofs.folds.sum2.Statement.{statement}
 use Rattle.field.proofs.folds.sum2.Tie as tie
 
-by8-requires : tie.Need-by8-requires
-by8-requires c κs = search needs
-
-shift-requires : tie.Need-shift-requires
-shift-requires c κs = search needs
-
-shift-requires-2 : tie.Need-shift-requires-2
-shift-requires-2 c κs = search needs
-
 returns : tie.Need-returns
 unfolding add
 returns c = λ f b q.
@@ -22,4 +13,4 @@ returns c = λ f b q.
     (d .before .by8 .ensures) (d .shift .ensures) (c .shift2 .ensures) b q)
 
 pub sum2-spec : {M : Type 1} → statement M
-sum2-spec = tie.close (tie.spec by8-requires shift-requires shift-requires-2 returns)
+sum2-spec = tie.close (tie.spec (λ c κs. search needs) (λ c κs. search needs) (λ c κs. search needs) returns)

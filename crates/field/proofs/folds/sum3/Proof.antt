@@ -7,21 +7,6 @@ use Rattle.field.proofs.Folding.{folded, times-then}
 use Rattle.field.proofs.folds.sum3.Statement.{statement}
 use Rattle.field.proofs.folds.sum3.Tie as tie
 
-by8-requires : tie.Need-by8-requires
-by8-requires c κs = search needs
-
-shift-requires : tie.Need-shift-requires
-shift-requires c κs = search needs
-
-shift-requires-2 : tie.Need-shift-requires-2
-shift-requires-2 c κs = search needs
-
-shift-requires-3 : tie.Need-shift-requires-3
-shift-requires-3 c κs = search needs
-
-shift-requires-4 : tie.Need-shift-requires-4
-shift-requires-4 c κs = search needs
-
 returns : tie.Need-returns
 unfolding add
 returns c = λ f b q.
@@ -36,12 +21,5 @@ returns c = λ f b q.
     b q)
 
 pub sum3-spec : {M : Type 1} → statement M
-sum3-spec =
-    tie.close
-    (tie.spec
-    by8-requires
-    shift-requires
-    shift-requires-2
-    shift-requires-3
-    shift-requires-4
+sum3-spec = tie.close (tie.spec (λ c κs. search needs) (λ c κs. search needs) (λ c κs. search needs) (λ c κs. search needs) (λ c κs. search needs)
     returns)

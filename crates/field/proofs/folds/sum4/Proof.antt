@@ -5,15 +5,6 @@ use Rattle.field.proofs.Folding.{folded}
 use Rattle.field.proofs.folds.sum4.Statement.{statement}
 use Rattle.field.proofs.folds.sum4.Tie as tie
 
-by16-requires : tie.Need-by16-requires
-by16-requires c κs = search needs
-
-by8-requires : tie.Need-by8-requires
-by8-requires c κs = search needs
-
-shift-requires : tie.Need-shift-requires
-shift-requires c κs = search needs
-
 returns : tie.Need-returns
 unfolding add
 returns c = λ f b q.
@@ -22,4 +13,4 @@ returns c = λ f b q.
     (d .before .by16 .ensures) (d .by8 .ensures) (c .shift .ensures) b q)
 
 pub sum4-spec : {M : Type 1} → statement M
-sum4-spec = tie.close (tie.spec by16-requires by8-requires shift-requires returns)
+sum4-spec = tie.close (tie.spec (λ c κs. search needs) (λ c κs. search needs) (λ c κs. search needs) returns)

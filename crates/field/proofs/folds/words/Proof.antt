@@ -18,29 +18,8 @@ Inv-loop cs w₀ i₀ w i =
 abbrev μ-loop : tie.MeasureT-loop
 μ-loop cs w₀ i₀ w i = 15 - i
 
-eight-requires : tie.Need-eight-requires Inv-loop μ-loop
-eight-requires c κs = search needs
-
 loop-holds : tie.Need-loop-holds Inv-loop μ-loop
 loop-holds c = (search needs, search needs, search needs, (λ m h. absurd (omega arith)), last-number (c .before .before .args .cs .now) (c .eight .result) (c .before .before .pre) (c .eight .ensures))
-
-mul-eight : tie.Need-mul-eight Inv-loop μ-loop
-mul-eight c = search needs
-
-eight-requires-2 : tie.Need-eight-requires-2 Inv-loop μ-loop
-eight-requires-2 c κs = search needs
-
-mul-w : tie.Need-mul-w Inv-loop μ-loop
-mul-w c = search needs
-
-array-write-w : tie.Need-array-write-w Inv-loop μ-loop
-array-write-w c = search needs
-
-add-i : tie.Need-add-i Inv-loop μ-loop
-add-i c = search needs
-
-loop-less : tie.Need-loop-less Inv-loop μ-loop
-loop-less c = search needs
 
 loop-again : tie.Need-loop-again Inv-loop μ-loop
 loop-again c =
@@ -63,18 +42,5 @@ returns c =
     all-sixteen (λ m x. Block 8 cs (8 * m) x) (l .loop .w) (λ m h. l .loop .inv .3 m (omega arith)) (l .loop .inv .4)
 
 pub words-spec : {M : Type 1} → statement M
-words-spec =
-    tie.close
-    (tie.spec
-    Inv-loop
-    μ-loop
-    eight-requires
-    loop-holds
-    mul-eight
-    eight-requires-2
-    mul-w
-    array-write-w
-    add-i
-    loop-less
-    loop-again
-    returns)
+words-spec = tie.close (tie.spec Inv-loop μ-loop (λ c κs. search needs) loop-holds (λ c. search needs) (λ c κs. search needs) (λ c. search needs)
+    (λ c. search needs) (λ c. search needs) (λ c. search needs) loop-again returns)

@@ -16,21 +16,6 @@ Inv-loop width symbols s₀ i₀ s i =
 abbrev μ-loop : tie.MeasureT-loop
 μ-loop width symbols s₀ i₀ s i = i
 
-loop-holds : tie.Need-loop-holds Inv-loop μ-loop
-loop-holds c = (search needs, pass-start (c .before .args .width) (c .before .args .symbols .now))
-
-sub-i : tie.Need-sub-i Inv-loop μ-loop
-sub-i c = search needs
-
-shared-slice-read-step : tie.Need-shared-slice-read-step Inv-loop μ-loop
-shared-slice-read-step c = omega (arith, c .before .before .loop .inv .0)
-
-step-requires : tie.Need-step-requires Inv-loop μ-loop
-step-requires c κs = search needs
-
-loop-less : tie.Need-loop-less Inv-loop μ-loop
-loop-less c = omega arith
-
 loop-again : tie.Need-loop-again Inv-loop μ-loop
 loop-again c =
     let l = c .before .before .before in
@@ -51,15 +36,5 @@ returns c =
     pass-end (a .width) (a .symbols .now) (l .loop .s) (l .loop .i) (l .loop .inv .1) (omega arith)
 
 pub one-by-one-spec : {M : Type 1} → statement M
-one-by-one-spec =
-    tie.close
-    (tie.spec
-    Inv-loop
-    μ-loop
-    loop-holds
-    sub-i
-    shared-slice-read-step
-    step-requires
-    loop-less
-    loop-again
-    returns)
+one-by-one-spec = tie.close (tie.spec Inv-loop μ-loop (λ c. (search needs, pass-start (c .before .args .width) (c .before .args .symbols .now)))
+    (λ c. search needs) (λ c. omega (arith, c .before .before .loop .inv .0)) (λ c κs. search needs) (λ c. omega arith) loop-again returns)

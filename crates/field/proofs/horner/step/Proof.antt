@@ -12,36 +12,6 @@ use Rattle.field.proofs.Evaluation.{five-of, first-shift}
 use Rattle.field.proofs.horner.step.Statement.{statement}
 use Rattle.field.proofs.horner.step.Tie as tie
 
-array-read-shift : tie.Need-array-read-shift
-array-read-shift c = search needs
-
-shift-requires : tie.Need-shift-requires
-shift-requires c κs = search needs
-
-array-read-shift-2 : tie.Need-array-read-shift-2
-array-read-shift-2 c = search needs
-
-shift-requires-2 : tie.Need-shift-requires-2
-shift-requires-2 c κs = search needs
-
-array-read-shift-3 : tie.Need-array-read-shift-3
-array-read-shift-3 c = search needs
-
-shift-requires-3 : tie.Need-shift-requires-3
-shift-requires-3 c κs = search needs
-
-array-read-shift-4 : tie.Need-array-read-shift-4
-array-read-shift-4 c = search needs
-
-shift-requires-4 : tie.Need-shift-requires-4
-shift-requires-4 c κs = search needs
-
-symbol-of-requires : tie.Need-symbol-of-requires
-symbol-of-requires c κs = search needs
-
-array-read-t12 : tie.Need-array-read-t12
-array-read-t12 c = search needs
-
 returns : tie.Need-returns
 returns c = λ h.
     (let x = c .symbol-of in
@@ -60,17 +30,5 @@ returns c = λ h.
     (xor-add _ _ ∙ ap₂ add (l4 .shift4 .ensures ∙ shifted-symbol m _ 4 (h 4 (lit< tt))) (x .ensures)))
 
 pub step-spec : {M : Type 1} → statement M
-step-spec =
-    tie.close
-    (tie.spec
-    array-read-shift
-    shift-requires
-    array-read-shift-2
-    shift-requires-2
-    array-read-shift-3
-    shift-requires-3
-    array-read-shift-4
-    shift-requires-4
-    symbol-of-requires
-    array-read-t12
-    returns)
+step-spec = tie.close (tie.spec (λ c. search needs) (λ c κs. search needs) (λ c. search needs) (λ c κs. search needs) (λ c. search needs)
+    (λ c κs. search needs) (λ c. search needs) (λ c κs. search needs) (λ c κs. search needs) (λ c. search needs) returns)

@@ -5,16 +5,10 @@ use Rattle.field.proofs.Folding.{times-sum, power-32}
 use Rattle.field.proofs.lanes.by32.Statement.{statement}
 use Rattle.field.proofs.lanes.by32.Tie as tie
 
-shift-requires : tie.Need-shift-requires
-shift-requires c κs = search needs
-
-shift-requires-2 : tie.Need-shift-requires-2
-shift-requires-2 c κs = search needs
-
 returns : tie.Need-returns
 unfolding add
 returns c =
     times-sum 1 2 32 (c .before .before .args .a) (c .before .shift .result) (c .shift2 .result) power-32 (c .before .shift .ensures) (c .shift2 .ensures)
 
 pub by32-spec : {M : Type 1} → statement M
-by32-spec = tie.close (tie.spec shift-requires shift-requires-2 returns)
+by32-spec = tie.close (tie.spec (λ c κs. search needs) (λ c κs. search needs) returns)

@@ -5,11 +5,7 @@ use Rattle.field.proofs.Folding.{folded, times-none}
 use Rattle.field.proofs.lanes.fold0.Statement.{statement}
 use Rattle.field.proofs.lanes.fold0.Tie as tie
 
-returns : tie.Need-returns
-unfolding add
-returns c = λ f b q.
-    (let a : ℕ = c .args .a in
-    folded 0 a (a / 4294967296) _ _ f (times-none _) (times-none _) (times-none _) b q)
-
 pub fold0-spec : {M : Type 1} → statement M
-fold0-spec = tie.close (tie.spec returns)
+unfolding add
+fold0-spec = tie.close (tie.spec
+    (λ c f b q. (let a : ℕ = c .args .a in folded 0 a (a / 4294967296) _ _ f (times-none _) (times-none _) (times-none _) b q)))

@@ -5,21 +5,6 @@ use Rattle.field.proofs.Blocks.{block-one, block-join}
 use Rattle.field.proofs.lanes.two.Statement.{statement}
 use Rattle.field.proofs.lanes.two.Tie as tie
 
-wide-requires : tie.Need-wide-requires
-wide-requires c κs = search needs
-
-add-wide : tie.Need-add-wide
-add-wide c = search needs
-
-wide-requires-2 : tie.Need-wide-requires-2
-wide-requires-2 c κs = search needs
-
-mul-result : tie.Need-mul-result
-mul-result c = search needs
-
-add-result : tie.Need-add-result
-add-result c = search needs
-
 returns : tie.Need-returns
 returns c =
     let d = c .before in
@@ -32,5 +17,4 @@ returns c =
     (block-one xs (i + 1) (b .result) (b .ensures .0) (b .ensures .1))
 
 pub two-spec : {M : Type 1} → statement M
-two-spec =
-    tie.close (tie.spec wide-requires add-wide wide-requires-2 mul-result add-result returns)
+two-spec = tie.close (tie.spec (λ c κs. search needs) (λ c. search needs) (λ c κs. search needs) (λ c. search needs) (λ c. search needs) returns)

@@ -5,14 +5,6 @@ use native.Mathlib.Omega.{arith}
 use Rattle.field.proofs.lanes.wide.Statement.{statement}
 use Rattle.field.proofs.lanes.wide.Tie as tie
 
-shared-slice-read-result : tie.Need-shared-slice-read-result
-shared-slice-read-result c = search needs
-
-cast-result : tie.Need-cast-result
-cast-result c = omega (arith, c .shared-slice-known .given (c .before .args .i))
-
-returns : tie.Need-returns
-returns c = (refl, omega (arith, c .shared-slice-known .given (c .before .args .i)))
-
 pub wide-spec : {M : Type 1} → statement M
-wide-spec = tie.close (tie.spec shared-slice-read-result cast-result returns)
+wide-spec = tie.close (tie.spec (λ c. search needs) (λ c. omega (arith, c .shared-slice-known .given (c .before .args .i)))
+    (λ c. (refl, omega (arith, c .shared-slice-known .given (c .before .args .i)))))

@@ -5,20 +5,11 @@ use Rattle.field.proofs.Evaluation.{sums-seven}
 use Rattle.field.proofs.parity.parities.Statement.{statement}
 use Rattle.field.proofs.parity.parities.Tie as tie
 
-by-folds-requires : tie.Need-by-folds-requires
-by-folds-requires c κs = search needs
-
 returns : tie.Need-returns
 returns c =
     let t = c .before .before in
     let a = t .before .before .args in
     c .by-folds .ensures ∙ sums-seven (a .width) (a .symbols .now) (t .if1 .taken) (c .before .if2 .taken)
 
-one-by-one-requires : tie.Need-one-by-one-requires
-one-by-one-requires c κs = search needs
-
-returns-2 : tie.Need-returns-2
-returns-2 c = search needs
-
 pub parities-spec : {M : Type 1} → statement M
-parities-spec = tie.close (tie.spec by-folds-requires returns one-by-one-requires returns-2)
+parities-spec = tie.close (tie.spec (λ c κs. search needs) returns (λ c κs. search needs) (λ c. search needs))

@@ -10,15 +10,6 @@ use Rattle.field.proofs.Packing.{lane-lanes, lane-add, eight-cong}
 use Rattle.field.proofs.row.add_multiple.Statement.{statement}
 use Rattle.field.proofs.row.add_multiple.Tie as tie
 
-packed-requires : tie.Need-packed-requires
-packed-requires c κs = search needs
-
-scaled-requires : tie.Need-scaled-requires
-scaled-requires c κs = search needs
-
-unpacked-requires : tie.Need-unpacked-requires
-unpacked-requires c κs = search needs
-
 returns : tie.Need-returns
 returns c =
     let s = c .before in
@@ -32,4 +23,4 @@ returns c =
     (ap (λ (a : ℕ). lane a j) (s .scaled .ensures)))
 
 pub add-multiple-spec : {M : Type 1} → statement M
-add-multiple-spec = tie.close (tie.spec packed-requires scaled-requires unpacked-requires returns)
+add-multiple-spec = tie.close (tie.spec (λ c κs. search needs) (λ c κs. search needs) (λ c κs. search needs) returns)

@@ -8,27 +8,6 @@ use Rattle.field.proofs.Scaling.{multiples-of}
 use Rattle.field.proofs.row.multiples.Statement.{statement}
 use Rattle.field.proofs.row.multiples.Tie as tie
 
-symbols-requires : tie.Need-symbols-requires
-symbols-requires c κs = search needs
-
-shift-requires : tie.Need-shift-requires
-shift-requires c κs = search needs
-
-shift-requires-2 : tie.Need-shift-requires-2
-shift-requires-2 c κs = search needs
-
-shift-requires-3 : tie.Need-shift-requires-3
-shift-requires-3 c κs = search needs
-
-shift-requires-4 : tie.Need-shift-requires-4
-shift-requires-4 c κs = search needs
-
-shift-requires-5 : tie.Need-shift-requires-5
-shift-requires-5 c κs = search needs
-
-shift-requires-6 : tie.Need-shift-requires-6
-shift-requires-6 c κs = search needs
-
 returns : tie.Need-returns
 returns c =
     let s5 = c .before in
@@ -41,14 +20,5 @@ returns c =
     (s1 .shift .ensures) (s5 .shift5 .ensures) (c .shift6 .ensures)
 
 pub multiples-spec : {M : Type 1} → statement M
-multiples-spec =
-    tie.close
-    (tie.spec
-    symbols-requires
-    shift-requires
-    shift-requires-2
-    shift-requires-3
-    shift-requires-4
-    shift-requires-5
-    shift-requires-6
-    returns)
+multiples-spec = tie.close (tie.spec (λ c κs. search needs) (λ c κs. search needs) (λ c κs. search needs) (λ c κs. search needs)
+    (λ c κs. search needs) (λ c κs. search needs) (λ c κs. search needs) returns)

@@ -9,13 +9,6 @@ use Rattle.field.proofs.Lanewise.{ones, lanes-cut}
 use Rattle.field.proofs.row.symbols.Statement.{statement}
 use Rattle.field.proofs.row.symbols.Tie as tie
 
-packed-requires : tie.Need-packed-requires
-packed-requires c κs = search needs
-
-returns : tie.Need-returns
-returns c =
-    let p = c .packed .ensures in
-    ap (λ (a : ℕ). bitAnd a (ones * 127)) (p .0) ∙ lanes-cut 8 (at (c .before .args .row)) (omega arith) (p .1)
-
 pub symbols-spec : {M : Type 1} → statement M
-symbols-spec = tie.close (tie.spec packed-requires returns)
+symbols-spec = tie.close (tie.spec (λ c κs. search needs)
+    (λ c. let p = c .packed .ensures in ap (λ (a : ℕ). bitAnd a (ones * 127)) (p .0) ∙ lanes-cut 8 (at (c .before .args .row)) (omega arith) (p .1)))

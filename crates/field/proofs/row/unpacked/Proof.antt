@@ -8,30 +8,6 @@ use Rattle.field.proofs.Packing.{eight-of}
 use Rattle.field.proofs.row.unpacked.Statement.{statement}
 use Rattle.field.proofs.row.unpacked.Tie as tie
 
-byte-requires : tie.Need-byte-requires
-byte-requires c κs = search needs
-
-byte-requires-2 : tie.Need-byte-requires-2
-byte-requires-2 c κs = search needs
-
-byte-requires-3 : tie.Need-byte-requires-3
-byte-requires-3 c κs = search needs
-
-byte-requires-4 : tie.Need-byte-requires-4
-byte-requires-4 c κs = search needs
-
-byte-requires-5 : tie.Need-byte-requires-5
-byte-requires-5 c κs = search needs
-
-byte-requires-6 : tie.Need-byte-requires-6
-byte-requires-6 c κs = search needs
-
-byte-requires-7 : tie.Need-byte-requires-7
-byte-requires-7 c κs = search needs
-
-byte-requires-8 : tie.Need-byte-requires-8
-byte-requires-8 c κs = search needs
-
 returns : tie.Need-returns
 returns c =
     let b7 = c .before in
@@ -47,15 +23,5 @@ returns c =
     (b6 .byte6 .ensures) (b7 .byte7 .ensures) (c .byte8 .ensures)
 
 pub unpacked-spec : {M : Type 1} → statement M
-unpacked-spec =
-    tie.close
-    (tie.spec
-    byte-requires
-    byte-requires-2
-    byte-requires-3
-    byte-requires-4
-    byte-requires-5
-    byte-requires-6
-    byte-requires-7
-    byte-requires-8
-    returns)
+unpacked-spec = tie.close (tie.spec (λ c κs. search needs) (λ c κs. search needs) (λ c κs. search needs) (λ c κs. search needs) (λ c κs. search needs)
+    (λ c κs. search needs) (λ c κs. search needs) (λ c κs. search needs) returns)

@@ -5,12 +5,6 @@ use native.Mathlib.Omega.{arith}
 use Rattle.field.proofs.row.when.Statement.{statement}
 use Rattle.field.proofs.row.when.Tie as tie
 
-returns : tie.Need-returns
-returns c =
-    let a : ℕ = c .before .args .a in
-    let one : a ≡ a * 1 = omega arith in
-    one ∙ ap (λ (x : ℕ). a * x) (sym (c .if1 .taken))
-
 returns-2 : tie.Need-returns-2
 returns-2 c =
     let a : ℕ = c .before .args .a in
@@ -20,4 +14,5 @@ returns-2 c =
     none ∙ ap (λ (x : ℕ). a * x) even
 
 pub when-spec : {M : Type 1} → statement M
-when-spec = tie.close (tie.spec returns returns-2)
+when-spec = tie.close (tie.spec
+    (λ c. let a : ℕ = c .before .args .a in let one : a ≡ a * 1 = omega arith in one ∙ ap (λ (x : ℕ). a * x) (sym (c .if1 .taken))) returns-2)

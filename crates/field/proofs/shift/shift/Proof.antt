@@ -6,30 +6,6 @@ use Rattle.field.proofs.Bytes.{width-is, width-other, operand-low, shif
 use Rattle.field.proofs.shift.shift.Statement.{statement}
 use Rattle.field.proofs.shift.shift.Tie as tie
 
-shift-at-requires : tie.Need-shift-at-requires
-shift-at-requires c κs = search needs
-
-shift-at-requires-2 : tie.Need-shift-at-requires-2
-shift-at-requires-2 c κs = search needs
-
-shift-at-requires-3 : tie.Need-shift-at-requires-3
-shift-at-requires-3 c κs = search needs
-
-shift-at-requires-4 : tie.Need-shift-at-requires-4
-shift-at-requires-4 c κs = search needs
-
-returns : tie.Need-returns
-unfolding polynomial
-returns c = c .shift-at .ensures (operand-low 3 _ refl) refl ∙ sym (shifted-at _ 3 (width-is _ 3 refl (c .before .match .keys1)) _ _)
-
-returns-2 : tie.Need-returns-2
-unfolding polynomial
-returns-2 c = c .shift-at2 .ensures (operand-low 4 _ refl) refl ∙ sym (shifted-at _ 4 (width-is _ 4 refl (c .before .match .keys2)) _ _)
-
-returns-3 : tie.Need-returns-3
-unfolding polynomial
-returns-3 c = c .shift-at3 .ensures (operand-low 5 _ refl) refl ∙ sym (shifted-at _ 5 (width-is _ 5 refl (c .before .match .keys3)) _ _)
-
 returns-4 : tie.Need-returns-4
 unfolding polynomial
 returns-4 c =
@@ -37,6 +13,8 @@ returns-4 c =
     c .shift-at4 .ensures (operand-low 7 _ refl) refl ∙ sym (shifted-at _ 7 (width-other _ (other .0 .0 .1) (other .0 .1) (other .1)) _ _)
 
 pub shift-spec : {M : Type 1} → statement M
-shift-spec =
-    tie.close
-    (tie.spec shift-at-requires shift-at-requires-2 shift-at-requires-3 shift-at-requires-4 returns returns-2 returns-3 returns-4)
+unfolding polynomial
+shift-spec = tie.close (tie.spec (λ c κs. search needs) (λ c κs. search needs) (λ c κs. search needs) (λ c κs. search needs)
+    (λ c. c .shift-at .ensures (operand-low 3 _ refl) refl ∙ sym (shifted-at _ 3 (width-is _ 3 refl (c .before .match .keys1)) _ _))
+    (λ c. c .shift-at2 .ensures (operand-low 4 _ refl) refl ∙ sym (shifted-at _ 4 (width-is _ 4 refl (c .before .match .keys2)) _ _))
+    (λ c. c .shift-at3 .ensures (operand-low 5 _ refl) refl ∙ sym (shifted-at _ 5 (width-is _ 5 refl (c .before .match .keys3)) _ _)) returns-4)

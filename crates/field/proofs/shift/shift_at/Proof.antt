@@ -9,24 +9,6 @@ use Rattle.field.proofs.Shifts.{product-twice}
 use Rattle.field.proofs.shift.shift_at.Statement.{statement}
 use Rattle.field.proofs.shift.shift_at.Tie as tie
 
-add-if1 : tie.Need-add-if1
-add-if1 c = search needs
-
-wrap-requires : tie.Need-wrap-requires
-wrap-requires c κs = search needs
-
-wrap-requires-2 : tie.Need-wrap-requires-2
-wrap-requires-2 c κs = search needs
-
-sub-t12 : tie.Need-sub-t12
-sub-t12 c = search needs
-
-wrap-requires-3 : tie.Need-wrap-requires-3
-wrap-requires-3 c κs = search needs
-
-returns : tie.Need-returns
-returns c = λ o e. c .wrap .ensures o e (c .before .if1 .taken)
-
 returns-2 : tie.Need-returns-2
 returns-2 c = λ o e.
     (let first = c .before .before in
@@ -39,6 +21,5 @@ returns-2 c = λ o e.
     (c .wrap3 .ensures (record { width = o .width; symbol = subst (λ (x : ℕ). x < order m) (sym er) small }) e (omega arith)))
 
 pub shift-at-spec : {M : Type 1} → statement M
-shift-at-spec =
-    tie.close
-    (tie.spec add-if1 wrap-requires wrap-requires-2 sub-t12 wrap-requires-3 returns returns-2)
+shift-at-spec = tie.close (tie.spec (λ c. search needs) (λ c κs. search needs) (λ c κs. search needs) (λ c. search needs) (λ c κs. search needs)
+    (λ c o e. c .wrap .ensures o e (c .before .if1 .taken)) returns-2)

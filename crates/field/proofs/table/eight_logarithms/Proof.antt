@@ -46,66 +46,6 @@ number-is k r h e =
 up : (n k : ℕ) → n ≤ k → k ≢ n → suc n ≤ k
 up n k h d = omega arith
 
-returns : tie.Need-returns
-unfolding numbers
-returns c = number-is (c .before .args .k) _ (c .before .pre) (ap (λ (k : ℕ). getD numbers k 0) (c .match .keys1))
-
-returns-2 : tie.Need-returns-2
-unfolding numbers
-returns-2 c = number-is (c .before .args .k) _ (c .before .pre) (ap (λ (k : ℕ). getD numbers k 0) (c .match .keys2))
-
-returns-3 : tie.Need-returns-3
-unfolding numbers
-returns-3 c = number-is (c .before .args .k) _ (c .before .pre) (ap (λ (k : ℕ). getD numbers k 0) (c .match .keys3))
-
-returns-4 : tie.Need-returns-4
-unfolding numbers
-returns-4 c = number-is (c .before .args .k) _ (c .before .pre) (ap (λ (k : ℕ). getD numbers k 0) (c .match .keys4))
-
-returns-5 : tie.Need-returns-5
-unfolding numbers
-returns-5 c = number-is (c .before .args .k) _ (c .before .pre) (ap (λ (k : ℕ). getD numbers k 0) (c .match .keys5))
-
-returns-6 : tie.Need-returns-6
-unfolding numbers
-returns-6 c = number-is (c .before .args .k) _ (c .before .pre) (ap (λ (k : ℕ). getD numbers k 0) (c .match .keys6))
-
-returns-7 : tie.Need-returns-7
-unfolding numbers
-returns-7 c = number-is (c .before .args .k) _ (c .before .pre) (ap (λ (k : ℕ). getD numbers k 0) (c .match .keys7))
-
-returns-8 : tie.Need-returns-8
-unfolding numbers
-returns-8 c = number-is (c .before .args .k) _ (c .before .pre) (ap (λ (k : ℕ). getD numbers k 0) (c .match .keys8))
-
-returns-9 : tie.Need-returns-9
-unfolding numbers
-returns-9 c = number-is (c .before .args .k) _ (c .before .pre) (ap (λ (k : ℕ). getD numbers k 0) (c .match .keys9))
-
-returns-10 : tie.Need-returns-10
-unfolding numbers
-returns-10 c = number-is (c .before .args .k) _ (c .before .pre) (ap (λ (k : ℕ). getD numbers k 0) (c .match .keys10))
-
-returns-11 : tie.Need-returns-11
-unfolding numbers
-returns-11 c = number-is (c .before .args .k) _ (c .before .pre) (ap (λ (k : ℕ). getD numbers k 0) (c .match .keys11))
-
-returns-12 : tie.Need-returns-12
-unfolding numbers
-returns-12 c = number-is (c .before .args .k) _ (c .before .pre) (ap (λ (k : ℕ). getD numbers k 0) (c .match .keys12))
-
-returns-13 : tie.Need-returns-13
-unfolding numbers
-returns-13 c = number-is (c .before .args .k) _ (c .before .pre) (ap (λ (k : ℕ). getD numbers k 0) (c .match .keys13))
-
-returns-14 : tie.Need-returns-14
-unfolding numbers
-returns-14 c = number-is (c .before .args .k) _ (c .before .pre) (ap (λ (k : ℕ). getD numbers k 0) (c .match .keys14))
-
-returns-15 : tie.Need-returns-15
-unfolding numbers
-returns-15 c = number-is (c .before .args .k) _ (c .before .pre) (ap (λ (k : ℕ). getD numbers k 0) (c .match .keys15))
-
 returns-16 : tie.Need-returns-16
 unfolding numbers
 returns-16 c =
@@ -130,6 +70,20 @@ returns-16 c =
     number-is k _ (c .before .pre) (ap (λ (k : ℕ). getD numbers k 0) last)
 
 pub eight-logarithms-spec : {M : Type 1} → statement M
-eight-logarithms-spec =
-    tie.close
-    (tie.spec returns returns-2 returns-3 returns-4 returns-5 returns-6 returns-7 returns-8 returns-9 returns-10 returns-11 returns-12 returns-13 returns-14 returns-15 returns-16)
+unfolding numbers
+eight-logarithms-spec = tie.close (tie.spec
+    (λ c. number-is (c .before .args .k) _ (c .before .pre) (ap (λ (k : ℕ). getD numbers k 0) (c .match .keys1)))
+    (λ c. number-is (c .before .args .k) _ (c .before .pre) (ap (λ (k : ℕ). getD numbers k 0) (c .match .keys2)))
+    (λ c. number-is (c .before .args .k) _ (c .before .pre) (ap (λ (k : ℕ). getD numbers k 0) (c .match .keys3)))
+    (λ c. number-is (c .before .args .k) _ (c .before .pre) (ap (λ (k : ℕ). getD numbers k 0) (c .match .keys4)))
+    (λ c. number-is (c .before .args .k) _ (c .before .pre) (ap (λ (k : ℕ). getD numbers k 0) (c .match .keys5)))
+    (λ c. number-is (c .before .args .k) _ (c .before .pre) (ap (λ (k : ℕ). getD numbers k 0) (c .match .keys6)))
+    (λ c. number-is (c .before .args .k) _ (c .before .pre) (ap (λ (k : ℕ). getD numbers k 0) (c .match .keys7)))
+    (λ c. number-is (c .before .args .k) _ (c .before .pre) (ap (λ (k : ℕ). getD numbers k 0) (c .match .keys8)))
+    (λ c. number-is (c .before .args .k) _ (c .before .pre) (ap (λ (k : ℕ). getD numbers k 0) (c .match .keys9)))
+    (λ c. number-is (c .before .args .k) _ (c .before .pre) (ap (λ (k : ℕ). getD numbers k 0) (c .match .keys10)))
+    (λ c. number-is (c .before .args .k) _ (c .before .pre) (ap (λ (k : ℕ). getD numbers k 0) (c .match .keys11)))
+    (λ c. number-is (c .before .args .k) _ (c .before .pre) (ap (λ (k : ℕ). getD numbers k 0) (c .match .keys12)))
+    (λ c. number-is (c .before .args .k) _ (c .before .pre) (ap (λ (k : ℕ). getD numbers k 0) (c .match .keys13)))
+    (λ c. number-is (c .before .args .k) _ (c .before .pre) (ap (λ (k : ℕ). getD numbers k 0) (c .match .keys14)))
+    (λ c. number-is (c .before .args .k) _ (c .before .pre) (ap (λ (k : ℕ). getD numbers k 0) (c .match .keys15))) returns-16)

@@ -8,21 +8,6 @@ use Rattle.field.proofs.Bytes.{unit-low}
 use Rattle.field.proofs.table.logarithm.Statement.{statement}
 use Rattle.field.proofs.table.logarithm.Tie as tie
 
-cast-i : tie.Need-cast-i
-cast-i c = search needs
-
-eight-logarithms-requires : tie.Need-eight-logarithms-requires
-eight-logarithms-requires c κs = search needs
-
-mul-e : tie.Need-mul-e
-mul-e c = search needs
-
-shr-e : tie.Need-shr-e
-shr-e c = search needs
-
-cast-t10 : tie.Need-cast-t10
-cast-t10 c = search needs
-
 returns : tie.Need-returns
 returns c =
     let a : ℕ = c .before .args .a in
@@ -31,4 +16,4 @@ returns c =
     (e .0, e .1 ∙ ap unitFor place ∙ unit-low a)
 
 pub logarithm-spec : {M : Type 1} → statement M
-logarithm-spec = tie.close (tie.spec cast-i eight-logarithms-requires mul-e shr-e cast-t10 returns)
+logarithm-spec = tie.close (tie.spec (λ c. search needs) (λ c κs. search needs) (λ c. search needs) (λ c. search needs) (λ c. search needs) returns)

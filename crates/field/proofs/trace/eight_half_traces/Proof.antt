@@ -41,34 +41,6 @@ number-is k r h e =
 up : (n k : ℕ) → n ≤ k → k ≢ n → suc n ≤ k
 up n k h d = omega arith
 
-returns : tie.Need-returns
-unfolding numbers
-returns c = number-is (c .before .args .k) _ (c .before .pre) (ap (λ (k : ℕ). getD numbers k 0) (c .match .keys1))
-
-returns-2 : tie.Need-returns-2
-unfolding numbers
-returns-2 c = number-is (c .before .args .k) _ (c .before .pre) (ap (λ (k : ℕ). getD numbers k 0) (c .match .keys2))
-
-returns-3 : tie.Need-returns-3
-unfolding numbers
-returns-3 c = number-is (c .before .args .k) _ (c .before .pre) (ap (λ (k : ℕ). getD numbers k 0) (c .match .keys3))
-
-returns-4 : tie.Need-returns-4
-unfolding numbers
-returns-4 c = number-is (c .before .args .k) _ (c .before .pre) (ap (λ (k : ℕ). getD numbers k 0) (c .match .keys4))
-
-returns-5 : tie.Need-returns-5
-unfolding numbers
-returns-5 c = number-is (c .before .args .k) _ (c .before .pre) (ap (λ (k : ℕ). getD numbers k 0) (c .match .keys5))
-
-returns-6 : tie.Need-returns-6
-unfolding numbers
-returns-6 c = number-is (c .before .args .k) _ (c .before .pre) (ap (λ (k : ℕ). getD numbers k 0) (c .match .keys6))
-
-returns-7 : tie.Need-returns-7
-unfolding numbers
-returns-7 c = number-is (c .before .args .k) _ (c .before .pre) (ap (λ (k : ℕ). getD numbers k 0) (c .match .keys7))
-
 returns-8 : tie.Need-returns-8
 unfolding numbers
 returns-8 c =
@@ -85,5 +57,12 @@ returns-8 c =
     number-is k _ (c .before .pre) (ap (λ (k : ℕ). getD numbers k 0) last)
 
 pub eight-half-traces-spec : {M : Type 1} → statement M
-eight-half-traces-spec =
-    tie.close (tie.spec returns returns-2 returns-3 returns-4 returns-5 returns-6 returns-7 returns-8)
+unfolding numbers
+eight-half-traces-spec = tie.close (tie.spec
+    (λ c. number-is (c .before .args .k) _ (c .before .pre) (ap (λ (k : ℕ). getD numbers k 0) (c .match .keys1)))
+    (λ c. number-is (c .before .args .k) _ (c .before .pre) (ap (λ (k : ℕ). getD numbers k 0) (c .match .keys2)))
+    (λ c. number-is (c .before .args .k) _ (c .before .pre) (ap (λ (k : ℕ). getD numbers k 0) (c .match .keys3)))
+    (λ c. number-is (c .before .args .k) _ (c .before .pre) (ap (λ (k : ℕ). getD numbers k 0) (c .match .keys4)))
+    (λ c. number-is (c .before .args .k) _ (c .before .pre) (ap (λ (k : ℕ). getD numbers k 0) (c .match .keys5)))
+    (λ c. number-is (c .before .args .k) _ (c .before .pre) (ap (λ (k : ℕ). getD numbers k 0) (c .match .keys6)))
+    (λ c. number-is (c .before .args .k) _ (c .before .pre) (ap (λ (k : ℕ). getD numbers k 0) (c .match .keys7))) returns-8)

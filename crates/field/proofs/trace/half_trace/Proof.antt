@@ -7,21 +7,6 @@ use Rattle.field.specs.inner.HalfTrace.{halfTrace}
 use Rattle.field.proofs.trace.half_trace.Statement.{statement}
 use Rattle.field.proofs.trace.half_trace.Tie as tie
 
-cast-i : tie.Need-cast-i
-cast-i c = search needs
-
-eight-half-traces-requires : tie.Need-eight-half-traces-requires
-eight-half-traces-requires c κs = search needs
-
-mul-h : tie.Need-mul-h
-mul-h c = search needs
-
-shr-h : tie.Need-shr-h
-shr-h c = search needs
-
-cast-result : tie.Need-cast-result
-cast-result c = search needs
-
 returns : tie.Need-returns
 returns c =
     let a : ℕ = c .before .args .c in
@@ -29,4 +14,4 @@ returns c =
     c .eight-half-traces .ensures (a % 128 % 16) (omega arith) ∙ ap halfTrace place
 
 pub half-trace-spec : {M : Type 1} → statement M
-half-trace-spec = tie.close (tie.spec cast-i eight-half-traces-requires mul-h shr-h cast-result returns)
+half-trace-spec = tie.close (tie.spec (λ c. search needs) (λ c κs. search needs) (λ c. search needs) (λ c. search needs) (λ c. search needs) returns)

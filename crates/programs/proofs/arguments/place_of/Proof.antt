@@ -16,24 +16,6 @@ Inv-loop roles role n left₀ i₀ left i = (i ≤ length roles) × (argumentAt 
 abbrev μ-loop : tie.MeasureT-loop
 μ-loop roles role n left₀ i₀ left i = length roles - i
 
-loop-holds : tie.Need-loop-holds Inv-loop μ-loop
-loop-holds c = (omega arith, refl)
-
-shared-slice-read-if1 : tie.Need-shared-slice-read-if1 Inv-loop μ-loop
-shared-slice-read-if1 c = search needs
-
-returns : tie.Need-returns Inv-loop μ-loop
-returns c = search (needs, place-found)
-
-less-one-requires : tie.Need-less-one-requires Inv-loop μ-loop
-less-one-requires c κs = search needs
-
-add-i : tie.Need-add-i Inv-loop μ-loop
-add-i c = search needs
-
-loop-less : tie.Need-loop-less Inv-loop μ-loop
-loop-less c = search needs
-
 loop-again : tie.Need-loop-again Inv-loop μ-loop
 loop-again c =
     let l = c .before .before .before in
@@ -46,20 +28,6 @@ loop-again c =
       ⊎-elim (λ w. counted (w .0 .taken) (w .1 .left) next (w .3 ∙ w .2 .ensures)) (λ w. passed (w .0 .left) next (w .1)) (c .if1 .came),
     )
 
-returns-2 : tie.Need-returns-2 Inv-loop μ-loop
-returns-2 c = search (needs, place-none)
-
 pub place-of-spec : {M : Type 1} → statement M
-place-of-spec =
-    tie.close
-    (tie.spec
-    Inv-loop
-    μ-loop
-    loop-holds
-    shared-slice-read-if1
-    returns
-    less-one-requires
-    add-i
-    loop-less
-    loop-again
-    returns-2)
+place-of-spec = tie.close (tie.spec Inv-loop μ-loop (λ c. (omega arith, refl)) (λ c. search needs) (λ c. search (needs, place-found))
+    (λ c κs. search needs) (λ c. search needs) (λ c. search needs) loop-again (λ c. search (needs, place-none)))

@@ -11,22 +11,10 @@ use Rattle.programs.proofs.Checking.{line-writable, front-short, line-f
 use Rattle.programs.proofs.cardcheck.answer.Statement.{statement}
 use Rattle.programs.proofs.cardcheck.answer.Tie as tie
 
-output-of-requires : tie.Need-output-of-requires
-output-of-requires c κs = search needs
-
-failed-requires : tie.Need-failed-requires
-failed-requires c κs = search needs
-
-with-status-requires : tie.Need-with-status-requires
-with-status-requires c κs = search needs
-
 returns : tie.Need-returns
 returns c =
     let o = c .before .before .before .output-of in
     rw (c .with-status .ensures) (answers-failed (c .before .before .before .before .before .before .before .pre .0) (o .result) (ap (λ (x : Output). x .written) (o .ensures)) (asked-yes (c .before .before .failed .ensures) (search needs)))
-
-front-requires : tie.Need-front-requires
-front-requires c κs = c .before .before .before .before .before .before .before .pre .0 .room
 
 write-line-requires : tie.Need-write-line-requires
 write-line-requires c κs =
@@ -38,9 +26,6 @@ write-line-requires c κs =
       subst (LineOf _) (sym (c .front .ensures)) (line-found (p .0) (asked-no (c .before .before .before .failed .ensures) (search needs)) (search needs)),
     )
 
-with-status-requires-2 : tie.Need-with-status-requires-2
-with-status-requires-2 c κs = search needs
-
 returns-2 : tie.Need-returns-2
 returns-2 c =
     let o = c .before .before .before .before .before .before .output-of in
@@ -48,12 +33,6 @@ returns-2 c =
     rw (c .with-status2 .ensures)
     (answers-line p (asked-no (c .before .before .before .before .before .failed .ensures) (search needs)) (o .result) (c .before .write-line .result) _
     (ap (λ (x : Output). x .written) (o .ensures)) (inl (search needs)) (c .before .before .front .ensures ∙ says-found p (search needs)) (c .before .write-line .ensures))
-
-ended-requires : tie.Need-ended-requires
-ended-requires c κs = search needs
-
-slice-aggregate-write-line : tie.Need-slice-aggregate-write-line
-slice-aggregate-write-line c = search needs
 
 write-line-requires-2 : tie.Need-write-line-requires-2
 write-line-requires-2 c κs =
@@ -63,9 +42,6 @@ write-line-requires-2 c κs =
       line-ok (p .0) (asked-no (c .before .before .before .before .before .failed .ensures) (search needs)) (search needs) (asked-yes (c .before .before .ended .ensures) (search needs)),
     )
 
-with-status-requires-3 : tie.Need-with-status-requires-3
-with-status-requires-3 c κs = search needs
-
 returns-3 : tie.Need-returns-3
 returns-3 c =
     let o = c .before .before .before .before .before .before .before .before .output-of in
@@ -73,9 +49,6 @@ returns-3 c =
     rw (c .with-status3 .ensures)
     (answers-line p (asked-no (c .before .before .before .before .before .before .before .failed .ensures) (search needs)) (o .result) (c .before .write-line2 .result) okLine
     (ap (λ (x : Output). x .written) (o .ensures)) (inr (asked-yes (c .before .before .before .before .ended .ensures) (search needs))) (says-ok p (search needs)) (c .before .write-line2 .ensures))
-
-with-status-requires-4 : tie.Need-with-status-requires-4
-with-status-requires-4 c κs = search needs
 
 returns-4 : tie.Need-returns-4
 returns-4 c =
@@ -85,21 +58,6 @@ returns-4 c =
     (asked-no (c .before .before .ended .ensures) (search needs)))
 
 pub answer-spec : {M : Type 1} → statement M
-answer-spec =
-    tie.close
-    (tie.spec
-    output-of-requires
-    failed-requires
-    with-status-requires
-    returns
-    front-requires
-    write-line-requires
-    with-status-requires-2
-    returns-2
-    ended-requires
-    slice-aggregate-write-line
-    write-line-requires-2
-    with-status-requires-3
-    returns-3
-    with-status-requires-4
-    returns-4)
+answer-spec = tie.close (tie.spec (λ c κs. search needs) (λ c κs. search needs) (λ c κs. search needs) returns
+    (λ c κs. c .before .before .before .before .before .before .before .pre .0 .room) write-line-requires (λ c κs. search needs) returns-2
+    (λ c κs. search needs) (λ c. search needs) write-line-requires-2 (λ c κs. search needs) returns-3 (λ c κs. search needs) returns-4)

@@ -18,42 +18,21 @@ Inv-loop fd out₀ file input₀ i₀ out input i = (i ≤ mostBatches) × (leng
 abbrev μ-loop : tie.MeasureT-loop
 μ-loop fd out₀ file input₀ i₀ out input i = mostBatches - i
 
-input-of-requires : tie.Need-input-of-requires Inv-loop μ-loop
-input-of-requires c κs = search needs
-
 loop-holds : tie.Need-loop-holds Inv-loop μ-loop
 loop-holds c =
     let e = c .input-of .ensures in
     (omega arith, refl, refl, ap (λ (x : Input). x .going) e, fine-start _ (ap (λ (x : Input). x .read) e) (ap (λ (x : Input). x .failed) e))
-
-mul-check-next : tie.Need-mul-check-next Inv-loop μ-loop
-mul-check-next c = search needs
 
 check-next-requires : tie.Need-check-next-requires Inv-loop μ-loop
 check-next-requires c κs =
     let turn = c .before .before .loop in
     (fine-readable (turn .i) (turn .input) (turn .inv .4) (turn .inv .3) (omega arith), omega arith, omega (arith, turn .inv .1, c .before .before .before .before .before .before .pre))
 
-same-length : tie.Need-same-length Inv-loop μ-loop
-same-length c = search needs
-
 returns : tie.Need-returns Inv-loop μ-loop
 returns c = let turn = c .before .before .before .before .before .before .before .before .loop in searches-some (turn .i) (turn .input) (turn .inv .4) (turn .inv .3) (c .before .before .before .before .before .check-next .ensures)
 
-going-requires : tie.Need-going-requires Inv-loop μ-loop
-going-requires c κs = search needs
-
-same-length-2 : tie.Need-same-length-2 Inv-loop μ-loop
-same-length-2 c = search needs
-
 returns-2 : tie.Need-returns-2 Inv-loop μ-loop
 returns-2 c = let turn = c .before .before .before .before .before .before .before .before .before .before .loop in searches-some (turn .i) (turn .input) (turn .inv .4) (turn .inv .3) (c .before .before .before .before .before .before .before .check-next .ensures)
-
-add-i : tie.Need-add-i Inv-loop μ-loop
-add-i c = search needs
-
-loop-less : tie.Need-loop-less Inv-loop μ-loop
-loop-less c = search needs
 
 loop-again : tie.Need-loop-again Inv-loop μ-loop
 loop-again c =
@@ -67,29 +46,7 @@ loop-again c =
       fine-more (turn .i) (turn .input) (turn .inv .4) (turn .inv .3) found (search needs) going,
     )
 
-same-length-3 : tie.Need-same-length-3 Inv-loop μ-loop
-same-length-3 c = search needs
-
-returns-3 : tie.Need-returns-3 Inv-loop μ-loop
-returns-3 c = let turn = c .before .loop in searches-none (turn .i) (turn .input) (turn .inv .4) (turn .inv .3) (turn .out)
-
 pub check-batches-spec : {M : Type 1} → statement M
-check-batches-spec =
-    tie.close
-    (tie.spec
-    Inv-loop
-    μ-loop
-    input-of-requires
-    loop-holds
-    mul-check-next
-    check-next-requires
-    same-length
-    returns
-    going-requires
-    same-length-2
-    returns-2
-    add-i
-    loop-less
-    loop-again
-    same-length-3
-    returns-3)
+check-batches-spec = tie.close (tie.spec Inv-loop μ-loop (λ c κs. search needs) loop-holds (λ c. search needs) check-next-requires (λ c. search needs)
+    returns (λ c κs. search needs) (λ c. search needs) returns-2 (λ c. search needs) (λ c. search needs) loop-again (λ c. search needs)
+    (λ c. let turn = c .before .loop in searches-none (turn .i) (turn .input) (turn .inv .4) (turn .inv .3) (turn .out)))

@@ -7,26 +7,11 @@ use Rattle.programs.proofs.Batches.{denied-yes, denied-no}
 use Rattle.programs.proofs.cardcompare.answer.Statement.{statement}
 use Rattle.programs.proofs.cardcompare.answer.Tie as tie
 
-both-read-requires : tie.Need-both-read-requires
-both-read-requires c κs = search needs
-
-output-of-requires : tie.Need-output-of-requires
-output-of-requires c κs = search needs
-
 returns : tie.Need-returns
 returns c =
     let s = c .before .before .before .before .before .before .before in
     compares-unread (s .args .n) (s .args .m) (s .pre .0) (s .pre .1) (denied-yes (c .before .before .both-read .ensures) (c .before .if1 .taken)) (c .output-of .result)
     (ap (λ (p : Output). p .written) (c .output-of .ensures))
-
-front-requires : tie.Need-front-requires
-front-requires c κs = search needs
-
-front-requires-2 : tie.Need-front-requires-2
-front-requires-2 c κs = search needs
-
-compare-requires : tie.Need-compare-requires
-compare-requires c κs = search needs
 
 write-accepted-requires : tie.Need-write-accepted-requires
 write-accepted-requires c κs =
@@ -39,12 +24,6 @@ write-accepted-requires c κs =
       found-slot (s .args .m) (s .pre .1) (b1 .front2 .result .now) (b1 .front2 .ensures) (fine .1),
       c .compare .ensures,
     )
-
-status-of-requires : tie.Need-status-of-requires
-status-of-requires c κs = search needs
-
-refusal-of-requires : tie.Need-refusal-of-requires
-refusal-of-requires c κs = search needs
 
 returns-2 : tie.Need-returns-2
 returns-2 c =
@@ -60,16 +39,5 @@ returns-2 c =
     (b2 .write-accepted .result) (b2 .write-accepted .ensures) (b1 .status-of .result) (b1 .status-of .ensures) (c .refusal-of .result) (c .refusal-of .ensures)
 
 pub answer-spec : {M : Type 1} → statement M
-answer-spec =
-    tie.close
-    (tie.spec
-    both-read-requires
-    output-of-requires
-    returns
-    front-requires
-    front-requires-2
-    compare-requires
-    write-accepted-requires
-    status-of-requires
-    refusal-of-requires
-    returns-2)
+answer-spec = tie.close (tie.spec (λ c κs. search needs) (λ c κs. search needs) returns (λ c κs. search needs) (λ c κs. search needs)
+    (λ c κs. search needs) write-accepted-requires (λ c κs. search needs) (λ c κs. search needs) returns-2)

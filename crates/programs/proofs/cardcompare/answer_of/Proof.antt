@@ -4,14 +4,6 @@ use Rattle.programs.proofs.Comparing.{answer-none, answer-read}
 use Rattle.programs.proofs.cardcompare.answer_of.Statement.{statement}
 use Rattle.programs.proofs.cardcompare.answer_of.Tie as tie
 
-returns : tie.Need-returns
-returns c = answer-none (c .before .before .args .slot .now) (c .if1 .taken)
-
-read-day-requires : tie.Need-read-day-requires
-read-day-requires c κs = search needs
-
-returns-2 : tie.Need-returns-2
-returns-2 c = answer-read (c .before .before .before .args .slot .now) (c .before .if1 .left) (c .read-day .result) (c .read-day .ensures)
-
 pub answer-of-spec : {M : Type 1} → statement M
-answer-of-spec = tie.close (tie.spec returns read-day-requires returns-2)
+answer-of-spec = tie.close (tie.spec (λ c. answer-none (c .before .before .args .slot .now) (c .if1 .taken)) (λ c κs. search needs)
+    (λ c. answer-read (c .before .before .before .args .slot .now) (c .before .if1 .left) (c .read-day .result) (c .read-day .ensures)))

@@ -5,26 +5,8 @@ use Rattle.programs.proofs.Comparing.{names-controller, names-cupboard,
 use Rattle.programs.proofs.cardcompare.refusal_of.Statement.{statement}
 use Rattle.programs.proofs.cardcompare.refusal_of.Tie as tie
 
-answer-of-requires : tie.Need-answer-of-requires
-answer-of-requires c κs = search needs
-
-enum-known-q : tie.Need-enum-known-q
-enum-known-q c = search needs
-
 enum-told : tie.Need-enum-told
 enum-told c = search needs
-
-answer-of-requires-2 : tie.Need-answer-of-requires-2
-answer-of-requires-2 c κs = search needs
-
-enum-known-q-2 : tie.Need-enum-known-q-2
-enum-known-q-2 c = search needs
-
-enum-told-2 : tie.Need-enum-told-2
-enum-told-2 c = search needs
-
-refusal-in-requires : tie.Need-refusal-in-requires
-refusal-in-requires c κs = search needs
 
 returns : tie.Need-returns
 returns c =
@@ -49,16 +31,5 @@ returns-3 c =
     names-sheets (a .a .now) (a .b .now) (choice (a .x .choice)) _ (b6 .answer-of .ensures) _ (b4 .enum-told .given .1) _ (b3 .answer-of2 .ensures) _ (c .before .enum-told2 .given .1) (c .refusal-in .result) (c .refusal-in .ensures)
 
 pub refusal-of-spec : {M : Type 1} → statement M
-refusal-of-spec =
-    tie.close
-    (tie.spec
-    answer-of-requires
-    enum-known-q
-    enum-told
-    answer-of-requires-2
-    enum-known-q-2
-    enum-told-2
-    refusal-in-requires
-    returns
-    returns-2
-    returns-3)
+refusal-of-spec = tie.close (tie.spec (λ c κs. search needs) (λ c. search needs) enum-told (λ c κs. search needs) (λ c. search needs)
+    (λ c. search needs) (λ c κs. search needs) returns returns-2 returns-3)

@@ -6,19 +6,10 @@ use Rattle.programs.proofs.Comparing.{writes-refused, accepted-slots}
 use Rattle.programs.proofs.cardcompare.write_accepted.Statement.{statement}
 use Rattle.programs.proofs.cardcompare.write_accepted.Tie as tie
 
-is-compared-requires : tie.Need-is-compared-requires
-is-compared-requires c κs = search needs
-
 write-comparison-requires : tie.Need-write-comparison-requires
 write-comparison-requires c κs =
     let s = c .before .before .before .before in
     accepted-slots (s .args .a .now) (s .args .b .now) (s .args .x) (s .pre .2) (c .before .is-compared .ensures) (c .if1 .taken) (s .pre .0) (s .pre .1)
-
-returns : tie.Need-returns
-returns c = search needs
-
-output-of-requires : tie.Need-output-of-requires
-output-of-requires c κs = search needs
 
 returns-2 : tie.Need-returns-2
 returns-2 c =
@@ -27,6 +18,4 @@ returns-2 c =
     (ap (λ (p : Output). p .written) (c .output-of .ensures))
 
 pub write-accepted-spec : {M : Type 1} → statement M
-write-accepted-spec =
-    tie.close
-    (tie.spec is-compared-requires write-comparison-requires returns output-of-requires returns-2)
+write-accepted-spec = tie.close (tie.spec (λ c κs. search needs) write-comparison-requires (λ c. search needs) (λ c κs. search needs) returns-2)

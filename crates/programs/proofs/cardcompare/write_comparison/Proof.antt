@@ -10,24 +10,6 @@ use Rattle.programs.proofs.Streaming.{first-part}
 use Rattle.programs.proofs.cardcompare.write_comparison.Statement.{statement}
 use Rattle.programs.proofs.cardcompare.write_comparison.Tie as tie
 
-slice-aggregate-put-comparison : tie.Need-slice-aggregate-put-comparison
-slice-aggregate-put-comparison c = search needs
-
-put-comparison-requires : tie.Need-put-comparison-requires
-put-comparison-requires c κs = search needs
-
-output-of-requires : tie.Need-output-of-requires
-output-of-requires c κs = search needs
-
-array-share-prefix-out : tie.Need-array-share-prefix-out
-array-share-prefix-out c = search needs
-
-slice-aggregate-write-part : tie.Need-slice-aggregate-write-part
-slice-aggregate-write-part c = let x = c .before .before .before .put-comparison in sym (length-take-le (x .result) _ (writes-fits (x .ensures)))
-
-slice-aggregate-write-part-2 : tie.Need-slice-aggregate-write-part-2
-slice-aggregate-write-part-2 c = search needs
-
 write-part-requires : tie.Need-write-part-requires
 write-part-requires c κs =
     let x = c .before .before .before .before .put-comparison in
@@ -45,14 +27,6 @@ returns c =
     writes-accepted (s .pre .2) (c .write-part .result) (λ t. omega (arith, c .write-part .ensures t, none, l, x .ensures .behind))
 
 pub write-comparison-spec : {M : Type 1} → statement M
-write-comparison-spec =
-    tie.close
-    (tie.spec
-    slice-aggregate-put-comparison
-    put-comparison-requires
-    output-of-requires
-    array-share-prefix-out
-    slice-aggregate-write-part
-    slice-aggregate-write-part-2
-    write-part-requires
-    returns)
+write-comparison-spec = tie.close (tie.spec (λ c. search needs) (λ c κs. search needs) (λ c κs. search needs) (λ c. search needs)
+    (λ c. let x = c .before .before .before .put-comparison in sym (length-take-le (x .result) _ (writes-fits (x .ensures)))) (λ c. search needs)
+    write-part-requires returns)

@@ -19,12 +19,6 @@ Inv-loop fd k file input₀ s₀ i₀ input s i = (i ≤ mostBatches) × (input 
 abbrev μ-loop : tie.MeasureT-loop
 μ-loop fd k file input₀ s₀ i₀ input s i = mostBatches - i
 
-input-of-requires : tie.Need-input-of-requires Inv-loop μ-loop
-input-of-requires c κs = search needs
-
-nothing-found-requires : tie.Need-nothing-found-requires Inv-loop μ-loop
-nothing-found-requires c κs = search needs
-
 loop-holds : tie.Need-loop-holds Inv-loop μ-loop
 loop-holds c =
     let x = c .before .input-of .ensures in
@@ -39,9 +33,6 @@ ask-batch-requires c κs =
     let k = s .args .k in
     (asks-readable k (t .i) (t .inv .2) (t .inv .1) (s .pre) (t .inv .0), s .pre, asks-slots k (t .i) (t .inv .2) (t .inv .1) (s .pre) (t .inv .0))
 
-going-requires : tie.Need-going-requires Inv-loop μ-loop
-going-requires c κs = search needs
-
 returns : tie.Need-returns Inv-loop μ-loop
 returns c =
     let x = c .before .before .before .ask-batch in
@@ -49,12 +40,6 @@ returns c =
     let t = u .before .loop in
     let s = u .before .before .before .before .before in
     asks-end (s .args .k) (t .i) (t .inv .2) (t .inv .1) (s .pre) (x .ensures) (u .loop-test .taken)
-
-add-i : tie.Need-add-i Inv-loop μ-loop
-add-i c = search needs
-
-loop-less : tie.Need-loop-less Inv-loop μ-loop
-loop-less c = search needs
 
 loop-again : tie.Need-loop-again Inv-loop μ-loop
 loop-again c =
@@ -75,18 +60,5 @@ returns-2 c =
     asks-all (s .args .k) (t .i) (t .inv .2) (t .inv .1) (s .pre) (omega arith)
 
 pub ask-card-spec : {M : Type 1} → statement M
-ask-card-spec =
-    tie.close
-    (tie.spec
-    Inv-loop
-    μ-loop
-    input-of-requires
-    nothing-found-requires
-    loop-holds
-    ask-batch-requires
-    going-requires
-    returns
-    add-i
-    loop-less
-    loop-again
-    returns-2)
+ask-card-spec = tie.close (tie.spec Inv-loop μ-loop (λ c κs. search needs) (λ c κs. search needs) loop-holds ask-batch-requires (λ c κs. search needs)
+    returns (λ c. search needs) (λ c. search needs) loop-again returns-2)

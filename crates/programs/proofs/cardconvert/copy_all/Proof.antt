@@ -16,12 +16,6 @@ Inv-loop fd to k slots file out c₀ left₀ c left = (left ≤ slots) × Copied
 abbrev μ-loop : tie.MeasureT-loop
 μ-loop fd to k slots file out c₀ left₀ c left = left
 
-input-of-requires : tie.Need-input-of-requires Inv-loop μ-loop
-input-of-requires c κs = search needs
-
-output-of-requires : tie.Need-output-of-requires Inv-loop μ-loop
-output-of-requires c κs = search needs
-
 loop-holds : tie.Need-loop-holds Inv-loop μ-loop
 loop-holds c =
     let x = c .before .input-of .ensures in
@@ -37,9 +31,6 @@ loop-holds c =
       },
     )
 
-next-batch-requires : tie.Need-next-batch-requires Inv-loop μ-loop
-next-batch-requires c κs = search needs
-
 copy-batch-requires : tie.Need-copy-batch-requires Inv-loop μ-loop
 copy-batch-requires c κs =
     let t = c .before .before .loop in
@@ -53,12 +44,6 @@ returns c =
     let t = u .before .before .loop in
     let s = u .before .before .before .before .before .before .before in
     copied-stopped (t .inv .1) (s .pre .0) (s .pre .1) (u .next-batch .result) (x .ensures) (not-true _ (c .if1 .taken))
-
-sub-left : tie.Need-sub-left Inv-loop μ-loop
-sub-left c = search needs
-
-loop-less : tie.Need-loop-less Inv-loop μ-loop
-loop-less c = let u = c .before .before .before in omega (arith, u .next-batch .ensures .2 (u .before .loop-test .taken))
 
 loop-again : tie.Need-loop-again Inv-loop μ-loop
 loop-again c =
@@ -76,18 +61,6 @@ returns-2 c =
     copied-all (t .inv .1) (s .pre .0) (s .pre .1) (omega arith)
 
 pub copy-all-spec : {M : Type 1} → statement M
-copy-all-spec =
-    tie.close
-    (tie.spec
-    Inv-loop
-    μ-loop
-    input-of-requires
-    output-of-requires
-    loop-holds
-    next-batch-requires
-    copy-batch-requires
-    returns
-    sub-left
-    loop-less
-    loop-again
-    returns-2)
+copy-all-spec = tie.close (tie.spec Inv-loop μ-loop (λ c κs. search needs) (λ c κs. search needs) loop-holds (λ c κs. search needs)
+    copy-batch-requires returns (λ c. search needs)
+    (λ c. let u = c .before .before .before in omega (arith, u .next-batch .ensures .2 (u .before .loop-test .taken))) loop-again returns-2)

@@ -7,27 +7,12 @@ use Rattle.programs.proofs.Converting.{copies-readable, copies-card, co
 use Rattle.programs.proofs.cardconvert.copy_card.Statement.{statement}
 use Rattle.programs.proofs.cardconvert.copy_card.Tie as tie
 
-copy-all-requires : tie.Need-copy-all-requires
-copy-all-requires c κs = search needs
-
-returns : tie.Need-returns
-returns c = copies-not _ _ _ (not-true _ (c .if1 .taken))
-
-slice-aggregate-read-batch : tie.Need-slice-aggregate-read-batch
-slice-aggregate-read-batch c = search needs
-
 read-batch-requires : tie.Need-read-batch-requires
 read-batch-requires c κs =
     let u = c .before .before .before .before in
     let s = u .before .before .before in
     let i = copies-readable (u .copy-all .ensures) (not-false _ (c .before .before .before .if1 .left)) (s .pre .2) (s .pre .1) in
     (i .going, i .well, omega (arith, i .small))
-
-ended-requires : tie.Need-ended-requires
-ended-requires c κs = search needs
-
-count-requires : tie.Need-count-requires
-count-requires c κs = search needs
 
 returns-2 : tie.Need-returns-2
 returns-2 c =
@@ -37,18 +22,6 @@ returns-2 c =
     let x = u .before .copy-all in
     copies-card (x .ensures) (not-false _ (u .if1 .left)) (y .ensures) (asked-yes (e .ensures) (c .before .if2 .taken)) (c .count .ensures)
 
-returns-3 : tie.Need-returns-3
-returns-3 c = copies-not _ _ _ (c .if2 .left)
-
 pub copy-card-spec : {M : Type 1} → statement M
-copy-card-spec =
-    tie.close
-    (tie.spec
-    copy-all-requires
-    returns
-    slice-aggregate-read-batch
-    read-batch-requires
-    ended-requires
-    count-requires
-    returns-2
-    returns-3)
+copy-card-spec = tie.close (tie.spec (λ c κs. search needs) (λ c. copies-not _ _ _ (not-true _ (c .if1 .taken))) (λ c. search needs)
+    read-batch-requires (λ c κs. search needs) (λ c κs. search needs) returns-2 (λ c. copies-not _ _ _ (c .if2 .left)))

@@ -41,36 +41,6 @@ module _ (c : tie.After-size-of2) where
   other-size : length (take m (started .args .other .now)) ≡ m
   other-size = length-take-le m (started .args .other .now) other-room
 
-size-of-requires : tie.Need-size-of-requires
-size-of-requires c κs = search needs
-
-mul-n : tie.Need-mul-n
-mul-n c = omega (arith, buf-room c)
-
-add-size-of : tie.Need-add-size-of
-add-size-of c = search needs
-
-sub-size-of : tie.Need-sub-size-of
-sub-size-of c = search needs
-
-size-of-requires-2 : tie.Need-size-of-requires-2
-size-of-requires-2 c κs = search needs
-
-mul-m : tie.Need-mul-m
-mul-m c = omega (arith, other-room c)
-
-slice-relend-prefix-copy-slots : tie.Need-slice-relend-prefix-copy-slots
-slice-relend-prefix-copy-slots c = buf-room (c .before)
-
-slice-aggregate-copy-slots : tie.Need-slice-aggregate-copy-slots
-slice-aggregate-copy-slots c = sym (buf-size (c .before .before))
-
-slice-relend-prefix-copy-slots-2 : tie.Need-slice-relend-prefix-copy-slots-2
-slice-relend-prefix-copy-slots-2 c = other-room (c .before)
-
-slice-aggregate-copy-slots-2 : tie.Need-slice-aggregate-copy-slots-2
-slice-aggregate-copy-slots-2 c = sym (other-size (c .before .before))
-
 copy-slots-requires : tie.Need-copy-slots-requires
 copy-slots-requires c κs =
     let s = c .before .before .before .before .before .before .before .before in
@@ -82,12 +52,6 @@ copy-slots-requires c κs =
       omega (arith, other-size u, other-room u, s .pre .0 .1),
     )
 
-same-length : tie.Need-same-length
-same-length c = search needs
-
-same-length-2 : tie.Need-same-length-2
-same-length-2 c = search needs
-
 returns : tie.Need-returns
 returns c =
     let y = c .before .before .before .before in
@@ -98,20 +62,6 @@ returns c =
     copies-sized a b (y .copy-slots .ensures)
 
 pub copy-part-spec : {M : Type 1} → statement M
-copy-part-spec =
-    tie.close
-    (tie.spec
-    size-of-requires
-    mul-n
-    add-size-of
-    sub-size-of
-    size-of-requires-2
-    mul-m
-    slice-relend-prefix-copy-slots
-    slice-aggregate-copy-slots
-    slice-relend-prefix-copy-slots-2
-    slice-aggregate-copy-slots-2
-    copy-slots-requires
-    same-length
-    same-length-2
-    returns)
+copy-part-spec = tie.close (tie.spec (λ c κs. search needs) (λ c. omega (arith, buf-room c)) (λ c. search needs) (λ c. search needs)
+    (λ c κs. search needs) (λ c. omega (arith, other-room c)) (λ c. buf-room (c .before)) (λ c. sym (buf-size (c .before .before)))
+    (λ c. other-room (c .before)) (λ c. sym (other-size (c .before .before))) copy-slots-requires (λ c. search needs) (λ c. search needs) returns)

@@ -7,21 +7,6 @@ use Rattle.programs.proofs.Converting.{passed-converted, copies-stopped
 use Rattle.programs.proofs.cardconvert.copy_slots.Statement.{statement}
 use Rattle.programs.proofs.cardconvert.copy_slots.Tie as tie
 
-read-batch-requires : tie.Need-read-batch-requires
-read-batch-requires c κs = search needs
-
-going-requires : tie.Need-going-requires
-going-requires c κs = search needs
-
-same-length : tie.Need-same-length
-same-length c = search needs
-
-returns : tie.Need-returns
-returns c = copies-stopped _ _ _ _ refl
-
-convert-requires : tie.Need-convert-requires
-convert-requires c κs = search needs
-
 enum-told : tie.Need-enum-told
 enum-told c = search needs
 
@@ -34,18 +19,6 @@ write-converted-requires c κs =
       passed-converted (s .args .k) _ _ (x .result) _ (x .ensures .0) (x .ensures .1) (c .before .enum-told .given .1) (s .pre .1) (s .pre .2),
     )
 
-ok-requires : tie.Need-ok-requires
-ok-requires c κs = search needs
-
-enum-told-2 : tie.Need-enum-told-2
-enum-told-2 c = search needs
-
-same-length-2 : tie.Need-same-length-2
-same-length-2 c = search needs
-
-same-length-3 : tie.Need-same-length-3
-same-length-3 c = search needs
-
 returns-2 : tie.Need-returns-2
 returns-2 c =
     let u = c .before .before .before .before .before .before .before .before .before .before .before in
@@ -53,31 +26,7 @@ returns-2 c =
     let left = c .before .before .before .before .before .before .before .before .before .before .if1 .left in
     copies-batch _ (y .ensures) (denied-no (u .going .ensures) left) (c .before .write-converted .ensures) (omega arith) (c .ok .ensures)
 
-same-length-4 : tie.Need-same-length-4
-same-length-4 c = search needs
-
-same-length-5 : tie.Need-same-length-5
-same-length-5 c = search needs
-
-returns-3 : tie.Need-returns-3
-returns-3 c = copies-stopped _ _ _ _ refl
-
 pub copy-slots-spec : {M : Type 1} → statement M
-copy-slots-spec =
-    tie.close
-    (tie.spec
-    read-batch-requires
-    going-requires
-    same-length
-    returns
-    convert-requires
-    enum-told
-    write-converted-requires
-    ok-requires
-    enum-told-2
-    same-length-2
-    same-length-3
-    returns-2
-    same-length-4
-    same-length-5
-    returns-3)
+copy-slots-spec = tie.close (tie.spec (λ c κs. search needs) (λ c κs. search needs) (λ c. search needs) (λ c. copies-stopped _ _ _ _ refl)
+    (λ c κs. search needs) enum-told write-converted-requires (λ c κs. search needs) (λ c. search needs) (λ c. search needs) (λ c. search needs)
+    returns-2 (λ c. search needs) (λ c. search needs) (λ c. copies-stopped _ _ _ _ refl))

@@ -7,17 +7,11 @@ use Rattle.programs.proofs.Listing.{ends-small, last-writable, more-wri
 use Rattle.programs.proofs.cardlist.end_full.Statement.{statement}
 use Rattle.programs.proofs.cardlist.end_full.Tie as tie
 
-slice-aggregate-read-batch : tie.Need-slice-aggregate-read-batch
-slice-aggregate-read-batch c = search needs
-
 read-batch-requires : tie.Need-read-batch-requires
 read-batch-requires c κs =
     let s = c .before .before .before .before .before .before in
     let g = goes-going (s .args .t) (s .pre .1) in
     (g, s .pre .0 .lists .took .well g, ends-small (s .args .t) (s .pre .0))
-
-count-requires : tie.Need-count-requires
-count-requires c κs = search needs
 
 write-total-requires : tie.Need-write-total-requires
 write-total-requires c κs = let s = c .before .before .before .before .before .before .before .before .before .before in last-writable (s .args .t) (s .pre .0) (goes-ok (s .args .t) (s .pre .1)) 80 (omega arith)
@@ -29,9 +23,6 @@ returns c =
 
 write-more-requires : tie.Need-write-more-requires
 write-more-requires c κs = let s = c .before .before .before .before .before .before .before .before .before .before in last-writable (s .args .t) (s .pre .0) (goes-ok (s .args .t) (s .pre .1)) 8 (omega arith)
-
-ok-requires : tie.Need-ok-requires
-ok-requires c κs = search needs
 
 returns-2 : tie.Need-returns-2
 returns-2 c =
@@ -49,16 +40,5 @@ returns-3 c =
     ends-more (s .args .t) (s .pre .0) (goes-ok (s .args .t) (s .pre .1)) (goes-going (s .args .t) (s .pre .1)) (c .before .before .before .before .before .before .before .read-batch .ensures) refl (c .before .before .before .before .before .count .ensures) (c .before .before .before .write-more .result) (search needs) (c .before .before .before .write-more .ensures) (denied-no (c .before .before .ok .ensures) (search needs)) (c .write-total2 .ensures)
 
 pub end-full-spec : {M : Type 1} → statement M
-end-full-spec =
-    tie.close
-    (tie.spec
-    slice-aggregate-read-batch
-    read-batch-requires
-    count-requires
-    write-total-requires
-    returns
-    write-more-requires
-    ok-requires
-    returns-2
-    write-total-requires-2
-    returns-3)
+end-full-spec = tie.close (tie.spec (λ c. search needs) read-batch-requires (λ c κs. search needs) write-total-requires returns write-more-requires
+    (λ c κs. search needs) returns-2 write-total-requires-2 returns-3)

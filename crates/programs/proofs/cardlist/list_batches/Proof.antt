@@ -16,47 +16,18 @@ Inv-loop fd file t₀ i₀ t i = (i ≤ 2500) × ListsSome (i * batchSize) t
 abbrev μ-loop : tie.MeasureT-loop
 μ-loop fd file t₀ i₀ t i = 2500 - i
 
-begin-requires : tie.Need-begin-requires Inv-loop μ-loop
-begin-requires c κs = search needs
-
-loop-holds : tie.Need-loop-holds Inv-loop μ-loop
-loop-holds c = (omega arith, lists-start _ (c .begin .ensures))
-
-goes-on-requires : tie.Need-goes-on-requires Inv-loop μ-loop
-goes-on-requires c κs = search needs
-
 returns : tie.Need-returns Inv-loop μ-loop
 returns c = let turn = c .before .before .before .loop in lists-stop _ (turn .t) (turn .inv .1) (omega (arith, turn .inv .0)) (denied-yes (c .before .goes-on .ensures) (search needs))
 
 list-batch-requires : tie.Need-list-batch-requires Inv-loop μ-loop
 list-batch-requires c κs = let turn = c .before .before .before .loop in lists-ready (turn .i) (turn .t) (turn .inv .1) (search needs) (denied-no (c .before .goes-on .ensures) (search needs))
 
-add-i : tie.Need-add-i Inv-loop μ-loop
-add-i c = search needs
-
-loop-less : tie.Need-loop-less Inv-loop μ-loop
-loop-less c = search needs
-
 loop-again : tie.Need-loop-again Inv-loop μ-loop
 loop-again c =
     let turn = c .before .before .before .before .loop in
     (omega arith, lists-more (turn .i) (turn .t) (turn .inv .1) (search needs) (denied-no (c .before .before .goes-on .ensures) (search needs)) _ (c .list-batch .ensures))
 
-returns-2 : tie.Need-returns-2 Inv-loop μ-loop
-returns-2 c = let turn = c .before .loop in lists-full _ (turn .t) (turn .inv .1) (omega (arith, turn .inv .0)) (omega arith)
-
 pub list-batches-spec : {M : Type 1} → statement M
-list-batches-spec =
-    tie.close
-    (tie.spec
-    Inv-loop
-    μ-loop
-    begin-requires
-    loop-holds
-    goes-on-requires
-    returns
-    list-batch-requires
-    add-i
-    loop-less
-    loop-again
-    returns-2)
+list-batches-spec = tie.close (tie.spec Inv-loop μ-loop (λ c κs. search needs) (λ c. (omega arith, lists-start _ (c .begin .ensures)))
+    (λ c κs. search needs) returns list-batch-requires (λ c. search needs) (λ c. search needs) loop-again
+    (λ c. let turn = c .before .loop in lists-full _ (turn .t) (turn .inv .1) (omega (arith, turn .inv .0)) (omega arith)))

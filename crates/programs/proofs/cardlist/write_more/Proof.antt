@@ -11,21 +11,6 @@ use Rattle.programs.proofs.Batches.{front-text}
 use Rattle.programs.proofs.cardlist.write_more.Statement.{statement}
 use Rattle.programs.proofs.cardlist.write_more.Tie as tie
 
-slice-aggregate-put-more : tie.Need-slice-aggregate-put-more
-slice-aggregate-put-more c = search needs
-
-put-more-requires : tie.Need-put-more-requires
-put-more-requires c κs = search needs
-
-array-share-prefix-out : tie.Need-array-share-prefix-out
-array-share-prefix-out c = search needs
-
-slice-aggregate-write-part : tie.Need-slice-aggregate-write-part
-slice-aggregate-write-part c = let x = c .before .before .put-more in sym (length-take-le (x .result) _ (writes-fits (x .ensures)))
-
-slice-aggregate-write-part-2 : tie.Need-slice-aggregate-write-part-2
-slice-aggregate-write-part-2 c = search needs
-
 write-part-requires : tie.Need-write-part-requires
 write-part-requires c κs =
     let x = c .before .before .before .put-more in
@@ -36,13 +21,6 @@ returns : tie.Need-returns
 returns c = λ p. c .write-part .ensures p ∙ ap (λ (xs : List ℕ). c .before .before .before .before .before .before .args .o .written + length xs) (front-text (c .before .before .before .before .put-more .ensures))
 
 pub write-more-spec : {M : Type 1} → statement M
-write-more-spec =
-    tie.close
-    (tie.spec
-    slice-aggregate-put-more
-    put-more-requires
-    array-share-prefix-out
-    slice-aggregate-write-part
-    slice-aggregate-write-part-2
-    write-part-requires
-    returns)
+write-more-spec = tie.close (tie.spec (λ c. search needs) (λ c κs. search needs) (λ c. search needs)
+    (λ c. let x = c .before .before .put-more in sym (length-take-le (x .result) _ (writes-fits (x .ensures)))) (λ c. search needs)
+    write-part-requires returns)

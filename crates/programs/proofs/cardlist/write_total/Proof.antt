@@ -11,21 +11,6 @@ use Rattle.programs.proofs.Batches.{front-text}
 use Rattle.programs.proofs.cardlist.write_total.Statement.{statement}
 use Rattle.programs.proofs.cardlist.write_total.Tie as tie
 
-slice-aggregate-put-total : tie.Need-slice-aggregate-put-total
-slice-aggregate-put-total c = search needs
-
-put-total-requires : tie.Need-put-total-requires
-put-total-requires c κs = search needs
-
-array-share-prefix-out : tie.Need-array-share-prefix-out
-array-share-prefix-out c = search needs
-
-slice-aggregate-write-part : tie.Need-slice-aggregate-write-part
-slice-aggregate-write-part c = let x = c .before .before .put-total in sym (length-take-le (x .result) _ (writes-fits (x .ensures)))
-
-slice-aggregate-write-part-2 : tie.Need-slice-aggregate-write-part-2
-slice-aggregate-write-part-2 c = search needs
-
 write-part-requires : tie.Need-write-part-requires
 write-part-requires c κs =
     let x = c .before .before .before .put-total in
@@ -36,13 +21,6 @@ returns : tie.Need-returns
 returns c = λ p. c .write-part .ensures p ∙ ap (λ (xs : List ℕ). c .before .before .before .before .before .before .args .o .written + length xs) (front-text (c .before .before .before .before .put-total .ensures))
 
 pub write-total-spec : {M : Type 1} → statement M
-write-total-spec =
-    tie.close
-    (tie.spec
-    slice-aggregate-put-total
-    put-total-requires
-    array-share-prefix-out
-    slice-aggregate-write-part
-    slice-aggregate-write-part-2
-    write-part-requires
-    returns)
+write-total-spec = tie.close (tie.spec (λ c. search needs) (λ c κs. search needs) (λ c. search needs)
+    (λ c. let x = c .before .before .put-total in sym (length-take-le (x .result) _ (writes-fits (x .ensures)))) (λ c. search needs)
+    write-part-requires returns)

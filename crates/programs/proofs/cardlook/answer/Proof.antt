@@ -9,15 +9,6 @@ use Rattle.programs.specs.declared.output.Output.{Output}
 use Rattle.programs.proofs.cardlook.answer.Statement.{statement}
 use Rattle.programs.proofs.cardlook.answer.Tie as tie
 
-front-requires : tie.Need-front-requires
-front-requires c κs = search needs
-
-output-of-requires : tie.Need-output-of-requires
-output-of-requires c κs = search needs
-
-failed-requires : tie.Need-failed-requires
-failed-requires c κs = search needs
-
 status-of-requires : tie.Need-status-of-requires
 status-of-requires c κs =
     let front = c .before .before .before in
@@ -35,12 +26,6 @@ returns c =
     let none = ap (λ (p : Output). p .written) (o .ensures) in
     looks-failed (s .args .n) (s .pre) (b4 .front .result .now) (b4 .front .ensures) (o .result) (c .status-of .result) (c .status-of
     .ensures) none (asked-yes (b2 .failed .ensures) (b1 .if1 .taken))
-
-say-refused-requires : tie.Need-say-refused-requires
-say-refused-requires c κs = search needs
-
-status-of-requires-2 : tie.Need-status-of-requires-2
-status-of-requires-2 c κs = search needs
 
 returns-2 : tie.Need-returns-2
 returns-2 c =
@@ -89,17 +74,5 @@ returns-3 c =
     (o .result) none (asked-no (b4 .failed .ensures) (b3 .if1 .left)) (b2 .if2 .left) (b1 .write-look .ensures)
 
 pub answer-spec : {M : Type 1} → statement M
-answer-spec =
-    tie.close
-    (tie.spec
-    front-requires
-    output-of-requires
-    failed-requires
-    status-of-requires
-    returns
-    say-refused-requires
-    status-of-requires-2
-    returns-2
-    write-look-requires
-    status-of-requires-3
-    returns-3)
+answer-spec = tie.close (tie.spec (λ c κs. search needs) (λ c κs. search needs) (λ c κs. search needs) status-of-requires returns
+    (λ c κs. search needs) (λ c κs. search needs) returns-2 write-look-requires status-of-requires-3 returns-3)

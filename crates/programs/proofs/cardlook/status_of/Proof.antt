@@ -6,9 +6,6 @@ use Rattle.programs.proofs.Batches.{denied-yes, denied-no}
 use Rattle.programs.proofs.cardlook.status_of.Statement.{statement}
 use Rattle.programs.proofs.cardlook.status_of.Tie as tie
 
-is-well-requires : tie.Need-is-well-requires
-is-well-requires c κs = search needs
-
 returns : tie.Need-returns
 returns c =
     let b1 = c .before in
@@ -22,14 +19,8 @@ returns-2 c =
     let b4 = b2 .before .before in
     let a = b4 .args in look-none (a .slot .now) (a .i) (a .o) (denied-no (b2 .is-well .ensures) (b1 .if1 .left)) (c .if2 .taken)
 
-check-requires : tie.Need-check-requires
-check-requires c κs = search needs
-
 enum-told : tie.Need-enum-told
 enum-told c = search needs
-
-enum-told-2 : tie.Need-enum-told-2
-enum-told-2 c = search needs
 
 returns-3 : tie.Need-returns-3
 returns-3 c =
@@ -58,4 +49,5 @@ returns-4 c =
     (fine-not (a .slot .now) some (b7 .pre) (x .result) (x .ensures) _ (c .enum-told2 .given .1))
 
 pub status-of-spec : {M : Type 1} → statement M
-status-of-spec = tie.close (tie.spec is-well-requires returns returns-2 check-requires enum-told enum-told-2 returns-3 returns-4)
+status-of-spec = tie.close (tie.spec (λ c κs. search needs) returns returns-2 (λ c κs. search needs) enum-told (λ c. search needs) returns-3
+    returns-4)

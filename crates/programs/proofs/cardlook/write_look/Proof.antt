@@ -7,21 +7,6 @@ use Rattle.card.proofs.Writing.{writes-fits}
 use Rattle.programs.proofs.cardlook.write_look.Statement.{statement}
 use Rattle.programs.proofs.cardlook.write_look.Tie as tie
 
-slice-aggregate-put-look : tie.Need-slice-aggregate-put-look
-slice-aggregate-put-look c = search needs
-
-put-look-requires : tie.Need-put-look-requires
-put-look-requires c κs = search needs
-
-array-share-prefix-out : tie.Need-array-share-prefix-out
-array-share-prefix-out c = search needs
-
-slice-aggregate-write-part : tie.Need-slice-aggregate-write-part
-slice-aggregate-write-part c = let x = c .before .before .put-look in sym (length-take-le (x .result) _ (writes-fits (x .ensures)))
-
-slice-aggregate-write-part-2 : tie.Need-slice-aggregate-write-part-2
-slice-aggregate-write-part-2 c = search needs
-
 write-part-requires : tie.Need-write-part-requires
 write-part-requires c κs =
     let x = c .before .before .before .put-look in
@@ -36,13 +21,6 @@ returns c =
     λ t. omega (arith, c .write-part .ensures t, l, x .ensures .behind)
 
 pub write-look-spec : {M : Type 1} → statement M
-write-look-spec =
-    tie.close
-    (tie.spec
-    slice-aggregate-put-look
-    put-look-requires
-    array-share-prefix-out
-    slice-aggregate-write-part
-    slice-aggregate-write-part-2
-    write-part-requires
-    returns)
+write-look-spec = tie.close (tie.spec (λ c. search needs) (λ c κs. search needs) (λ c. search needs)
+    (λ c. let x = c .before .before .put-look in sym (length-take-le (x .result) _ (writes-fits (x .ensures)))) (λ c. search needs)
+    write-part-requires returns)

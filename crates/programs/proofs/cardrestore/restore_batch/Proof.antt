@@ -7,21 +7,6 @@ use Rattle.programs.proofs.Restoring.{restores-batch}
 use Rattle.programs.proofs.cardrestore.restore_batch.Statement.{statement}
 use Rattle.programs.proofs.cardrestore.restore_batch.Tie as tie
 
-slice-aggregate-read-batch : tie.Need-slice-aggregate-read-batch
-slice-aggregate-read-batch c = search needs
-
-read-batch-requires : tie.Need-read-batch-requires
-read-batch-requires c κs = let p = c .before .before .before .before .before .before .pre .input in (p .going, p .well, omega (arith, p .small))
-
-count-requires : tie.Need-count-requires
-count-requires c κs = search needs
-
-array-borrow-prefix-batch : tie.Need-array-borrow-prefix-batch
-array-borrow-prefix-batch c = search needs
-
-slice-aggregate-restore-part : tie.Need-slice-aggregate-restore-part
-slice-aggregate-restore-part c = front-size _ (c .before .count .ensures) (c .before .before .before .read-batch .ensures .most)
-
 restore-part-requires : tie.Need-restore-part-requires
 restore-part-requires c κs =
     let x = c .before .before .before .read-batch in
@@ -34,13 +19,7 @@ returns : tie.Need-returns
 returns c = restores-batch (c .before .before .before .before .before .before .before .before .before .before .before .before .before .before .args .most) (c .before .before .before .before .before .before .before .before .before .before .before .before .before .before .args .t) (c .before .before .before .before .before .before .before .read-batch .ensures) refl (c .before .before .before .before .before .count .ensures) (c .before .before .before .restore-part .ensures)
 
 pub restore-batch-spec : {M : Type 1} → statement M
-restore-batch-spec =
-    tie.close
-    (tie.spec
-    slice-aggregate-read-batch
-    read-batch-requires
-    count-requires
-    array-borrow-prefix-batch
-    slice-aggregate-restore-part
-    restore-part-requires
-    returns)
+restore-batch-spec = tie.close (tie.spec (λ c. search needs)
+    (λ c κs. let p = c .before .before .before .before .before .before .pre .input in (p .going, p .well, omega (arith, p .small)))
+    (λ c κs. search needs) (λ c. search needs) (λ c. front-size _ (c .before .count .ensures) (c .before .before .before .read-batch .ensures .most))
+    restore-part-requires returns)

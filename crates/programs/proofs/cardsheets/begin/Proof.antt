@@ -7,17 +7,6 @@ use Rattle.programs.specs.declared.output.Output.{Output}
 use Rattle.programs.proofs.cardsheets.begin.Statement.{statement}
 use Rattle.programs.proofs.cardsheets.begin.Tie as tie
 
-input-of-requires : tie.Need-input-of-requires
-input-of-requires c κs = search needs
-
-output-of-requires : tie.Need-output-of-requires
-output-of-requires c κs = search needs
-
-write-header-requires : tie.Need-write-header-requires
-write-header-requires c κs =
-    let o = c .output-of .ensures in
-    record { ok = ap (λ (x : Output). x .ok) o; small = omega (arith, ap (λ (x : Output). x .written) o) }
-
 returns : tie.Need-returns
 returns c =
     let i = c .before .before .input-of .ensures in
@@ -32,5 +21,6 @@ returns c =
     }
 
 pub begin-spec : {M : Type 1} → statement M
-begin-spec =
-    tie.close (tie.spec input-of-requires output-of-requires write-header-requires returns)
+begin-spec = tie.close (tie.spec (λ c κs. search needs) (λ c κs. search needs)
+    (λ c κs. let o = c .output-of .ensures in record { ok = ap (λ (x : Output). x .ok) o; small = omega (arith, ap (λ (x : Output). x .written) o) })
+    returns)

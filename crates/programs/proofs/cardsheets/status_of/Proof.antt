@@ -4,11 +4,6 @@ use Rattle.programs.proofs.Telling.{sheets-all, sheets-some}
 use Rattle.programs.proofs.cardsheets.status_of.Statement.{statement}
 use Rattle.programs.proofs.cardsheets.status_of.Tie as tie
 
-returns : tie.Need-returns
-returns c = sheets-all (c .before .before .before .args .t) (search needs)
-
-returns-2 : tie.Need-returns-2
-returns-2 c = sheets-some (c .before .before .before .args .t) (search needs)
-
 pub status-of-spec : {M : Type 1} → statement M
-status-of-spec = tie.close (tie.spec returns returns-2)
+status-of-spec = tie.close (tie.spec (λ c. sheets-all (c .before .before .before .args .t) (search needs))
+    (λ c. sheets-some (c .before .before .before .args .t) (search needs)))

@@ -10,36 +10,12 @@ use Rattle.programs.proofs.Telling.{batch-sheets, tells-batch}
 use Rattle.programs.proofs.cardsheets.tell_batch.Statement.{statement}
 use Rattle.programs.proofs.cardsheets.tell_batch.Tie as tie
 
-slice-aggregate-read-batch : tie.Need-slice-aggregate-read-batch
-slice-aggregate-read-batch c = search needs
-
-read-batch-requires : tie.Need-read-batch-requires
-read-batch-requires c κs = let p = c .before .before .before .before .pre .input in (p .going, p .well, omega (arith, p .small))
-
-count-requires : tie.Need-count-requires
-count-requires c κs = search needs
-
-array-share-prefix-batch : tie.Need-array-share-prefix-batch
-array-share-prefix-batch c = search needs
-
-slice-aggregate-list-sheets : tie.Need-slice-aggregate-list-sheets
-slice-aggregate-list-sheets c = front-size _ (c .before .count .ensures) (c .before .before .before .read-batch .ensures .most)
-
-slice-aggregate-list-sheets-2 : tie.Need-slice-aggregate-list-sheets-2
-slice-aggregate-list-sheets-2 c = search needs
-
 list-sheets-requires : tie.Need-list-sheets-requires
 list-sheets-requires c κs =
     let x = c .before .before .before .before .read-batch in
     let n = c .before .before .count in
     let l = front-size (x .last .1 .0) (n .ensures) (x .ensures .most) in
     (omega (arith, l, n .ensures, x .ensures .most, x .ensures .size), search needs, c .before .before .before .before .before .before .before .before .before .pre .counts)
-
-array-share-prefix-out : tie.Need-array-share-prefix-out
-array-share-prefix-out c = search needs
-
-slice-aggregate-write-lines : tie.Need-slice-aggregate-write-lines
-slice-aggregate-write-lines c = let x = c .before .before .before .list-sheets in sym (length-take-le (x .result .used) _ (writes-fits (x .ensures .text)))
 
 write-lines-requires : tie.Need-write-lines-requires
 write-lines-requires c κs =
@@ -58,17 +34,9 @@ returns c =
     tells-batch (c .before .before .before .before .before .before .before .before .before .before .before .before .before .before .before .args .t) (x .ensures) (c .before .before .before .before .before .before .before .before .count .ensures) (y .ensures) refl refl (c .before .write-lines .ensures)
 
 pub tell-batch-spec : {M : Type 1} → statement M
-tell-batch-spec =
-    tie.close
-    (tie.spec
-    slice-aggregate-read-batch
-    read-batch-requires
-    count-requires
-    array-share-prefix-batch
-    slice-aggregate-list-sheets
-    slice-aggregate-list-sheets-2
-    list-sheets-requires
-    array-share-prefix-out
-    slice-aggregate-write-lines
-    write-lines-requires
-    returns)
+tell-batch-spec = tie.close (tie.spec (λ c. search needs)
+    (λ c κs. let p = c .before .before .before .before .pre .input in (p .going, p .well, omega (arith, p .small))) (λ c κs. search needs)
+    (λ c. search needs) (λ c. front-size _ (c .before .count .ensures) (c .before .before .before .read-batch .ensures .most)) (λ c. search needs)
+    list-sheets-requires (λ c. search needs)
+    (λ c. let x = c .before .before .before .list-sheets in sym (length-take-le (x .result .used) _ (writes-fits (x .ensures .text))))
+    write-lines-requires returns)

@@ -11,21 +11,6 @@ use Rattle.programs.proofs.Batches.{front-text}
 use Rattle.programs.proofs.cardsheets.write_header.Statement.{statement}
 use Rattle.programs.proofs.cardsheets.write_header.Tie as tie
 
-slice-aggregate-put-header : tie.Need-slice-aggregate-put-header
-slice-aggregate-put-header c = search needs
-
-put-header-requires : tie.Need-put-header-requires
-put-header-requires c κs = search needs
-
-array-share-prefix-out : tie.Need-array-share-prefix-out
-array-share-prefix-out c = search needs
-
-slice-aggregate-write-part : tie.Need-slice-aggregate-write-part
-slice-aggregate-write-part c = let x = c .before .before .put-header in sym (length-take-le (x .result) _ (writes-fits (x .ensures)))
-
-slice-aggregate-write-part-2 : tie.Need-slice-aggregate-write-part-2
-slice-aggregate-write-part-2 c = search needs
-
 write-part-requires : tie.Need-write-part-requires
 write-part-requires c κs =
     let x = c .before .before .before .put-header in
@@ -40,13 +25,6 @@ returns c =
     )
 
 pub write-header-spec : {M : Type 1} → statement M
-write-header-spec =
-    tie.close
-    (tie.spec
-    slice-aggregate-put-header
-    put-header-requires
-    array-share-prefix-out
-    slice-aggregate-write-part
-    slice-aggregate-write-part-2
-    write-part-requires
-    returns)
+write-header-spec = tie.close (tie.spec (λ c. search needs) (λ c κs. search needs) (λ c. search needs)
+    (λ c. let x = c .before .before .put-header in sym (length-take-le (x .result) _ (writes-fits (x .ensures)))) (λ c. search needs)
+    write-part-requires returns)

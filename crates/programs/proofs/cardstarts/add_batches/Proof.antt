@@ -21,9 +21,6 @@ Inv-loop fd w report₀ file input₀ i₀ report input i =
 abbrev μ-loop : tie.MeasureT-loop
 μ-loop fd w report₀ file input₀ i₀ report input i = 2500 - i
 
-input-of-requires : tie.Need-input-of-requires Inv-loop μ-loop
-input-of-requires c κs = search needs
-
 loop-holds : tie.Need-loop-holds Inv-loop μ-loop
 loop-holds c =
     let s = c .before .before .before in
@@ -42,12 +39,6 @@ add-batch-requires c κs =
       adds-countable w (t .i) (t .inv .3) (t .inv .2) (s .pre .0) (t .inv .0),
     )
 
-going-requires : tie.Need-going-requires Inv-loop μ-loop
-going-requires c κs = search needs
-
-same-length : tie.Need-same-length Inv-loop μ-loop
-same-length c = search needs
-
 returns : tie.Need-returns Inv-loop μ-loop
 returns c =
     let y = c .before .going in
@@ -56,12 +47,6 @@ returns c =
     let t = u .before .loop in
     let w = u .before .before .before .before .before .args .w in
     adds-end w (t .i) (t .inv .3) (t .inv .2) (x .ensures) (u .loop-test .taken) (denied-yes (y .ensures) (c .if1 .taken))
-
-add-i : tie.Need-add-i Inv-loop μ-loop
-add-i c = search needs
-
-loop-less : tie.Need-loop-less Inv-loop μ-loop
-loop-less c = search needs
 
 loop-again : tie.Need-loop-again Inv-loop μ-loop
 loop-again c =
@@ -72,28 +57,7 @@ loop-again c =
     let w = u .before .before .before .before .before .args .w in
     (omega arith, omega arith, denied-no (y .ensures) (c .if1 .left), adds-more w (t .i) (t .inv .3) (t .inv .2) (x .ensures))
 
-same-length-2 : tie.Need-same-length-2 Inv-loop μ-loop
-same-length-2 c = search needs
-
-returns-2 : tie.Need-returns-2 Inv-loop μ-loop
-returns-2 c =
-    let t = c .before .loop in
-    adds-all (c .before .before .before .before .before .args .w) (t .i) (t .inv .3) (t .inv .2) (omega arith)
-
 pub add-batches-spec : {M : Type 1} → statement M
-add-batches-spec =
-    tie.close
-    (tie.spec
-    Inv-loop
-    μ-loop
-    input-of-requires
-    loop-holds
-    add-batch-requires
-    going-requires
-    same-length
-    returns
-    add-i
-    loop-less
-    loop-again
-    same-length-2
-    returns-2)
+add-batches-spec = tie.close (tie.spec Inv-loop μ-loop (λ c κs. search needs) loop-holds add-batch-requires (λ c κs. search needs) (λ c. search needs)
+    returns (λ c. search needs) (λ c. search needs) loop-again (λ c. search needs)
+    (λ c. let t = c .before .loop in adds-all (c .before .before .before .before .before .args .w) (t .i) (t .inv .3) (t .inv .2) (omega arith)))

@@ -9,22 +9,10 @@ use Rattle.programs.proofs.Tabling.{reports-end, reports-readable, repo
 use Rattle.programs.proofs.cardstarts.fill.Statement.{statement}
 use Rattle.programs.proofs.cardstarts.fill.Tie as tie
 
-begin-requires : tie.Need-begin-requires
-begin-requires c κs = search needs
-
 add-batches-requires : tie.Need-add-batches-requires
 add-batches-requires c κs =
     let s = c .before .before .before .before .before .before .before in
     (s .pre .0, c .before .before .before .begin .ensures ∙ ap (λ (k : ℕ). replicate k 0) (s .pre .1))
-
-going-requires : tie.Need-going-requires
-going-requires c κs = search needs
-
-finish-requires : tie.Need-finish-requires
-finish-requires c κs = search needs
-
-same-length : tie.Need-same-length
-same-length c = search needs
 
 returns : tie.Need-returns
 returns c =
@@ -34,24 +22,12 @@ returns c =
     let left = denied-yes (u .going .ensures) (c .before .before .before .before .if1 .taken) in
     reports-end (s .args .w) (x .ensures) left (c .before .before .finish .ensures)
 
-slice-aggregate-read-batch : tie.Need-slice-aggregate-read-batch
-slice-aggregate-read-batch c = search needs
-
 read-batch-requires : tie.Need-read-batch-requires
 read-batch-requires c κs =
     let u = c .before .before in
     let x = u .before .before .before .add-batches in
     let i = reports-readable _ (x .ensures) (denied-no (u .going .ensures) (c .before .if1 .left)) in
     (i .going, i .well, omega (arith, i .small))
-
-count-requires : tie.Need-count-requires
-count-requires c κs = search needs
-
-finish-requires-2 : tie.Need-finish-requires-2
-finish-requires-2 c κs = search needs
-
-same-length-2 : tie.Need-same-length-2
-same-length-2 c = search needs
 
 returns-2 : tie.Need-returns-2
 returns-2 c =
@@ -64,18 +40,5 @@ returns-2 c =
     reports-more (s .args .w) (x .ensures) going (y .ensures) refl (n .result) (n .ensures) (c .before .before .finish2 .ensures)
 
 pub fill-spec : {M : Type 1} → statement M
-fill-spec =
-    tie.close
-    (tie.spec
-    begin-requires
-    add-batches-requires
-    going-requires
-    finish-requires
-    same-length
-    returns
-    slice-aggregate-read-batch
-    read-batch-requires
-    count-requires
-    finish-requires-2
-    same-length-2
-    returns-2)
+fill-spec = tie.close (tie.spec (λ c κs. search needs) add-batches-requires (λ c κs. search needs) (λ c κs. search needs) (λ c. search needs) returns
+    (λ c. search needs) read-batch-requires (λ c κs. search needs) (λ c κs. search needs) (λ c. search needs) returns-2)

@@ -6,14 +6,6 @@ use Rattle.programs.specs.declared.status.Status.the-variants.{Done, Not
 use Rattle.programs.proofs.cardstarts.status_of.Statement.{statement}
 use Rattle.programs.proofs.cardstarts.status_of.Tie as tie
 
-is-well-requires : tie.Need-is-well-requires
-is-well-requires c κs = search needs
-
-done-where-requires : tie.Need-done-where-requires
-done-where-requires c κs = search needs
-
-returns : tie.Need-returns
-returns c = c .done-where .ensures ∙ ap (λ (b : Bool). cond b Done NotDone) (c .before .is-well .ensures)
-
 pub status-of-spec : {M : Type 1} → statement M
-status-of-spec = tie.close (tie.spec is-well-requires done-where-requires returns)
+status-of-spec = tie.close (tie.spec (λ c κs. search needs) (λ c κs. search needs)
+    (λ c. c .done-where .ensures ∙ ap (λ (b : Bool). cond b Done NotDone) (c .before .is-well .ensures)))

@@ -8,23 +8,6 @@ use Rattle.programs.proofs.Tabling.{tabled-countable}
 use Rattle.programs.proofs.cardstarts.write_table.Statement.{statement}
 use Rattle.programs.proofs.cardstarts.write_table.Tie as tie
 
-slice-aggregate-put-table : tie.Need-slice-aggregate-put-table
-slice-aggregate-put-table c = search needs
-
-put-table-requires : tie.Need-put-table-requires
-put-table-requires c κs = let s = c .before .before in (omega arith, tabled-countable (s .pre .1))
-
-array-share-prefix-out : tie.Need-array-share-prefix-out
-array-share-prefix-out c = search needs
-
-slice-aggregate-write-part : tie.Need-slice-aggregate-write-part
-slice-aggregate-write-part c =
-    let x = c .before .before .put-table in
-    sym (length-take-le (x .result) _ (writes-fits (x .ensures)))
-
-slice-aggregate-write-part-2 : tie.Need-slice-aggregate-write-part-2
-slice-aggregate-write-part-2 c = search needs
-
 write-part-requires : tie.Need-write-part-requires
 write-part-requires c κs =
     let x = c .before .before .before .put-table in
@@ -39,13 +22,6 @@ returns c =
     λ t. omega (arith, c .write-part .ensures t, l, x .ensures .behind)
 
 pub write-table-spec : {M : Type 1} → statement M
-write-table-spec =
-    tie.close
-    (tie.spec
-    slice-aggregate-put-table
-    put-table-requires
-    array-share-prefix-out
-    slice-aggregate-write-part
-    slice-aggregate-write-part-2
-    write-part-requires
-    returns)
+write-table-spec = tie.close (tie.spec (λ c. search needs) (λ c κs. let s = c .before .before in (omega arith, tabled-countable (s .pre .1)))
+    (λ c. search needs) (λ c. let x = c .before .before .put-table in sym (length-take-le (x .result) _ (writes-fits (x .ensures))))
+    (λ c. search needs) write-part-requires returns)

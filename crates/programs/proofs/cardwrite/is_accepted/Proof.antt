@@ -6,15 +6,6 @@ use Rattle.programs.proofs.Cutting.{accepted-unended, accepted-asked, a
 use Rattle.programs.proofs.cardwrite.is_accepted.Statement.{statement}
 use Rattle.programs.proofs.cardwrite.is_accepted.Tie as tie
 
-ended-requires : tie.Need-ended-requires
-ended-requires c κs = search needs
-
-returns : tie.Need-returns
-returns c = accepted-unended (c .before .before .before .before .args .t) (denied-yes (c .before .ended .ensures) (search needs))
-
-goes-on-requires : tie.Need-goes-on-requires
-goes-on-requires c κs = search needs
-
 returns-2 : tie.Need-returns-2
 returns-2 c = accepted-asked (c .before .before .before .before .before .before .before .args .t) (denied-no (c .before .before .before .before .ended .ensures) (search needs)) (lt-ltb 0 (c .before .before .before .before .before .before .before .args .t .state .lines) (search needs)) (c .goes-on .ensures)
 
@@ -22,4 +13,6 @@ returns-3 : tie.Need-returns-3
 returns-3 c = accepted-empty (c .before .before .before .before .before .before .args .t) (denied-no (c .before .before .before .ended .ensures) (search needs)) (le-ltb 0 (c .before .before .before .before .before .before .args .t .state .lines) (search needs))
 
 pub is-accepted-spec : {M : Type 1} → statement M
-is-accepted-spec = tie.close (tie.spec ended-requires returns goes-on-requires returns-2 returns-3)
+is-accepted-spec = tie.close (tie.spec (λ c κs. search needs)
+    (λ c. accepted-unended (c .before .before .before .before .args .t) (denied-yes (c .before .ended .ensures) (search needs)))
+    (λ c κs. search needs) returns-2 returns-3)

@@ -5,8 +5,5 @@ use lib.Seq.{length-take-le}
 use Rattle.programs.proofs.files.front.Statement.{statement}
 use Rattle.programs.proofs.files.front.Tie as tie
 
-slice-aggregate-result : tie.Need-slice-aggregate-result
-slice-aggregate-result c = let s = c .before in sym (length-take-le (s .args .n) (s .args .bytes .now) (s .pre))
-
 pub front-spec : {M : Type 1} → statement M
-front-spec = tie.close (tie.spec slice-aggregate-result (λ c. search needs))
+front-spec = tie.close (tie.spec (λ c. let s = c .before in sym (length-take-le (s .args .n) (s .args .bytes .now) (s .pre))) (λ c. search needs))

@@ -5,12 +5,6 @@ use Rattle.programs.proofs.Streaming.{answer-failed, answer-nothing, an
 use Rattle.programs.proofs.input.moved_of.Statement.{statement}
 use Rattle.programs.proofs.input.moved_of.Tie as tie
 
-returns : tie.Need-returns
-returns c = search (needs, answer-failed)
-
-count-requires : tie.Need-count-requires
-count-requires c κs = search needs
-
 returns-2 : tie.Need-returns-2
 returns-2 c =
     let s = c .before .before .before .before in
@@ -24,4 +18,4 @@ returns-3 c =
     (c .before .count .ensures .1) (c .if2 .left)
 
 pub moved-of-spec : {M : Type 1} → statement M
-moved-of-spec = tie.close (tie.spec returns count-requires returns-2 returns-3)
+moved-of-spec = tie.close (tie.spec (λ c. search (needs, answer-failed)) (λ c κs. search needs) returns-2 returns-3)

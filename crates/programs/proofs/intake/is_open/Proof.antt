@@ -14,12 +14,6 @@ returns c =
     let t = c .before .before .before .args .t in
     sym (ap (λ (b : Bool). b && (t .input .going && goesFurther t)) (le-ltb (t .kept) textSize (c .if1 .taken)))
 
-going-requires : tie.Need-going-requires
-going-requires c κs = search needs
-
-goes-on-requires : tie.Need-goes-on-requires
-goes-on-requires c κs = search needs
-
 returns-2 : tie.Need-returns-2
 returns-2 c =
     let t = c .before .before .before .before .before .before .args .t in
@@ -33,4 +27,4 @@ returns-3 c =
     ∙ sym (ap (λ (b : Bool). b && (t .input .going && goesFurther t)) (lt-ltb (t .kept) textSize (c .before .before .if1 .left)))
 
 pub is-open-spec : {M : Type 1} → statement M
-is-open-spec = tie.close (tie.spec returns going-requires goes-on-requires returns-2 returns-3)
+is-open-spec = tie.close (tie.spec returns (λ c κs. search needs) (λ c κs. search needs) returns-2 returns-3)

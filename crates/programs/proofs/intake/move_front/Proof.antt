@@ -16,45 +16,12 @@ Inv-loop buf₀ from end i₀ at₀ buf i at =
 abbrev μ-loop : tie.MeasureT-loop
 μ-loop buf₀ from end i₀ at₀ buf i at = end - at
 
-loop-holds : tie.Need-loop-holds Inv-loop μ-loop
-loop-holds c = (omega arith, c .pre .1, c .pre .2, c .pre .0, moved-start _ _, c .pre .0)
-
-slice-read-buf : tie.Need-slice-read-buf Inv-loop μ-loop
-slice-read-buf c = search needs
-
-slice-write-buf : tie.Need-slice-write-buf Inv-loop μ-loop
-slice-write-buf c = search needs
-
-add-i : tie.Need-add-i Inv-loop μ-loop
-add-i c = search needs
-
-add-at : tie.Need-add-at Inv-loop μ-loop
-add-at c = search needs
-
-loop-less : tie.Need-loop-less Inv-loop μ-loop
-loop-less c = search needs
-
 loop-again : tie.Need-loop-again Inv-loop μ-loop
 loop-again c = let l = c .before .before .loop in (omega (arith, l .inv .0), search needs, l .inv .2, search needs, moved-more (l .inv .4) (l .inv .0) (search needs), l .inv .5)
-
-same-length : tie.Need-same-length Inv-loop μ-loop
-same-length c = search needs
 
 returns : tie.Need-returns Inv-loop μ-loop
 returns c = let l = c .before .loop in moves-front (l .inv .4) (omega (arith, l .inv .0, l .inv .1, c .loop-test .left)) (l .inv .2) (l .inv .5) (l .inv .3)
 
 pub move-front-spec : {M : Type 1} → statement M
-move-front-spec =
-    tie.close
-    (tie.spec
-    Inv-loop
-    μ-loop
-    loop-holds
-    slice-read-buf
-    slice-write-buf
-    add-i
-    add-at
-    loop-less
-    loop-again
-    same-length
-    returns)
+move-front-spec = tie.close (tie.spec Inv-loop μ-loop (λ c. (omega arith, c .pre .1, c .pre .2, c .pre .0, moved-start _ _, c .pre .0))
+    (λ c. search needs) (λ c. search needs) (λ c. search needs) (λ c. search needs) (λ c. search needs) loop-again (λ c. search needs) returns)

@@ -20,9 +20,6 @@ make-last-requires c κs =
     let few = parts-few (b .pre .0 .1) in
     (parts-fine (b .pre .0 .1) (b .pre .1 .0), omega (arith, few), b .pre .0 .0)
 
-slice-reshare-prefix-put-records : tie.Need-slice-reshare-prefix-put-records
-slice-reshare-prefix-put-records c = search needs
-
 slice-aggregate-put-records : tie.Need-slice-aggregate-put-records
 slice-aggregate-put-records c =
     let b = c .before .before .before .before .before .before .before .before .before .before .before .before .before in
@@ -33,20 +30,9 @@ put-records-requires c κs =
     let b = c .before .before .before .before .before .before .before .before .before .before .before .before .before in
     parts-part (b .pre .0 .1) (b .pre .1 .0) (lastLine (take (b .args .t .kept) (b .args .buf .now))) (b .pre .0 .0) (c .before .before .before .before .make-last .ensures .records)
 
-same-length : tie.Need-same-length
-same-length c = search needs
-
 returns : tie.Need-returns
 returns c = let b = c .before .before .before .before .before .before .before .before .before .before .before .before .before .before in rest-last (b .pre .0 .1) (b .pre .1 .0) (c .before .before .before .before .before .make-last .ensures) (b .pre .0 .0) (c .put-records .ensures)
 
 pub take-last-spec : {M : Type 1} → statement M
-take-last-spec =
-    tie.close
-    (tie.spec
-    slice-aggregate-make-last
-    make-last-requires
-    slice-reshare-prefix-put-records
-    slice-aggregate-put-records
-    put-records-requires
-    same-length
-    returns)
+take-last-spec = tie.close (tie.spec slice-aggregate-make-last make-last-requires (λ c. search needs) slice-aggregate-put-records put-records-requires
+    (λ c. search needs) returns)

@@ -9,15 +9,6 @@ use Rattle.programs.proofs.intake.take_part.Tie as tie
 read-on-requires : tie.Need-read-on-requires
 read-on-requires c κs = let p = c .before .before .before .before .before .before .before .before .pre in (part-readable (p .1) (p .2), p .1 .buffer, p .1 .kept)
 
-count-requires : tie.Need-count-requires
-count-requires c κs = search needs
-
-add-n : tie.Need-add-n
-add-n c = search needs
-
-slice-reshare-prefix-make-records : tie.Need-slice-reshare-prefix-make-records
-slice-reshare-prefix-make-records c = search needs
-
 slice-aggregate-make-records : tie.Need-slice-aggregate-make-records
 slice-aggregate-make-records c = let p = c .before .before .before .before .before .before .before .before .before .before .before .before .before .pre in sym (part-size (p .1) (p .2) (c .before .before .before .before .read-on .ensures) (c .before .count .ensures))
 
@@ -31,9 +22,6 @@ make-records-requires c κs =
       omega (arith, size, c .before .before .before .before .before .read-on .ensures .fits, c .before .before .count .ensures),
       p .0,
     )
-
-slice-reshare-prefix-put-records : tie.Need-slice-reshare-prefix-put-records
-slice-reshare-prefix-put-records c = search needs
 
 slice-aggregate-put-records : tie.Need-slice-aggregate-put-records
 slice-aggregate-put-records c =
@@ -59,12 +47,6 @@ sub-t20 c =
     let p = c .before .before .before .before .before .before .before .before .before .before .before .before .before .before .before .before .before .before .before .before .before .before .before .before .pre in
     part-rest (p .1) (p .2) (c .before .before .before .before .before .before .before .before .before .before .before .before .before .before .before .read-on .ensures) (c .before .before .before .before .before .before .before .before .before .before .before .before .count .ensures) (c .before .before .before .before .before .before .before .before .before .make-records .ensures) (p .0)
 
-same-length : tie.Need-same-length
-same-length c = search needs
-
-same-length-2 : tie.Need-same-length-2
-same-length-2 c = search needs
-
 returns : tie.Need-returns
 returns c =
     let p = c .before .before .before .before .before .before .before .before .before .before .before .before .before .before .before .before .before .before .before .before .before .before .before .before .pre in (
@@ -74,20 +56,6 @@ returns c =
     )
 
 pub take-part-spec : {M : Type 1} → statement M
-take-part-spec =
-    tie.close
-    (tie.spec
-    read-on-requires
-    count-requires
-    add-n
-    slice-reshare-prefix-make-records
-    slice-aggregate-make-records
-    make-records-requires
-    slice-reshare-prefix-put-records
-    slice-aggregate-put-records
-    put-records-requires
-    move-front-requires
-    sub-t20
-    same-length
-    same-length-2
-    returns)
+take-part-spec = tie.close (tie.spec read-on-requires (λ c κs. search needs) (λ c. search needs) (λ c. search needs) slice-aggregate-make-records
+    make-records-requires (λ c. search needs) slice-aggregate-put-records put-records-requires move-front-requires sub-t20 (λ c. search needs)
+    (λ c. search needs) returns)

@@ -19,31 +19,10 @@ Inv-loop buf₀ records₀ write file out t₀ i₀ buf records t i =
 abbrev μ-loop : tie.MeasureT-loop
 μ-loop buf₀ records₀ write file out t₀ i₀ buf records t i = 2 ^ 42 - i
 
-loop-holds : tie.Need-loop-holds Inv-loop μ-loop
-loop-holds c = let p = c .before .before .before .before .pre in (omega arith, p .0, p .1, p .1 .buffer, p .0)
-
-is-open-requires : tie.Need-is-open-requires Inv-loop μ-loop
-is-open-requires c κs = search needs
-
-same-length : tie.Need-same-length Inv-loop μ-loop
-same-length c = let l = c .before .before .before .loop .inv in omega (arith, l .2 .buffer, l .3)
-
-same-length-2 : tie.Need-same-length-2 Inv-loop μ-loop
-same-length-2 c = let l = c .before .before .before .loop .inv in omega (arith, l .1, l .4)
-
-returns : tie.Need-returns Inv-loop μ-loop
-returns c = let l = c .before .before .before .loop .inv in (l .1, parts-ready (l .2) (l .0))
-
 take-part-requires : tie.Need-take-part-requires Inv-loop μ-loop
 take-part-requires c κs =
     let l = c .before .before .before .before .before .loop .inv in
     (l .1, parts-ready (l .2) (l .0), denied-no (c .before .before .before .is-open .ensures) (search needs))
-
-add-i : tie.Need-add-i Inv-loop μ-loop
-add-i c = search needs
-
-loop-less : tie.Need-loop-less Inv-loop μ-loop
-loop-less c = search needs
 
 loop-again : tie.Need-loop-again Inv-loop μ-loop
 loop-again c =
@@ -51,30 +30,11 @@ loop-again c =
     let x = c .before .before .before .before .take-part .ensures in
     (search needs, x .0, parts-more (l .2) (l .0) (denied-no (c .before .before .before .before .before .before .before .before .is-open .ensures) (search needs)) (x .1), l .3, l .4)
 
-same-length-3 : tie.Need-same-length-3 Inv-loop μ-loop
-same-length-3 c = let l = c .before .loop .inv in omega (arith, l .2 .buffer, l .3)
-
-same-length-4 : tie.Need-same-length-4 Inv-loop μ-loop
-same-length-4 c = let l = c .before .loop .inv in omega (arith, l .1, l .4)
-
-returns-2 : tie.Need-returns-2 Inv-loop μ-loop
-returns-2 c = let l = c .before .loop .inv in (l .1, parts-ready (l .2) (l .0))
-
 pub take-parts-spec : {M : Type 1} → statement M
-take-parts-spec =
-    tie.close
-    (tie.spec
-    Inv-loop
-    μ-loop
-    loop-holds
-    is-open-requires
-    same-length
-    same-length-2
-    returns
-    take-part-requires
-    add-i
-    loop-less
-    loop-again
-    same-length-3
-    same-length-4
-    returns-2)
+take-parts-spec = tie.close (tie.spec Inv-loop μ-loop
+    (λ c. let p = c .before .before .before .before .pre in (omega arith, p .0, p .1, p .1 .buffer, p .0)) (λ c κs. search needs)
+    (λ c. let l = c .before .before .before .loop .inv in omega (arith, l .2 .buffer, l .3))
+    (λ c. let l = c .before .before .before .loop .inv in omega (arith, l .1, l .4))
+    (λ c. let l = c .before .before .before .loop .inv in (l .1, parts-ready (l .2) (l .0))) take-part-requires (λ c. search needs)
+    (λ c. search needs) loop-again (λ c. let l = c .before .loop .inv in omega (arith, l .2 .buffer, l .3))
+    (λ c. let l = c .before .loop .inv in omega (arith, l .1, l .4)) (λ c. let l = c .before .loop .inv in (l .1, parts-ready (l .2) (l .0))))

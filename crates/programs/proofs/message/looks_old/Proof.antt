@@ -4,11 +4,5 @@ use borrow.Author.Tests.{ne-eqb}
 use Rattle.programs.proofs.message.looks_old.Statement.{statement}
 use Rattle.programs.proofs.message.looks_old.Tie as tie
 
-returns : tie.Need-returns
-returns c = rw (ne-eqb (c .before .args .bytes % 139) 0 (c .if1 .taken))
-
-returns-2 : tie.Need-returns-2
-returns-2 c = let h = c .if1 .left in rw h
-
 pub looks-old-spec : {M : Type 1} → statement M
-looks-old-spec = tie.close (tie.spec returns returns-2)
+looks-old-spec = tie.close (tie.spec (λ c. rw (ne-eqb (c .before .args .bytes % 139) 0 (c .if1 .taken))) (λ c. let h = c .if1 .left in rw h))

@@ -9,28 +9,16 @@ use Rattle.programs.proofs.Batches.{front-text}
 use Rattle.programs.proofs.seek.keep_slot.Statement.{statement}
 use Rattle.programs.proofs.seek.keep_slot.Tie as tie
 
-record-count-requires : tie.Need-record-count-requires
-record-count-requires c κs = search needs
-
 returns : tie.Need-returns
 returns c =
     let b1 = c .before in
     let b4 = b1 .before .before .before in
     (slot-none (b4 .args .batch .now) (b4 .args .k) (omega (arith, b1 .record-count .ensures)), omega arith)
 
-mul-record-from : tie.Need-mul-record-from
-mul-record-from c = search needs
-
-record-from-requires : tie.Need-record-from-requires
-record-from-requires c κs = search needs
-
 put-bytes-requires : tie.Need-put-bytes-requires
 put-bytes-requires c κs =
     let b6 = c .before .before .before .before .before .before in
     omega (arith, ap length (c .record-from .ensures .bytes), slot-short (b6 .args .batch .now) (b6 .args .k), b6 .pre .1)
-
-same-length : tie.Need-same-length
-same-length c = search needs
 
 returns-2 : tie.Need-returns-2
 returns-2 c =
@@ -39,13 +27,5 @@ returns-2 c =
     (front-text (b2 .put-bytes .ensures) ∙ b3 .record-from .ensures .bytes, writes-fits (b2 .put-bytes .ensures))
 
 pub keep-slot-spec : {M : Type 1} → statement M
-keep-slot-spec =
-    tie.close
-    (tie.spec
-    record-count-requires
-    returns
-    mul-record-from
-    record-from-requires
-    put-bytes-requires
-    same-length
+keep-slot-spec = tie.close (tie.spec (λ c κs. search needs) returns (λ c. search needs) (λ c κs. search needs) put-bytes-requires (λ c. search needs)
     returns-2)

@@ -15,12 +15,6 @@ Inv-loop text v₀ i₀ v i = (i ≤ length text) × (v ≤ 10 * mostBefore + 9)
 abbrev μ-loop : tie.MeasureT-loop
 μ-loop text v₀ i₀ v i = length text - i
 
-loop-holds : tie.Need-loop-holds Inv-loop μ-loop
-loop-holds c = (omega arith, omega arith, refl)
-
-shared-slice-read-b : tie.Need-shared-slice-read-b Inv-loop μ-loop
-shared-slice-read-b c = search needs
-
 returns : tie.Need-returns Inv-loop μ-loop
 returns c =
     let b2 = c .before .before in
@@ -45,21 +39,6 @@ returns-3 c =
       omega arith,
     )
 
-mul-v : tie.Need-mul-v Inv-loop μ-loop
-mul-v c = search needs
-
-cast-v : tie.Need-cast-v Inv-loop μ-loop
-cast-v c = omega (arith, c .before .before .before .shared-slice-known .given (c .before .before .before .before .before .loop .i))
-
-add-v : tie.Need-add-v Inv-loop μ-loop
-add-v c = search needs
-
-add-i : tie.Need-add-i Inv-loop μ-loop
-add-i c = search needs
-
-loop-less : tie.Need-loop-less Inv-loop μ-loop
-loop-less c = search needs
-
 loop-again : tie.Need-loop-again Inv-loop μ-loop
 loop-again c =
     let b4 = c .before .before .before .before in
@@ -78,20 +57,7 @@ returns-4 c =
     (number-all (b2 .args .text .now) (b1 .loop .v) (b1 .loop .i) (b1 .loop .inv .2) (omega arith), b1 .loop .inv .1)
 
 pub number-in-spec : {M : Type 1} → statement M
-number-in-spec =
-    tie.close
-    (tie.spec
-    Inv-loop
-    μ-loop
-    loop-holds
-    shared-slice-read-b
-    returns
-    returns-2
-    returns-3
-    mul-v
-    cast-v
-    add-v
-    add-i
-    loop-less
-    loop-again
-    returns-4)
+number-in-spec = tie.close (tie.spec Inv-loop μ-loop (λ c. (omega arith, omega arith, refl)) (λ c. search needs) returns returns-2 returns-3
+    (λ c. search needs)
+    (λ c. omega (arith, c .before .before .before .shared-slice-known .given (c .before .before .before .before .before .loop .i)))
+    (λ c. search needs) (λ c. search needs) (λ c. search needs) loop-again returns-4)

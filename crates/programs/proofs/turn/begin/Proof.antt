@@ -6,12 +6,6 @@ use Rattle.programs.specs.declared.output.Output.{Output}
 use Rattle.programs.proofs.turn.begin.Statement.{statement}
 use Rattle.programs.proofs.turn.begin.Tie as tie
 
-input-of-requires : tie.Need-input-of-requires
-input-of-requires c κs = search needs
-
-output-of-requires : tie.Need-output-of-requires
-output-of-requires c κs = search needs
-
 returns : tie.Need-returns
 returns c =
     let i = c .before .input-of .ensures in
@@ -26,4 +20,4 @@ returns c =
     }
 
 pub begin-spec : {M : Type 1} → statement M
-begin-spec = tie.close (tie.spec input-of-requires output-of-requires returns)
+begin-spec = tie.close (tie.spec (λ c κs. search needs) (λ c κs. search needs) returns)

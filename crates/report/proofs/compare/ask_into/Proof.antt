@@ -26,5 +26,4 @@ returns-3 c =
     into-no (a .controller .now) (a .i) (a .cupboard .now) (a .j) (a .m) _ (v .ask-numbers .ensures) _ (told .q .given .1)
 
 pub ask-into-spec : {M : Type 1} → statement M
-ask-into-spec =
-    tie.close (tie.spec (λ c κs. search needs) (λ c. search needs) (λ c. search needs) returns returns-2 returns-3)
+ask-into-spec = tie.close (tie.spec (λ c κs. search needs) (λ c. search needs) (λ c. search needs) returns returns-2 returns-3)

@@ -4,15 +4,6 @@ use Rattle.report.proofs.Comparing.{numbers-first, numbers-pass, number
 use Rattle.report.proofs.compare.ask_numbers.Statement.{statement}
 use Rattle.report.proofs.compare.ask_numbers.Tie as tie
 
-returns : tie.Need-returns
-returns c = search (needs, numbers-first)
-
-returns-2 : tie.Need-returns-2
-returns-2 c = search (needs, numbers-pass)
-
-returns-3 : tie.Need-returns-3
-returns-3 c = search (needs, numbers-second)
-
 pub ask-numbers-spec : {M : Type 1} → statement M
-ask-numbers-spec =
-    tie.close (tie.spec (λ c κs. search needs) returns (λ c κs. search needs) returns-2 returns-3)
+ask-numbers-spec = tie.close (tie.spec (λ c κs. search needs) (λ c. search (needs, numbers-first)) (λ c κs. search needs)
+    (λ c. search (needs, numbers-pass)) (λ c. search (needs, numbers-second)))

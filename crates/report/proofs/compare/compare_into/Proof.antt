@@ -30,15 +30,5 @@ returns-2 c =
     (c .refused .ensures)
 
 pub compare-into-spec : {M : Type 1} → statement M
-compare-into-spec =
-    tie.close
-    (tie.spec
-    (λ c κs. search needs)
-    (λ c. search needs)
-    (λ c κs. search needs)
-    put-signs-requires
-    (λ c. search needs)
-    (λ c κs. search needs)
-    (λ c. search needs)
-    returns
-    returns-2)
+compare-into-spec = tie.close (tie.spec (λ c κs. search needs) (λ c. search needs) (λ c κs. search needs) put-signs-requires (λ c. search needs)
+    (λ c κs. search needs) (λ c. search needs) returns returns-2)

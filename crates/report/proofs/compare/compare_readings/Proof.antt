@@ -18,23 +18,7 @@ returns-2 c =
     let a = k .before .before .args in
     shows-second (a .t1) (a .t2) _ (k .a .given .1) _ (l .b2 .given .1) _ (c .refused .ensures)
 
-returns-3 : tie.Need-returns-3
-returns-3 c =
-    let k = c .before .before in
-    let a = k .before .before .args in
-    shows-first (a .t1) (a .t2) _ (k .a2 .given .1) _ (c .refused2 .ensures)
-
 pub compare-readings-spec : {M : Type 1} → statement M
-compare-readings-spec =
-    tie.close
-    (tie.spec
-    (λ c. search needs)
-    (λ c. search needs)
-    (λ c κs. search needs)
-    (λ c. search needs)
-    (λ c κs. search needs)
-    (λ c. search needs)
-    (λ c κs. search needs)
-    returns
-    returns-2
-    returns-3)
+compare-readings-spec = tie.close (tie.spec (λ c. search needs) (λ c. search needs) (λ c κs. search needs) (λ c. search needs) (λ c κs. search needs)
+    (λ c. search needs) (λ c κs. search needs) returns returns-2
+    (λ c. let k = c .before .before in let a = k .before .before .args in shows-first (a .t1) (a .t2) _ (k .a2 .given .1) _ (c .refused2 .ensures)))

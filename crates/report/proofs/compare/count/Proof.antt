@@ -16,9 +16,6 @@ Inv-loop signs s n₀ i₀ n i = (n ≤ i) × (i ≤ length signs) × (n + occur
 abbrev μ-loop : tie.MeasureT-loop
 μ-loop signs s n₀ i₀ n i = length signs - i
 
-loop-holds : tie.Need-loop-holds Inv-loop μ-loop
-loop-holds c = let a = c .args in (omega arith, omega arith, occurs-start (a .s) (a .signs .now))
-
 loop-again : tie.Need-loop-again Inv-loop μ-loop
 loop-again c =
     ⊎-elim
@@ -33,15 +30,5 @@ returns c =
     occurs-end (a .s) (a .signs .now) (l .i) (l .n) (l .inv .2) (c .loop-test .left)
 
 pub count-spec : {M : Type 1} → statement M
-count-spec =
-    tie.close
-    (tie.spec
-    Inv-loop
-    μ-loop
-    loop-holds
-    (λ c. search needs)
-    (λ c. search needs)
-    (λ c. search needs)
-    (λ c. search needs)
-    loop-again
-    returns)
+count-spec = tie.close (tie.spec Inv-loop μ-loop (λ c. let a = c .args in (omega arith, omega arith, occurs-start (a .s) (a .signs .now)))
+    (λ c. search needs) (λ c. search needs) (λ c. search needs) (λ c. search needs) loop-again returns)

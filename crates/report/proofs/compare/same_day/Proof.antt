@@ -5,12 +5,6 @@ use Rattle.report.proofs.Comparing.{same-pump}
 use Rattle.report.proofs.compare.same_day.Statement.{statement}
 use Rattle.report.proofs.compare.same_day.Tie as tie
 
-returns : tie.Need-returns
-returns c = simp (ne-eqb _ _ (c .if1 .taken))
-
-returns-2 : tie.Need-returns-2
-returns-2 c = simp (eq-eqb _ _ (c .before .before .before .if1 .left), ne-eqb _ _ (c .if2 .taken))
-
 returns-3 : tie.Need-returns-3
 returns-3 c =
     let s = c .before .before .before in
@@ -25,18 +19,6 @@ returns-4 c =
     same-pump (a .a .now) (a .b .now) (first .if1 .left) (year .if2 .left) (month .if3 .left)
 
 pub same-day-spec : {M : Type 1} → statement M
-same-day-spec =
-    tie.close
-    (tie.spec
-    (λ c. search needs)
-    (λ c. search needs)
-    returns
-    (λ c. search needs)
-    (λ c. search needs)
-    returns-2
-    (λ c. search needs)
-    (λ c. search needs)
-    returns-3
-    (λ c. search needs)
-    (λ c. search needs)
-    returns-4)
+same-day-spec = tie.close (tie.spec (λ c. search needs) (λ c. search needs) (λ c. simp (ne-eqb _ _ (c .if1 .taken))) (λ c. search needs)
+    (λ c. search needs) (λ c. simp (eq-eqb _ _ (c .before .before .before .if1 .left), ne-eqb _ _ (c .if2 .taken))) (λ c. search needs)
+    (λ c. search needs) returns-3 (λ c. search needs) (λ c. search needs) returns-4)

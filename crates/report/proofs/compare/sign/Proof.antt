@@ -3,14 +3,6 @@ use borrow.Author.Tests.{lt-ltb, le-ltb}
 use Rattle.report.proofs.compare.sign.Statement.{statement}
 use Rattle.report.proofs.compare.sign.Tie as tie
 
-returns : tie.Need-returns
-returns c = simp (lt-ltb _ _ (c .if1 .taken))
-
-returns-2 : tie.Need-returns-2
-returns-2 c = simp (le-ltb _ _ (c .before .if1 .left), lt-ltb _ _ (c .if2 .taken))
-
-returns-3 : tie.Need-returns-3
-returns-3 c = simp (le-ltb _ _ (c .before .if1 .left), le-ltb _ _ (c .if2 .left))
-
 pub sign-spec : {M : Type 1} → statement M
-sign-spec = tie.close (tie.spec returns returns-2 returns-3)
+sign-spec = tie.close (tie.spec (λ c. simp (lt-ltb _ _ (c .if1 .taken))) (λ c. simp (le-ltb _ _ (c .before .if1 .left), lt-ltb _ _ (c .if2 .taken)))
+    (λ c. simp (le-ltb _ _ (c .before .if1 .left), le-ltb _ _ (c .if2 .left))))

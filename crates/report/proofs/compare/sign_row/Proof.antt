@@ -15,12 +15,6 @@ Inv-loop controller cupboard signs₀ i₀ signs i = Filled ℕ 0 quarters Unit 
 abbrev μ-loop : tie.MeasureT-loop
 μ-loop controller cupboard signs₀ i₀ signs i = quarters - i
 
-loop-holds : tie.Need-loop-holds Inv-loop μ-loop
-loop-holds c = filled-start (search needs)
-
-loop-again : tie.Need-loop-again Inv-loop μ-loop
-loop-again c = filled-on (c .before .before .before .before .loop .inv) (c .before .before .before .loop-test .taken) (λ u. c .sign .ensures)
-
 returns : tie.Need-returns Inv-loop μ-loop
 returns c =
     let s = c .before .before .before .before in
@@ -30,17 +24,6 @@ returns c =
     (sheet-signs-at (a .controller .now) (a .cupboard .now) (s .pre .0) (s .pre .1))
 
 pub sign-row-spec : {M : Type 1} → statement M
-sign-row-spec =
-    tie.close
-    (tie.spec
-    Inv-loop
-    μ-loop
-    loop-holds
-    (λ c. search needs)
-    (λ c. search needs)
-    (λ c κs. search needs)
-    (λ c. search needs)
-    (λ c. search needs)
-    (λ c. search needs)
-    loop-again
-    returns)
+sign-row-spec = tie.close (tie.spec Inv-loop μ-loop (λ c. filled-start (search needs)) (λ c. search needs) (λ c. search needs) (λ c κs. search needs)
+    (λ c. search needs) (λ c. search needs) (λ c. search needs)
+    (λ c. filled-on (c .before .before .before .before .loop .inv) (c .before .before .before .loop-test .taken) (λ u. c .sign .ensures)) returns)

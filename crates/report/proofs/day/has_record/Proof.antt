@@ -6,8 +6,6 @@ use Rattle.card.specs.Card.{isNumber}
 use Rattle.report.proofs.day.has_record.Statement.{statement}
 use Rattle.report.proofs.day.has_record.Tie as tie
 
-returns : tie.Need-returns
-returns c = c .is-number .ensures ∙ ap (λ (n : ℕ). isNumber n (c .before .before .before .args .number)) (c .before .record-count .ensures)
-
 pub has-record-spec : {M : Type 1} → statement M
-has-record-spec = tie.close (tie.spec (λ c κs. search needs) (λ c κs. search needs) returns)
+has-record-spec = tie.close (tie.spec (λ c κs. search needs) (λ c κs. search needs)
+    (λ c. c .is-number .ensures ∙ ap (λ (n : ℕ). isNumber n (c .before .before .before .args .number)) (c .before .record-count .ensures)))

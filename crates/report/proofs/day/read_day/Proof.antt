@@ -29,12 +29,4 @@ returns-2 c =
     (told .answer2 .given .1)
 
 pub read-day-spec : {M : Type 1} → statement M
-read-day-spec =
-    tie.close
-    (tie.spec
-    (λ c κs. search needs)
-    (λ c. search needs)
-    read-restored-requires
-    (λ c. search needs)
-    returns
-    returns-2)
+read-day-spec = tie.close (tie.spec (λ c κs. search needs) (λ c. search needs) read-restored-requires (λ c. search needs) returns returns-2)

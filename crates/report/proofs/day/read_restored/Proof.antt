@@ -5,9 +5,6 @@ use Rattle.report.proofs.Days.{word-fits, word-long, restored-read, res
 use Rattle.report.proofs.day.read_restored.Statement.{statement}
 use Rattle.report.proofs.day.read_restored.Tie as tie
 
-shared-slice-read-width : tie.Need-shared-slice-read-width
-shared-slice-read-width c = omega (arith, c .before .before .pre .size)
-
 add-end : tie.Need-add-end
 add-end c =
     let s = c .before .before .before in
@@ -23,9 +20,6 @@ ask-content-requires c κs =
     let n = c .before .word-length in
     let s = c .before .before .before .before in
     word-long (s .args .bytes .now) (s .pre) (n .result) (n .ensures)
-
-part-copy-end : tie.Need-part-copy-end
-part-copy-end c = omega (arith, c .before .before .before .before .before .before .before .before .pre .size)
 
 returns : tie.Need-returns
 returns c =
@@ -44,25 +38,8 @@ returns-2 c =
     (search needs)
 
 pub read-restored-spec : {M : Type 1} → statement M
-read-restored-spec =
-    tie.close
-    (tie.spec
-    shared-slice-read-width
-    (λ c κs. search needs)
-    add-end
-    (λ c. search needs)
-    (λ c. search needs)
-    part-ask-content-end
-    ask-content-requires
-    (λ c. search needs)
-    (λ c. search needs)
-    (λ c. search needs)
-    (λ c. search needs)
-    (λ c. search needs)
-    (λ c. search needs)
-    (λ c. search needs)
-    part-copy-end
-    (λ c κs. search needs)
-    (λ c. search needs)
-    returns
-    returns-2)
+read-restored-spec = tie.close (tie.spec (λ c. omega (arith, c .before .before .pre .size)) (λ c κs. search needs) add-end (λ c. search needs)
+    (λ c. search needs) part-ask-content-end ask-content-requires (λ c. search needs) (λ c. search needs) (λ c. search needs) (λ c. search needs)
+    (λ c. search needs) (λ c. search needs) (λ c. search needs)
+    (λ c. omega (arith, c .before .before .before .before .before .before .before .before .pre .size)) (λ c κs. search needs) (λ c. search needs)
+    returns returns-2)

@@ -22,15 +22,6 @@ most s =
     let a = s .before .before .before .args in
     number-high (recordCount (length (a .card .now))) (a .number) (sym (s .before .has-record .ensures) ∙ s .if1 .taken)
 
-sub-record-from : tie.Need-sub-record-from
-sub-record-from c = omega (arith, first c)
-
-mul-record-from : tie.Need-mul-record-from
-mul-record-from c = omega (arith, first c, most c)
-
-record-from-requires : tie.Need-record-from-requires
-record-from-requires c κs = omega (arith, first c, most c)
-
 returns : tie.Need-returns
 returns c =
     let s = c .before .before in
@@ -52,15 +43,5 @@ returns-2 c =
     }
 
 pub slot-spec : {M : Type 1} → statement M
-slot-spec =
-    tie.close
-    (tie.spec
-    (λ c κs. search needs)
-    sub-record-from
-    mul-record-from
-    record-from-requires
-    (λ c. search needs)
-    (λ c. search needs)
-    (λ c. search needs)
-    returns
-    returns-2)
+slot-spec = tie.close (tie.spec (λ c κs. search needs) (λ c. omega (arith, first c)) (λ c. omega (arith, first c, most c))
+    (λ c κs. omega (arith, first c, most c)) (λ c. search needs) (λ c. search needs) (λ c. search needs) returns returns-2)

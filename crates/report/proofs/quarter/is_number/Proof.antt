@@ -9,26 +9,11 @@ use native.Mathlib.Omega.{arith}
 use Rattle.report.proofs.quarter.is_number.Statement.{statement}
 use Rattle.report.proofs.quarter.is_number.Tie as tie
 
-put-decimal-requires : tie.Need-put-decimal-requires
-put-decimal-requires c κs = omega (arith, length-decimal (c .before .before .args .n))
-
-slice-aggregate-same : tie.Need-slice-aggregate-same
-slice-aggregate-same c =
-    let x = c .before .before .put-decimal in
-    sym (length-take-le (x .result) _ (writes-fits (x .ensures)))
-
 returns : tie.Need-returns
 returns c =
     let put = c .before .before .before in
     compared (c .same .result) (put .before .before .before .args .text .now) _ _ (text-taken (put .put-decimal .ensures)) (c .same .ensures)
 
 pub is-number-spec : {M : Type 1} → statement M
-is-number-spec =
-    tie.close
-    (tie.spec
-    (λ c. search needs)
-    put-decimal-requires
-    (λ c. search needs)
-    slice-aggregate-same
-    (λ c κs. search needs)
-    returns)
+is-number-spec = tie.close (tie.spec (λ c. search needs) (λ c κs. omega (arith, length-decimal (c .before .before .args .n))) (λ c. search needs)
+    (λ c. let x = c .before .before .put-decimal in sym (length-take-le (x .result) _ (writes-fits (x .ensures)))) (λ c κs. search needs) returns)

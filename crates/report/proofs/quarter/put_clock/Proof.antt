@@ -15,13 +15,5 @@ returns c =
     simp append-assoc at (writes-on two (third .put-two2 .ensures .0))
 
 pub put-clock-spec : {M : Type 1} → statement M
-put-clock-spec =
-    tie.close
-    (tie.spec
-    (λ c κs. search needs)
-    (λ c. search needs)
-    (λ c κs. search needs)
-    (λ c. search needs)
-    (λ c κs. search needs)
-    (λ c. search needs)
-    returns)
+put-clock-spec = tie.close (tie.spec (λ c κs. search needs) (λ c. search needs) (λ c κs. search needs) (λ c. search needs) (λ c κs. search needs)
+    (λ c. search needs) returns)

@@ -15,9 +15,6 @@ Inv-loop text n₀ n = (n ≤ quarters + 1) × (quarterOf text ≡ quarterBelow 
 abbrev μ-loop : tie.MeasureT-loop
 μ-loop text n₀ n = n
 
-loop-holds : tie.Need-loop-holds Inv-loop μ-loop
-loop-holds c = (omega arith, refl)
-
 returns : tie.Need-returns Inv-loop μ-loop
 returns c =
     let x = c .before .is-quarter in
@@ -39,15 +36,5 @@ returns-2 c =
     sym (c .before .loop .inv .1 ∙ ap (quarterBelow text) all ∙ none text)
 
 pub quarter-spec : {M : Type 1} → statement M
-quarter-spec =
-    tie.close
-    (tie.spec
-    Inv-loop
-    μ-loop
-    loop-holds
-    (λ c. search needs)
-    (λ c κs. search needs)
-    returns
-    (λ c. search needs)
-    loop-again
-    returns-2)
+quarter-spec = tie.close (tie.spec Inv-loop μ-loop (λ c. (omega arith, refl)) (λ c. search needs) (λ c κs. search needs) returns (λ c. search needs)
+    loop-again returns-2)

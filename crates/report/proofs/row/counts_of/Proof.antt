@@ -13,9 +13,6 @@ Inv-loop xs c₀ i₀ c i = Counted xs i c
 abbrev μ-loop : tie.MeasureT-loop
 μ-loop xs c₀ i₀ c i = length xs - i
 
-loop-holds : tie.Need-loop-holds Inv-loop μ-loop
-loop-holds c = counted-start (c .before .args .xs .now)
-
 with-count-requires : tie.Need-with-count-requires Inv-loop μ-loop
 with-count-requires c κs =
     let K = c .before .before .loop .inv in
@@ -28,21 +25,7 @@ loop-again c =
     counted-on (a .xs .now) (l .loop .i) (l .loop .c) (l .loop .inv) (c .before .before .loop-test .taken)
     (omega (arith, c .before .shared-slice-known2 .given (l .loop .i))) _ (c .with-count .ensures)
 
-returns : tie.Need-returns Inv-loop μ-loop
-returns c =
-    let l = c .before in
-    counted-end (l .before .before .args .xs .now) (l .loop .i) (l .loop .c) (l .loop .inv) (c .loop-test .left)
-
 pub counts-of-spec : {M : Type 1} → statement M
-counts-of-spec =
-    tie.close
-    (tie.spec
-    Inv-loop
-    μ-loop
-    loop-holds
-    (λ c. search needs)
-    with-count-requires
-    (λ c. search needs)
-    (λ c. search needs)
-    loop-again
-    returns)
+counts-of-spec = tie.close (tie.spec Inv-loop μ-loop (λ c. counted-start (c .before .args .xs .now)) (λ c. search needs) with-count-requires
+    (λ c. search needs) (λ c. search needs) loop-again
+    (λ c. let l = c .before in counted-end (l .before .before .args .xs .now) (l .loop .i) (l .loop .c) (l .loop .inv) (c .loop-test .left)))

@@ -11,13 +11,5 @@ returns c =
     date-made (y .before .before .before .args .symbols .now) _ _ _ (y .wide .ensures) (m .wide2 .ensures) (c .wide3 .ensures)
 
 pub date-of-spec : {M : Type 1} → statement M
-date-of-spec =
-    tie.close
-    (tie.spec
-    (λ c. search needs)
-    (λ c κs. search needs)
-    (λ c. search needs)
-    (λ c κs. search needs)
-    (λ c. search needs)
-    (λ c κs. search needs)
-    returns)
+date-of-spec = tie.close (tie.spec (λ c. search needs) (λ c κs. search needs) (λ c. search needs) (λ c κs. search needs) (λ c. search needs)
+    (λ c κs. search needs) returns)

@@ -4,11 +4,5 @@ use borrow.Author.Tests.{eq-eqb, ne-eqb}
 use Rattle.report.proofs.row.full_of.Statement.{statement}
 use Rattle.report.proofs.row.full_of.Tie as tie
 
-returns : tie.Need-returns
-returns c = simp (eq-eqb 127 _ (sym (c .if1 .taken)))
-
-returns-2 : tie.Need-returns-2
-returns-2 c = simp (ne-eqb 127 _ (λ e. c .if1 .left (sym e)))
-
 pub full-of-spec : {M : Type 1} → statement M
-full-of-spec = tie.close (tie.spec returns returns-2)
+full-of-spec = tie.close (tie.spec (λ c. simp (eq-eqb 127 _ (sym (c .if1 .taken)))) (λ c. simp (ne-eqb 127 _ (λ e. c .if1 .left (sym e)))))

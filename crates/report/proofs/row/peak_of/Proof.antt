@@ -5,15 +5,6 @@ use Rattle.report.proofs.Counting.{peak-first, peak-higher, peak-lower,
 use Rattle.report.proofs.row.peak_of.Statement.{statement}
 use Rattle.report.proofs.row.peak_of.Tie as tie
 
-returns : tie.Need-returns
-returns c = let a = c .before .args in peak-first (a .sheets) (a .old) (a .new) (c .if1 .taken)
-
-returns-2 : tie.Need-returns-2
-returns-2 c =
-    let s = c .before .before .before in
-    let a = s .before .args in
-    peak-higher (a .sheets) (a .old) (a .new) (s .if1 .left) (c .if2 .taken)
-
 returns-3 : tie.Need-returns-3
 returns-3 c =
     let s = c .before .before .before .before .before .before in
@@ -41,5 +32,6 @@ returns-5 c =
     (f .is-earlier .ensures) (c .if4 .left)
 
 pub peak-of-spec : {M : Type 1} → statement M
-peak-of-spec =
-    tie.close (tie.spec returns returns-2 returns-3 (λ c κs. search needs) returns-4 returns-5)
+peak-of-spec = tie.close (tie.spec (λ c. let a = c .before .args in peak-first (a .sheets) (a .old) (a .new) (c .if1 .taken))
+    (λ c. let s = c .before .before .before in let a = s .before .args in peak-higher (a .sheets) (a .old) (a .new) (s .if1 .left) (c .if2 .taken))
+    returns-3 (λ c κs. search needs) returns-4 returns-5)

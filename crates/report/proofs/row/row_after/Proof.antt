@@ -4,11 +4,7 @@ use Rattle.report.proofs.Counting.{row-made}
 use Rattle.report.proofs.row.row_after.Statement.{statement}
 use Rattle.report.proofs.row.row_after.Tie as tie
 
-returns : tie.Need-returns
-returns c =
-    let a = c .before .before .before .before .before .before .before .args in
-    row-made (a .row) (a .c) (a .date) _ (c .peak-of .ensures)
-
 pub row-after-spec : {M : Type 1} → statement M
-row-after-spec =
-    tie.close (tie.spec (λ c. search needs) (λ c. search needs) (λ c. search needs) (λ c κs. search needs) (λ c. search needs) (λ c. search needs) returns)
+row-after-spec = tie.close (tie.spec (λ c. search needs) (λ c. search needs) (λ c. search needs) (λ c κs. search needs) (λ c. search needs)
+    (λ c. search needs)
+    (λ c. let a = c .before .before .before .before .before .before .before .args in row-made (a .row) (a .c) (a .date) _ (c .peak-of .ensures)))

@@ -7,9 +7,6 @@ use Rattle.report.proofs.Counting.{one-most, counts-made}
 use Rattle.report.proofs.row.with_count.Statement.{statement}
 use Rattle.report.proofs.row.with_count.Tie as tie
 
-add-t4 : tie.Need-add-t4
-add-t4 c = omega (arith, c .before .before .pre .0, c .before .wide .ensures, c .before .before .fits .x)
-
 add-t6 : tie.Need-add-t6
 add-t6 c =
     let f = c .before in
@@ -24,5 +21,6 @@ returns c =
     counts-made (a .c) (a .x) _ _ _ (n .wide .ensures) (f .full-of .ensures) (c .higher .ensures)
 
 pub with-count-spec : {M : Type 1} → statement M
-with-count-spec =
-    tie.close (tie.spec (λ c κs. search needs) add-t4 (λ c κs. search needs) add-t6 (λ c κs. search needs) returns)
+with-count-spec = tie.close (tie.spec (λ c κs. search needs)
+    (λ c. omega (arith, c .before .before .pre .0, c .before .wide .ensures, c .before .before .fits .x)) (λ c κs. search needs) add-t6
+    (λ c κs. search needs) returns)

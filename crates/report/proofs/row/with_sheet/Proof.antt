@@ -5,16 +5,6 @@ use Rattle.report.proofs.Counting.{window-first, window-end, counts-lon
 use Rattle.report.proofs.row.with_sheet.Statement.{statement}
 use Rattle.report.proofs.row.with_sheet.Tie as tie
 
-sub-counts-of : tie.Need-sub-counts-of
-sub-counts-of c =
-    let s = c .before .before .before in
-    omega (arith, window-first (s .args .w) (s .pre .0) (s .args .symbols .now) (s .pre .1))
-
-part-counts-of-start : tie.Need-part-counts-of-start
-part-counts-of-start c =
-    let s = c .before .before .before in
-    omega (arith, window-first (s .args .w) (s .pre .0) (s .args .symbols .now) (s .pre .1))
-
 part-counts-of-end : tie.Need-part-counts-of-end
 part-counts-of-end c =
     let s = c .before .before .before in
@@ -29,9 +19,6 @@ counts-of-requires c κs =
       counts-long (a .w) (s .pre .0) (a .symbols .now) (s .pre .1),
       window-end (a .w) (s .pre .0) (a .symbols .now) (s .pre .1),
     )
-
-date-of-requires : tie.Need-date-of-requires
-date-of-requires c κs = c .before .before .before .before .before .pre .1 .size
 
 row-after-requires : tie.Need-row-after-requires
 row-after-requires c κs =
@@ -49,15 +36,7 @@ returns c =
     (c .row-after .ensures)
 
 pub with-sheet-spec : {M : Type 1} → statement M
-with-sheet-spec =
-    tie.close
-    (tie.spec
-    (λ c. search needs)
-    (λ c. search needs)
-    sub-counts-of
-    part-counts-of-start
-    part-counts-of-end
-    counts-of-requires
-    date-of-requires
-    row-after-requires
-    returns)
+with-sheet-spec = tie.close (tie.spec (λ c. search needs) (λ c. search needs)
+    (λ c. let s = c .before .before .before in omega (arith, window-first (s .args .w) (s .pre .0) (s .args .symbols .now) (s .pre .1)))
+    (λ c. let s = c .before .before .before in omega (arith, window-first (s .args .w) (s .pre .0) (s .args .symbols .now) (s .pre .1)))
+    part-counts-of-end counts-of-requires (λ c κs. c .before .before .before .before .before .pre .1 .size) row-after-requires returns)

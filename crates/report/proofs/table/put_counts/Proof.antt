@@ -21,13 +21,5 @@ returns c =
     (simp append-assoc at (writes-on four (fifth .put-field5 .ensures .0)), omega arith)
 
 pub put-counts-spec : {M : Type 1} → statement M
-put-counts-spec =
-    tie.close
-    (tie.spec
-    (λ c κs. search needs)
-    (λ c κs. search needs)
-    (λ c κs. search needs)
-    (λ c κs. search needs)
-    (λ c κs. search needs)
-    (λ c. search needs)
-    returns)
+put-counts-spec = tie.close (tie.spec (λ c κs. search needs) (λ c κs. search needs) (λ c κs. search needs) (λ c κs. search needs)
+    (λ c κs. search needs) (λ c. search needs) returns)

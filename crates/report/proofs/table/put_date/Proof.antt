@@ -19,14 +19,5 @@ returns c =
     (simp append-assoc at (writes-on three (fourth .put-two2 .ensures .0)), omega arith)
 
 pub put-date-spec : {M : Type 1} → statement M
-put-date-spec =
-    tie.close
-    (tie.spec
-    (λ c. search needs)
-    (λ c κs. search needs)
-    (λ c κs. search needs)
-    (λ c. search needs)
-    (λ c κs. search needs)
-    (λ c κs. search needs)
-    (λ c. search needs)
-    returns)
+put-date-spec = tie.close (tie.spec (λ c. search needs) (λ c κs. search needs) (λ c κs. search needs) (λ c. search needs) (λ c κs. search needs)
+    (λ c κs. search needs) (λ c. search needs) returns)

@@ -35,17 +35,5 @@ returns-2 c =
     rw (pump-line report (s .args .p) (x .result) row (ne-eqb _ 0 (told .if1 .left))) (c .before .before .put-line .ensures)
 
 pub put-pump-spec : {M : Type 1} → statement M
-put-pump-spec =
-    tie.close
-    (tie.spec
-    (λ c. search needs)
-    (λ c. search needs)
-    (λ c. search needs)
-    (λ c. search needs)
-    (λ c. search needs)
-    (λ c. search needs)
-    (λ c κs. search needs)
-    returns
-    put-line-requires
-    (λ c. search needs)
-    returns-2)
+put-pump-spec = tie.close (tie.spec (λ c. search needs) (λ c. search needs) (λ c. search needs) (λ c. search needs) (λ c. search needs)
+    (λ c. search needs) (λ c κs. search needs) returns put-line-requires (λ c. search needs) returns-2)

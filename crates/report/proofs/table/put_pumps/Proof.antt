@@ -17,9 +17,6 @@ Inv-loop out₀ at report next₀ p₀ out next p = (p ≤ pumps) × (length out
 abbrev μ-loop : tie.MeasureT-loop
 μ-loop out₀ at report next₀ p₀ out next p = pumps - p
 
-loop-holds : tie.Need-loop-holds Inv-loop μ-loop
-loop-holds c = (omega arith, refl, lines-none _ _ _ (omega arith))
-
 put-pump-requires : tie.Need-put-pump-requires Inv-loop μ-loop
 put-pump-requires c κs =
     let turn = c .before .before in
@@ -32,21 +29,7 @@ loop-again c =
     let report = turn .before .before .before .args .report .now in
     (omega arith, omega arith, lines-more report (turn .loop .p) (turn .loop .inv .2) (c .before .before .put-pump .ensures))
 
-returns : tie.Need-returns Inv-loop μ-loop
-returns c =
-    let all : c .before .loop .p ≡ pumps = omega arith in
-    rw all at (c .before .loop .inv .2)
-
 pub put-pumps-spec : {M : Type 1} → statement M
-put-pumps-spec =
-    tie.close
-    (tie.spec
-    Inv-loop
-    μ-loop
-    loop-holds
-    put-pump-requires
-    (λ c. search needs)
-    (λ c. search needs)
-    loop-again
-    (λ c. search needs)
-    returns)
+put-pumps-spec = tie.close (tie.spec Inv-loop μ-loop (λ c. (omega arith, refl, lines-none _ _ _ (omega arith))) put-pump-requires (λ c. search needs)
+    (λ c. search needs) loop-again (λ c. search needs)
+    (λ c. let all : c .before .loop .p ≡ pumps = omega arith in rw all at (c .before .loop .inv .2)))

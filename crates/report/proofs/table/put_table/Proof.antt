@@ -26,12 +26,4 @@ returns c =
     simp append-assoc at (writes-on two (third .put-last .ensures))
 
 pub put-table-spec : {M : Type 1} → statement M
-put-table-spec =
-    tie.close
-    (tie.spec
-    (λ c. search needs)
-    (λ c κs. search needs)
-    (λ c κs. search needs)
-    put-last-requires
-    (λ c. search needs)
-    returns)
+put-table-spec = tie.close (tie.spec (λ c. search needs) (λ c κs. search needs) (λ c κs. search needs) put-last-requires (λ c. search needs) returns)

@@ -11,9 +11,6 @@ put-decimal-requires c κs =
     let told = c .before .before .before .before .before .before in
     omega (arith, length-one (told .before .before .args .n) (told .if1 .taken))
 
-put-decimal-requires-2 : tie.Need-put-decimal-requires-2
-put-decimal-requires-2 c κs = omega (arith, length-decimal (c .before .before .before .args .n))
-
 returns : tie.Need-returns
 returns c =
     let second = c .before .before in
@@ -29,14 +26,5 @@ returns-2 c =
     (rw (two-more n (omega arith)) (c .before .before .put-decimal2 .ensures), omega (arith, length-decimal n))
 
 pub put-two-spec : {M : Type 1} → statement M
-put-two-spec =
-    tie.close
-    (tie.spec
-    (λ c. search needs)
-    (λ c κs. search needs)
-    put-decimal-requires
-    put-decimal-requires-2
-    (λ c. search needs)
-    returns
-    (λ c. search needs)
-    returns-2)
+put-two-spec = tie.close (tie.spec (λ c. search needs) (λ c κs. search needs) put-decimal-requires
+    (λ c κs. omega (arith, length-decimal (c .before .before .before .args .n))) (λ c. search needs) returns (λ c. search needs) returns-2)

@@ -19,9 +19,6 @@ Inv-loop part w report₀ n i₀ report i = (i ≤ n) × (length report ≡ leng
 abbrev μ-loop : tie.MeasureT-loop
 μ-loop part w report₀ n i₀ report i = n - i
 
-loop-holds : tie.Need-loop-holds Inv-loop μ-loop
-loop-holds c = let a = c .before .before .before .args in (omega arith, refl, over-none erasureBytes (slotAdded (a .w)) (a .report .now) (a .part .now))
-
 add-slot-requires : tie.Need-add-slot-requires Inv-loop μ-loop
 add-slot-requires c κs =
     let l = c .before .before .before in
@@ -55,18 +52,6 @@ returns c =
     l .loop .inv .2 ∙ ap (slotsAdded (a .w) (a .report .now) (a .part .now)) all
 
 pub add-part-spec : {M : Type 1} → statement M
-add-part-spec =
-    tie.close
-    (tie.spec
-    Inv-loop
-    μ-loop
-    (λ c κs. search needs)
-    loop-holds
-    (λ c. search needs)
-    (λ c κs. search needs)
-    add-slot-requires
-    (λ c. search needs)
-    (λ c. search needs)
-    loop-again
-    (λ c. search needs)
-    returns)
+add-part-spec = tie.close (tie.spec Inv-loop μ-loop (λ c κs. search needs)
+    (λ c. let a = c .before .before .before .args in (omega arith, refl, over-none erasureBytes (slotAdded (a .w)) (a .report .now) (a .part .now)))
+    (λ c. search needs) (λ c κs. search needs) add-slot-requires (λ c. search needs) (λ c. search needs) loop-again (λ c. search needs) returns)

@@ -47,15 +47,5 @@ returns-2 c =
     (sym (told-refused (dayOf (a .slot .now)) (x .read-day .result) (x .read-day .ensures) _ (told .enum-told2 .given .1)))
 
 pub add-record-spec : {M : Type 1} → statement M
-add-record-spec =
-    tie.close
-    (tie.spec
-    (λ c κs. search needs)
-    (λ c. search needs)
-    add-sheet-requires
-    (λ c. search needs)
-    add-one-requires
-    (λ c. search needs)
-    returns
-    (λ c. search needs)
-    returns-2)
+add-record-spec = tie.close (tie.spec (λ c κs. search needs) (λ c. search needs) add-sheet-requires (λ c. search needs) add-one-requires
+    (λ c. search needs) returns (λ c. search needs) returns-2)

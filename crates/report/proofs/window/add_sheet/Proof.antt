@@ -12,32 +12,6 @@ use Rattle.report.proofs.Reports.{pump-small, row-fits, row-most, part-
 use Rattle.report.proofs.window.add_sheet.Statement.{statement}
 use Rattle.report.proofs.window.add_sheet.Tie as tie
 
-shared-slice-read-from : tie.Need-shared-slice-read-from
-shared-slice-read-from c = omega (arith, c .before .before .before .pre .1 .size)
-
-cast-from : tie.Need-cast-from
-cast-from c = omega (arith, c .shared-slice-known2 .given 99)
-
-mul-from : tie.Need-mul-from
-mul-from c =
-    let s = c .before .before .before in
-    omega (arith, pump-small (s .args .symbols .now) (s .pre .1))
-
-add-to : tie.Need-add-to
-add-to c =
-    let s = c .before .before .before in
-    omega (arith, pump-small (s .args .symbols .now) (s .pre .1))
-
-mul-row-of : tie.Need-mul-row-of
-mul-row-of c =
-    let s = c .before .before .before in
-    omega (arith, pump-small (s .args .symbols .now) (s .pre .1))
-
-part-row-of-end : tie.Need-part-row-of-end
-part-row-of-end c =
-    let s = c .before .before .before .before in
-    omega (arith, pump-small (s .args .symbols .now) (s .pre .1), s .pre .2 .size)
-
 row-of-requires : tie.Need-row-of-requires
 row-of-requires c κs =
     let s = c .before .before .before .before .before in
@@ -53,11 +27,6 @@ with-sheet-requires c κs =
       s .pre .1,
       subst (Most (2 ^ 63)) (sym r) (row-most (2 ^ 63) (s .args .report .now) (s .pre .2) p (pump-small (s .args .symbols .now) (s .pre .1))),
     )
-
-mul-put-row : tie.Need-mul-put-row
-mul-put-row c =
-    let s = c .before .before .before .before .before .before .before in
-    omega (arith, pump-small (s .args .symbols .now) (s .pre .1))
 
 part-put-row-end : tie.Need-part-put-row-end
 part-put-row-end c =
@@ -83,23 +52,12 @@ returns c =
     ∙ ap (λ (y : Row). rowWith (a .w) y (a .symbols .now)) (row-read (a .report .now) p (r .row-of .result) (r .row-of .ensures)))
 
 pub add-sheet-spec : {M : Type 1} → statement M
-add-sheet-spec =
-    tie.close
-    (tie.spec
-    shared-slice-read-from
-    cast-from
-    mul-from
-    add-to
-    mul-row-of
-    (λ c. search needs)
-    (λ c. search needs)
-    part-row-of-end
-    row-of-requires
+add-sheet-spec = tie.close (tie.spec (λ c. omega (arith, c .before .before .before .pre .1 .size))
+    (λ c. omega (arith, c .shared-slice-known2 .given 99))
+    (λ c. let s = c .before .before .before in omega (arith, pump-small (s .args .symbols .now) (s .pre .1)))
+    (λ c. let s = c .before .before .before in omega (arith, pump-small (s .args .symbols .now) (s .pre .1)))
+    (λ c. let s = c .before .before .before in omega (arith, pump-small (s .args .symbols .now) (s .pre .1))) (λ c. search needs) (λ c. search needs)
+    (λ c. let s = c .before .before .before .before in omega (arith, pump-small (s .args .symbols .now) (s .pre .1), s .pre .2 .size)) row-of-requires
     with-sheet-requires
-    mul-put-row
-    (λ c. search needs)
-    (λ c. search needs)
-    part-put-row-end
-    put-row-requires
-    (λ c. search needs)
-    returns)
+    (λ c. let s = c .before .before .before .before .before .before .before in omega (arith, pump-small (s .args .symbols .now) (s .pre .1)))
+    (λ c. search needs) (λ c. search needs) part-put-row-end put-row-requires (λ c. search needs) returns)

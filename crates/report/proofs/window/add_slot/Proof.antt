@@ -11,9 +11,6 @@ add-one-requires c κs =
     let s = c .before .before .before .before .before in
     (omega (arith, s .pre .1 .size), omega (arith, within-at (2 ^ 63) (s .args .report .now) 1153 (s .pre .1 .within)))
 
-add-record-requires : tie.Need-add-record-requires
-add-record-requires c κs = let s = c .before .before .before .before .before in (s .pre .0, s .pre .1)
-
 returns : tie.Need-returns
 returns c =
     let done = c .before .before in
@@ -31,13 +28,5 @@ returns-2 c =
     slot-record (a .w) (a .report .now) (a .slot .now) (x .result) (x .ensures) (t .if1 .left) _ (done .add-record .ensures)
 
 pub add-slot-spec : {M : Type 1} → statement M
-add-slot-spec =
-    tie.close
-    (tie.spec
-    (λ c κs. search needs)
-    add-one-requires
-    add-record-requires
-    (λ c. search needs)
-    returns
-    (λ c. search needs)
-    returns-2)
+add-slot-spec = tie.close (tie.spec (λ c κs. search needs) add-one-requires
+    (λ c κs. let s = c .before .before .before .before .before in (s .pre .0, s .pre .1)) (λ c. search needs) returns (λ c. search needs) returns-2)

@@ -14,12 +14,6 @@ Inv-loop report₀ i₀ report i = Filled ℕ 0 (length report₀) Unit (λ k. 0
 abbrev μ-loop : tie.MeasureT-loop
 μ-loop report₀ i₀ report i = length report₀ - i
 
-loop-holds : tie.Need-loop-holds Inv-loop μ-loop
-loop-holds c = filled-start refl
-
-loop-again : tie.Need-loop-again Inv-loop μ-loop
-loop-again c = filled-on (c .before .loop .inv) (omega (arith, c .before .loop .inv .long, c .loop-test .taken)) (λ u. refl)
-
 returns : tie.Need-returns Inv-loop μ-loop
 returns c =
     let R = c .before .before .args .report .now in
@@ -27,16 +21,6 @@ returns c =
     (length-replicate (length R) 0) (λ k h. getD-replicate (length R) k 0 0 h)
 
 pub begin-spec : {M : Type 1} → statement M
-begin-spec =
-    tie.close
-    (tie.spec
-    Inv-loop
-    μ-loop
-    loop-holds
-    (λ c. search needs)
-    (λ c. search needs)
-    (λ c. search needs)
-    (λ c. search needs)
-    loop-again
-    (λ c. search needs)
-    returns)
+begin-spec = tie.close (tie.spec Inv-loop μ-loop (λ c. filled-start refl) (λ c. search needs) (λ c. search needs) (λ c. search needs)
+    (λ c. search needs) (λ c. filled-on (c .before .loop .inv) (omega (arith, c .before .loop .inv .long, c .loop-test .taken)) (λ u. refl))
+    (λ c. search needs) returns)

@@ -32,13 +32,5 @@ returns-2 c =
     window-refused (a .w) (a .report .now) (x .result) (x .ensures) _ (told .q .given .1) (a .card .now)
 
 pub window-spec : {M : Type 1} → statement M
-window-spec =
-    tie.close
-    (tie.spec
-    (λ c κs. search needs)
-    (λ c. search needs)
-    write-report-requires
-    (λ c. search needs)
-    (λ c. search needs)
-    returns
+window-spec = tie.close (tie.spec (λ c κs. search needs) (λ c. search needs) write-report-requires (λ c. search needs) (λ c. search needs) returns
     returns-2)

@@ -16,9 +16,6 @@ add-part-requires c κs =
     let a = s .args in
     (s .pre .0, omega (arith, t .if1 .taken), zeros-ready (a .w) (a .card .now) (length (a .report .now)) (s .pre .1) _ (z .begin .ensures) (2 ^ 62))
 
-front-requires : tie.Need-front-requires
-front-requires c κs = omega (arith, c .if1 .left)
-
 add-part-requires-2 : tie.Need-add-part-requires-2
 add-part-requires-2 c κs =
     let f = c .before in
@@ -55,17 +52,5 @@ returns-2 c =
     (added .add-part2 .ensures) (done .finish2 .ensures)
 
 pub write-report-spec : {M : Type 1} → statement M
-write-report-spec =
-    tie.close
-    (tie.spec
-    (λ c κs. search needs)
-    (λ c. search needs)
-    add-part-requires
-    (λ c κs. search needs)
-    front-requires
-    add-part-requires-2
-    (λ c κs. search needs)
-    (λ c. search needs)
-    returns
-    (λ c. search needs)
-    returns-2)
+write-report-spec = tie.close (tie.spec (λ c κs. search needs) (λ c. search needs) add-part-requires (λ c κs. search needs)
+    (λ c κs. omega (arith, c .if1 .left)) add-part-requires-2 (λ c κs. search needs) (λ c. search needs) returns (λ c. search needs) returns-2)

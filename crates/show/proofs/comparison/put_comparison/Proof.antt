@@ -28,13 +28,5 @@ returns c =
     rw (sym same) (c .before .before .put-sheets .ensures)
 
 pub put-comparison-spec : {M : Type 1} → statement M
-put-comparison-spec =
-    tie.close
-    (tie.spec
-    (λ c κs. search needs)
-    (λ c κs. search needs)
-    (λ c κs. search needs)
-    (λ c κs. search needs)
-    put-sheets-requires
-    (λ c. search needs)
-    returns)
+put-comparison-spec = tie.close (tie.spec (λ c κs. search needs) (λ c κs. search needs) (λ c κs. search needs) (λ c κs. search needs)
+    put-sheets-requires (λ c. search needs) returns)

@@ -6,30 +6,6 @@ use Rattle.show.proofs.Comparing.{quarter-same, quarter-other}
 use Rattle.show.proofs.comparison.put_quarter.Statement.{statement}
 use Rattle.show.proofs.comparison.put_quarter.Tie as tie
 
-returns : tie.Need-returns
-returns c = let a = c .before .before .args in (rw (quarter-same (a .i) (a .a) (a .b) (c .if1 .taken)) (writes-none _ _ (omega arith)), omega arith)
-
-put-clock-requires : tie.Need-put-clock-requires
-put-clock-requires c κs = search needs
-
-slice-aggregate-put-labelled : tie.Need-slice-aggregate-put-labelled
-slice-aggregate-put-labelled c = search needs
-
-put-labelled-requires : tie.Need-put-labelled-requires
-put-labelled-requires c κs = search needs
-
-slice-aggregate-put-labelled-2 : tie.Need-slice-aggregate-put-labelled-2
-slice-aggregate-put-labelled-2 c = search needs
-
-put-labelled-requires-2 : tie.Need-put-labelled-requires-2
-put-labelled-requires-2 c κs = search needs
-
-put-byte-requires : tie.Need-put-byte-requires
-put-byte-requires c κs = search needs
-
-same-length : tie.Need-same-length
-same-length c = search needs
-
 returns-2 : tie.Need-returns-2
 returns-2 c =
     let b2 = c .before .before in
@@ -44,15 +20,7 @@ returns-2 c =
     )
 
 pub put-quarter-spec : {M : Type 1} → statement M
-put-quarter-spec =
-    tie.close
-    (tie.spec
-    returns
-    put-clock-requires
-    slice-aggregate-put-labelled
-    put-labelled-requires
-    slice-aggregate-put-labelled-2
-    put-labelled-requires-2
-    put-byte-requires
-    same-length
-    returns-2)
+put-quarter-spec = tie.close (tie.spec
+    (λ c. let a = c .before .before .args in (rw (quarter-same (a .i) (a .a) (a .b) (c .if1 .taken)) (writes-none _ _ (omega arith)), omega arith))
+    (λ c κs. search needs) (λ c. search needs) (λ c κs. search needs) (λ c. search needs) (λ c κs. search needs) (λ c κs. search needs)
+    (λ c. search needs) returns-2)

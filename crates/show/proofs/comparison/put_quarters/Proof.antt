@@ -20,27 +20,6 @@ Inv-loop out₀ at ss ts next₀ i₀ out next i = (i ≤ quarters) × (length o
 abbrev μ-loop : tie.MeasureT-loop
 μ-loop out₀ at ss ts next₀ i₀ out next i = quarters - i
 
-loop-holds : tie.Need-loop-holds Inv-loop μ-loop
-loop-holds c = (omega arith, refl, texts-none _ _ _ (omega arith), omega arith)
-
-cast-k : tie.Need-cast-k Inv-loop μ-loop
-cast-k c = search needs
-
-shared-slice-read-put-quarter : tie.Need-shared-slice-read-put-quarter Inv-loop μ-loop
-shared-slice-read-put-quarter c = search needs
-
-shared-slice-read-put-quarter-2 : tie.Need-shared-slice-read-put-quarter-2 Inv-loop μ-loop
-shared-slice-read-put-quarter-2 c = search needs
-
-put-quarter-requires : tie.Need-put-quarter-requires Inv-loop μ-loop
-put-quarter-requires c κs = search needs
-
-add-i : tie.Need-add-i Inv-loop μ-loop
-add-i c = search needs
-
-loop-less : tie.Need-loop-less Inv-loop μ-loop
-loop-less c = search needs
-
 loop-again : tie.Need-loop-again Inv-loop μ-loop
 loop-again c =
     let b2 = c .before .before in
@@ -52,25 +31,7 @@ loop-again c =
       omega (arith, b2 .put-quarter .ensures .1),
     )
 
-same-length : tie.Need-same-length Inv-loop μ-loop
-same-length c = search needs
-
-returns : tie.Need-returns Inv-loop μ-loop
-returns c = let all : c .before .loop .i ≡ quarters = omega arith in rw all at (c .before .loop .inv .2)
-
 pub put-quarters-spec : {M : Type 1} → statement M
-put-quarters-spec =
-    tie.close
-    (tie.spec
-    Inv-loop
-    μ-loop
-    loop-holds
-    cast-k
-    shared-slice-read-put-quarter
-    shared-slice-read-put-quarter-2
-    put-quarter-requires
-    add-i
-    loop-less
-    loop-again
-    same-length
-    returns)
+put-quarters-spec = tie.close (tie.spec Inv-loop μ-loop (λ c. (omega arith, refl, texts-none _ _ _ (omega arith), omega arith)) (λ c. search needs)
+    (λ c. search needs) (λ c. search needs) (λ c κs. search needs) (λ c. search needs) (λ c. search needs) loop-again (λ c. search needs)
+    (λ c. let all : c .before .loop .i ≡ quarters = omega arith in rw all at (c .before .loop .inv .2)))

@@ -5,24 +5,6 @@ use Rattle.show.specs.Comparison.{besideText}
 use Rattle.show.proofs.comparison.put_sheets.Statement.{statement}
 use Rattle.show.proofs.comparison.put_sheets.Tie as tie
 
-put-dated-requires : tie.Need-put-dated-requires
-put-dated-requires c κs = search needs
-
-put-starts-requires : tie.Need-put-starts-requires
-put-starts-requires c κs = search needs
-
-put-totals-requires : tie.Need-put-totals-requires
-put-totals-requires c κs = search needs
-
-put-chosen-requires : tie.Need-put-chosen-requires
-put-chosen-requires c κs = search needs
-
-put-quarters-requires : tie.Need-put-quarters-requires
-put-quarters-requires c κs = search needs
-
-same-length : tie.Need-same-length
-same-length c = search needs
-
 returns : tie.Need-returns
 unfolding besideText
 returns c =
@@ -36,13 +18,5 @@ returns c =
     writes-on (b18 .put-dated .ensures .0) four
 
 pub put-sheets-spec : {M : Type 1} → statement M
-put-sheets-spec =
-    tie.close
-    (tie.spec
-    put-dated-requires
-    put-starts-requires
-    put-totals-requires
-    put-chosen-requires
-    put-quarters-requires
-    same-length
-    returns)
+put-sheets-spec = tie.close (tie.spec (λ c κs. search needs) (λ c κs. search needs) (λ c κs. search needs) (λ c κs. search needs)
+    (λ c κs. search needs) (λ c. search needs) returns)

@@ -9,36 +9,6 @@ use Rattle.show.specs.Comparison.{startsLine}
 use Rattle.show.proofs.comparison.put_starts.Statement.{statement}
 use Rattle.show.proofs.comparison.put_starts.Tie as tie
 
-slice-aggregate-starts-sum : tie.Need-slice-aggregate-starts-sum
-slice-aggregate-starts-sum c = sym (length-take-le quarters (c .before .before .before .before .args .ss .now) (omega arith))
-
-starts-sum-requires : tie.Need-starts-sum-requires
-starts-sum-requires c κs = omega (arith, length-take-le quarters (c .before .before .before .before .args .ss .now) (omega arith))
-
-slice-aggregate-starts-sum-2 : tie.Need-slice-aggregate-starts-sum-2
-slice-aggregate-starts-sum-2 c = sym (length-take-le quarters (c .before .before .before .before .before .before .args .ts .now) (omega arith))
-
-starts-sum-requires-2 : tie.Need-starts-sum-requires-2
-starts-sum-requires-2 c κs = omega (arith, length-take-le quarters (c .before .before .before .before .before .before .args .ts .now) (omega arith))
-
-slice-aggregate-put-labelled : tie.Need-slice-aggregate-put-labelled
-slice-aggregate-put-labelled c = search needs
-
-put-labelled-requires : tie.Need-put-labelled-requires
-put-labelled-requires c κs = search needs
-
-slice-aggregate-put-labelled-2 : tie.Need-slice-aggregate-put-labelled-2
-slice-aggregate-put-labelled-2 c = search needs
-
-put-labelled-requires-2 : tie.Need-put-labelled-requires-2
-put-labelled-requires-2 c κs = search needs
-
-put-byte-requires : tie.Need-put-byte-requires
-put-byte-requires c κs = search needs
-
-same-length : tie.Need-same-length
-same-length c = search needs
-
 returns : tie.Need-returns
 unfolding startsLine
 returns c =
@@ -54,17 +24,8 @@ returns c =
     )
 
 pub put-starts-spec : {M : Type 1} → statement M
-put-starts-spec =
-    tie.close
-    (tie.spec
-    slice-aggregate-starts-sum
-    starts-sum-requires
-    slice-aggregate-starts-sum-2
-    starts-sum-requires-2
-    slice-aggregate-put-labelled
-    put-labelled-requires
-    slice-aggregate-put-labelled-2
-    put-labelled-requires-2
-    put-byte-requires
-    same-length
-    returns)
+put-starts-spec = tie.close (tie.spec (λ c. sym (length-take-le quarters (c .before .before .before .before .args .ss .now) (omega arith)))
+    (λ c κs. omega (arith, length-take-le quarters (c .before .before .before .before .args .ss .now) (omega arith)))
+    (λ c. sym (length-take-le quarters (c .before .before .before .before .before .before .args .ts .now) (omega arith)))
+    (λ c κs. omega (arith, length-take-le quarters (c .before .before .before .before .before .before .args .ts .now) (omega arith)))
+    (λ c. search needs) (λ c κs. search needs) (λ c. search needs) (λ c κs. search needs) (λ c κs. search needs) (λ c. search needs) returns)

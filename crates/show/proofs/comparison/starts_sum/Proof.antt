@@ -13,25 +13,10 @@ Inv-loop counts sum₀ i₀ sum i = Summed counts sum i
 abbrev μ-loop : tie.MeasureT-loop
 μ-loop counts sum₀ i₀ sum i = length counts - i
 
-loop-holds : tie.Need-loop-holds Inv-loop μ-loop
-loop-holds c = summed-none _
-
-shared-slice-read-sum : tie.Need-shared-slice-read-sum Inv-loop μ-loop
-shared-slice-read-sum c = search needs
-
-cast-sum : tie.Need-cast-sum Inv-loop μ-loop
-cast-sum c = omega (arith, c .shared-slice-known .given (c .before .before .loop .i))
-
 add-sum : tie.Need-add-sum Inv-loop μ-loop
 add-sum c =
     let l = c .before .before in
     omega (arith, l .loop .inv .small, l .loop .inv .place, l .before .pre, c .shared-slice-known .given (l .loop .i))
-
-add-i : tie.Need-add-i Inv-loop μ-loop
-add-i c = search needs
-
-loop-less : tie.Need-loop-less Inv-loop μ-loop
-loop-less c = search needs
 
 loop-again : tie.Need-loop-again Inv-loop μ-loop
 loop-again c =
@@ -39,20 +24,7 @@ loop-again c =
     summed-on (l .before .args .counts .now) (l .loop .sum) (l .loop .i) (l .loop .inv) (c .before .loop-test .taken)
     (omega (arith, c .shared-slice-known .given (l .loop .i)))
 
-returns : tie.Need-returns Inv-loop μ-loop
-returns c = let l = c .before in summed-all (l .before .args .counts .now) (l .loop .sum) (l .loop .i) (l .loop .inv) (c .loop-test .left)
-
 pub starts-sum-spec : {M : Type 1} → statement M
-starts-sum-spec =
-    tie.close
-    (tie.spec
-    Inv-loop
-    μ-loop
-    loop-holds
-    shared-slice-read-sum
-    cast-sum
-    add-sum
-    add-i
-    loop-less
-    loop-again
-    returns)
+starts-sum-spec = tie.close (tie.spec Inv-loop μ-loop (λ c. summed-none _) (λ c. search needs)
+    (λ c. omega (arith, c .shared-slice-known .given (c .before .before .loop .i))) add-sum (λ c. search needs) (λ c. search needs) loop-again
+    (λ c. let l = c .before in summed-all (l .before .args .counts .now) (l .loop .sum) (l .loop .i) (l .loop .inv) (c .loop-test .left)))

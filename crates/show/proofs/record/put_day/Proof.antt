@@ -9,9 +9,6 @@ use Rattle.show.specs.Look.{dayText}
 use Rattle.show.proofs.record.put_day.Statement.{statement}
 use Rattle.show.proofs.record.put_day.Tie as tie
 
-read-day-requires : tie.Need-read-day-requires
-read-day-requires c κs = search needs
-
 enum-told : tie.Need-enum-told
 enum-told c = search needs
 
@@ -23,12 +20,6 @@ put-sheet-requires c κs =
     let r = b6 .before .before .before .args .bytes .now in
     let day = told-sheet (dayOf r) (x .result) (x .ensures) _ (b4 .enum-told .given .1) in
     (is-sheet r _ (x .result .symbols) day .symbols, omega arith)
-
-enum-told-2 : tie.Need-enum-told-2
-enum-told-2 c = search needs
-
-same-length : tie.Need-same-length
-same-length c = search needs
 
 returns : tie.Need-returns
 returns c =
@@ -50,13 +41,4 @@ returns-2 c =
     (rw (ap dayText (told-refused (dayOf r) (x .result) (x .ensures) _ (c .enum-told2 .given .1))) (writes-none _ _ (omega arith)), omega arith)
 
 pub put-day-spec : {M : Type 1} → statement M
-put-day-spec =
-    tie.close
-    (tie.spec
-    read-day-requires
-    enum-told
-    put-sheet-requires
-    enum-told-2
-    same-length
-    returns
-    returns-2)
+put-day-spec = tie.close (tie.spec (λ c κs. search needs) enum-told put-sheet-requires (λ c. search needs) (λ c. search needs) returns returns-2)

@@ -7,27 +7,6 @@ use Rattle.show.specs.Look.{hourLine}
 use Rattle.show.proofs.record.put_hour.Statement.{statement}
 use Rattle.show.proofs.record.put_hour.Tie as tie
 
-hour-sum-requires : tie.Need-hour-sum-requires
-hour-sum-requires c κs = search needs
-
-slice-aggregate-put-labelled : tie.Need-slice-aggregate-put-labelled
-slice-aggregate-put-labelled c = search needs
-
-put-labelled-requires : tie.Need-put-labelled-requires
-put-labelled-requires c κs = search needs
-
-slice-aggregate-put-labelled-2 : tie.Need-slice-aggregate-put-labelled-2
-slice-aggregate-put-labelled-2 c = search needs
-
-put-labelled-requires-2 : tie.Need-put-labelled-requires-2
-put-labelled-requires-2 c κs = search needs
-
-put-byte-requires : tie.Need-put-byte-requires
-put-byte-requires c κs = search needs
-
-same-length : tie.Need-same-length
-same-length c = search needs
-
 returns : tie.Need-returns
 unfolding hourLine
 returns c =
@@ -41,14 +20,5 @@ returns c =
     )
 
 pub put-hour-spec : {M : Type 1} → statement M
-put-hour-spec =
-    tie.close
-    (tie.spec
-    hour-sum-requires
-    slice-aggregate-put-labelled
-    put-labelled-requires
-    slice-aggregate-put-labelled-2
-    put-labelled-requires-2
-    put-byte-requires
-    same-length
-    returns)
+put-hour-spec = tie.close (tie.spec (λ c κs. search needs) (λ c. search needs) (λ c κs. search needs) (λ c. search needs) (λ c κs. search needs)
+    (λ c κs. search needs) (λ c. search needs) returns)

@@ -20,18 +20,6 @@ Inv-loop out₀ at ss next₀ h₀ out next h =
 abbrev μ-loop : tie.MeasureT-loop
 μ-loop out₀ at ss next₀ h₀ out next h = 24 - h
 
-loop-holds : tie.Need-loop-holds Inv-loop μ-loop
-loop-holds c = (omega arith, refl, texts-none _ _ _ (omega arith), omega arith)
-
-put-hour-requires : tie.Need-put-hour-requires Inv-loop μ-loop
-put-hour-requires c κs = search needs
-
-add-h : tie.Need-add-h Inv-loop μ-loop
-add-h c = search needs
-
-loop-less : tie.Need-loop-less Inv-loop μ-loop
-loop-less c = search needs
-
 loop-again : tie.Need-loop-again Inv-loop μ-loop
 loop-again c =
     let b2 = c .before .before in
@@ -44,22 +32,7 @@ loop-again c =
       omega (arith, b2 .put-hour .ensures .1),
     )
 
-same-length : tie.Need-same-length Inv-loop μ-loop
-same-length c = search needs
-
-returns : tie.Need-returns Inv-loop μ-loop
-returns c = let all : c .before .loop .h ≡ 24 = omega arith in (rw all at (c .before .loop .inv .2), omega (arith, c .before .loop .inv .3))
-
 pub put-hours-spec : {M : Type 1} → statement M
-put-hours-spec =
-    tie.close
-    (tie.spec
-    Inv-loop
-    μ-loop
-    loop-holds
-    put-hour-requires
-    add-h
-    loop-less
-    loop-again
-    same-length
-    returns)
+put-hours-spec = tie.close (tie.spec Inv-loop μ-loop (λ c. (omega arith, refl, texts-none _ _ _ (omega arith), omega arith)) (λ c κs. search needs)
+    (λ c. search needs) (λ c. search needs) loop-again (λ c. search needs)
+    (λ c. let all : c .before .loop .h ≡ 24 = omega arith in (rw all at (c .before .loop .inv .2), omega (arith, c .before .loop .inv .3))))

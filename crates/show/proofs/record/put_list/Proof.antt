@@ -6,30 +6,12 @@ use Rattle.show.proofs.Looking.{listed-none, listed-some}
 use Rattle.show.proofs.record.put_list.Statement.{statement}
 use Rattle.show.proofs.record.put_list.Tie as tie
 
-slice-aggregate-put-bytes : tie.Need-slice-aggregate-put-bytes
-slice-aggregate-put-bytes c = search needs
-
-put-bytes-requires : tie.Need-put-bytes-requires
-put-bytes-requires c κs = search needs
-
-same-length : tie.Need-same-length
-same-length c = search needs
-
 returns : tie.Need-returns
 returns c =
     let b2 = c .before .before in
     let b5 = b2 .before .before .before in
     let b8 = b5 .before .before .before in
     let none = listed-none (b8 .args .xs .now) (b5 .if1 .taken) in (rw none (b2 .put-bytes .ensures), omega (arith, b2 .put-bytes .ensures .behind))
-
-put-numbers-requires : tie.Need-put-numbers-requires
-put-numbers-requires c κs = search needs
-
-put-byte-requires : tie.Need-put-byte-requires
-put-byte-requires c κs = search needs
-
-same-length-2 : tie.Need-same-length-2
-same-length-2 c = search needs
 
 returns-2 : tie.Need-returns-2
 returns-2 c =
@@ -44,14 +26,5 @@ returns-2 c =
     )
 
 pub put-list-spec : {M : Type 1} → statement M
-put-list-spec =
-    tie.close
-    (tie.spec
-    slice-aggregate-put-bytes
-    put-bytes-requires
-    same-length
-    returns
-    put-numbers-requires
-    put-byte-requires
-    same-length-2
-    returns-2)
+put-list-spec = tie.close (tie.spec (λ c. search needs) (λ c κs. search needs) (λ c. search needs) returns (λ c κs. search needs)
+    (λ c κs. search needs) (λ c. search needs) returns-2)

@@ -6,27 +6,6 @@ use Rattle.show.proofs.Looking.{look-blank, look-written}
 use Rattle.show.proofs.record.put_look.Statement.{statement}
 use Rattle.show.proofs.record.put_look.Tie as tie
 
-slice-aggregate-put-labelled : tie.Need-slice-aggregate-put-labelled
-slice-aggregate-put-labelled c = search needs
-
-put-labelled-requires : tie.Need-put-labelled-requires
-put-labelled-requires c κs = search needs
-
-put-byte-requires : tie.Need-put-byte-requires
-put-byte-requires c κs = search needs
-
-is-blank-requires : tie.Need-is-blank-requires
-is-blank-requires c κs = search needs
-
-slice-aggregate-put-bytes : tie.Need-slice-aggregate-put-bytes
-slice-aggregate-put-bytes c = search needs
-
-put-bytes-requires : tie.Need-put-bytes-requires
-put-bytes-requires c κs = search needs
-
-same-length : tie.Need-same-length
-same-length c = search needs
-
 returns : tie.Need-returns
 returns c =
     let b2 = c .before .before in
@@ -39,12 +18,6 @@ returns c =
     let two = writes-on (b13 .put-labelled .ensures .0) (b9 .put-byte .ensures) in
     rw (look-blank (a .n) (a .slot .now) (b6 .is-blank .result) (b6 .is-blank .ensures) (b5 .if1 .taken)) (simp append-assoc at (writes-on
     two (b2 .put-bytes .ensures)))
-
-put-written-requires : tie.Need-put-written-requires
-put-written-requires c κs = search needs
-
-same-length-2 : tie.Need-same-length-2
-same-length-2 c = search needs
 
 returns-2 : tie.Need-returns-2
 returns-2 c =
@@ -60,17 +33,5 @@ returns-2 c =
     two (b2 .put-written .ensures)))
 
 pub put-look-spec : {M : Type 1} → statement M
-put-look-spec =
-    tie.close
-    (tie.spec
-    slice-aggregate-put-labelled
-    put-labelled-requires
-    put-byte-requires
-    is-blank-requires
-    slice-aggregate-put-bytes
-    put-bytes-requires
-    same-length
-    returns
-    put-written-requires
-    same-length-2
-    returns-2)
+put-look-spec = tie.close (tie.spec (λ c. search needs) (λ c κs. search needs) (λ c κs. search needs) (λ c κs. search needs) (λ c. search needs)
+    (λ c κs. search needs) (λ c. search needs) returns (λ c κs. search needs) (λ c. search needs) returns-2)

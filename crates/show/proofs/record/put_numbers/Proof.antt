@@ -20,27 +20,6 @@ Inv-loop out₀ at xs next₀ i₀ t6 out next i =
 abbrev μ-loop : tie.MeasureT-loop
 μ-loop out₀ at xs next₀ i₀ t6 out next i = length xs - i
 
-loop-holds : tie.Need-loop-holds Inv-loop μ-loop
-loop-holds c = (omega arith, refl, texts-none _ _ _ (omega arith), omega arith)
-
-slice-aggregate-put-labelled : tie.Need-slice-aggregate-put-labelled Inv-loop μ-loop
-slice-aggregate-put-labelled c = search needs
-
-shared-slice-read-put-labelled : tie.Need-shared-slice-read-put-labelled Inv-loop μ-loop
-shared-slice-read-put-labelled c = search needs
-
-cast-put-labelled : tie.Need-cast-put-labelled Inv-loop μ-loop
-cast-put-labelled c = omega (arith, c .shared-slice-known2 .given (c .before .before .before .before .loop .i))
-
-put-labelled-requires : tie.Need-put-labelled-requires Inv-loop μ-loop
-put-labelled-requires c κs = omega arith
-
-add-i : tie.Need-add-i Inv-loop μ-loop
-add-i c = search needs
-
-loop-less : tie.Need-loop-less Inv-loop μ-loop
-loop-less c = search needs
-
 loop-again : tie.Need-loop-again Inv-loop μ-loop
 loop-again c =
     let b2 = c .before .before in
@@ -53,9 +32,6 @@ loop-again c =
       omega (arith, b2 .put-labelled .ensures .1),
     )
 
-same-length : tie.Need-same-length Inv-loop μ-loop
-same-length c = search needs
-
 returns : tie.Need-returns Inv-loop μ-loop
 returns c =
     let b1 = c .before in
@@ -63,18 +39,6 @@ returns c =
     let all : b1 .loop .i ≡ length (b4 .args .xs .now) = omega arith in (rw all at (b1 .loop .inv .2), omega (arith, b1 .loop .inv .3))
 
 pub put-numbers-spec : {M : Type 1} → statement M
-put-numbers-spec =
-    tie.close
-    (tie.spec
-    Inv-loop
-    μ-loop
-    loop-holds
-    slice-aggregate-put-labelled
-    shared-slice-read-put-labelled
-    cast-put-labelled
-    put-labelled-requires
-    add-i
-    loop-less
-    loop-again
-    same-length
-    returns)
+put-numbers-spec = tie.close (tie.spec Inv-loop μ-loop (λ c. (omega arith, refl, texts-none _ _ _ (omega arith), omega arith)) (λ c. search needs)
+    (λ c. search needs) (λ c. omega (arith, c .shared-slice-known2 .given (c .before .before .before .before .loop .i))) (λ c κs. omega arith)
+    (λ c. search needs) (λ c. search needs) loop-again (λ c. search needs) returns)

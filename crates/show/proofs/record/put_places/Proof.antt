@@ -21,33 +21,6 @@ Inv-loop out₀ at old new next₀ p₀ out next p =
 abbrev μ-loop : tie.MeasureT-loop
 μ-loop out₀ at old new next₀ p₀ out next p = longest - p
 
-loop-holds : tie.Need-loop-holds Inv-loop μ-loop
-loop-holds c = (omega arith, refl, texts-none _ _ _ (omega arith), omega arith)
-
-cast-t10 : tie.Need-cast-t10 Inv-loop μ-loop
-cast-t10 c = search needs
-
-add-put-place : tie.Need-add-put-place Inv-loop μ-loop
-add-put-place c = search needs
-
-shared-slice-read-put-place : tie.Need-shared-slice-read-put-place Inv-loop μ-loop
-shared-slice-read-put-place c = search needs
-
-add-put-place-2 : tie.Need-add-put-place-2 Inv-loop μ-loop
-add-put-place-2 c = search needs
-
-shared-slice-read-put-place-2 : tie.Need-shared-slice-read-put-place-2 Inv-loop μ-loop
-shared-slice-read-put-place-2 c = search needs
-
-put-place-requires : tie.Need-put-place-requires Inv-loop μ-loop
-put-place-requires c κs = omega arith
-
-add-p : tie.Need-add-p Inv-loop μ-loop
-add-p c = search needs
-
-loop-less : tie.Need-loop-less Inv-loop μ-loop
-loop-less c = search needs
-
 loop-again : tie.Need-loop-again Inv-loop μ-loop
 loop-again c =
     let b2 = c .before .before in
@@ -60,27 +33,8 @@ loop-again c =
       omega (arith, b2 .put-place .ensures .1),
     )
 
-same-length : tie.Need-same-length Inv-loop μ-loop
-same-length c = search needs
-
-returns : tie.Need-returns Inv-loop μ-loop
-returns c = let all : c .before .loop .p ≡ longest = omega arith in (rw all at (c .before .loop .inv .2), omega (arith, c .before .loop .inv .3))
-
 pub put-places-spec : {M : Type 1} → statement M
-put-places-spec =
-    tie.close
-    (tie.spec
-    Inv-loop
-    μ-loop
-    loop-holds
-    cast-t10
-    add-put-place
-    shared-slice-read-put-place
-    add-put-place-2
-    shared-slice-read-put-place-2
-    put-place-requires
-    add-p
-    loop-less
-    loop-again
-    same-length
-    returns)
+put-places-spec = tie.close (tie.spec Inv-loop μ-loop (λ c. (omega arith, refl, texts-none _ _ _ (omega arith), omega arith)) (λ c. search needs)
+    (λ c. search needs) (λ c. search needs) (λ c. search needs) (λ c. search needs) (λ c κs. omega arith) (λ c. search needs) (λ c. search needs)
+    loop-again (λ c. search needs)
+    (λ c. let all : c .before .loop .p ≡ longest = omega arith in (rw all at (c .before .loop .inv .2), omega (arith, c .before .loop .inv .3))))

@@ -4,18 +4,6 @@ use Rattle.card.proofs.Writing.{writes-on}
 use Rattle.show.proofs.record.put_record.Statement.{statement}
 use Rattle.show.proofs.record.put_record.Tie as tie
 
-put-header-requires : tie.Need-put-header-requires
-put-header-requires c κs = search needs
-
-put-syndromes-requires : tie.Need-put-syndromes-requires
-put-syndromes-requires c κs = search needs
-
-put-restoring-requires : tie.Need-put-restoring-requires
-put-restoring-requires c κs = search needs
-
-same-length : tie.Need-same-length
-same-length c = search needs
-
 returns : tie.Need-returns
 returns c =
     let b2 = c .before .before in
@@ -24,11 +12,4 @@ returns c =
     writes-on (b10 .put-header .ensures .0) (writes-on (b6 .put-syndromes .ensures .0) (b2 .put-restoring .ensures))
 
 pub put-record-spec : {M : Type 1} → statement M
-put-record-spec =
-    tie.close
-    (tie.spec
-    put-header-requires
-    put-syndromes-requires
-    put-restoring-requires
-    same-length
-    returns)
+put-record-spec = tie.close (tie.spec (λ c κs. search needs) (λ c κs. search needs) (λ c κs. search needs) (λ c. search needs) returns)

@@ -6,15 +6,6 @@ use Rattle.show.specs.Look.{sheetLines}
 use Rattle.show.proofs.record.put_sheet.Statement.{statement}
 use Rattle.show.proofs.record.put_sheet.Tie as tie
 
-put-dated-requires : tie.Need-put-dated-requires
-put-dated-requires c κs = search needs
-
-put-hours-requires : tie.Need-put-hours-requires
-put-hours-requires c κs = search needs
-
-same-length : tie.Need-same-length
-same-length c = search needs
-
 returns : tie.Need-returns
 unfolding sheetLines
 returns c =
@@ -25,4 +16,4 @@ returns c =
     )
 
 pub put-sheet-spec : {M : Type 1} → statement M
-put-sheet-spec = tie.close (tie.spec put-dated-requires put-hours-requires same-length returns)
+put-sheet-spec = tie.close (tie.spec (λ c κs. search needs) (λ c κs. search needs) (λ c. search needs) returns)

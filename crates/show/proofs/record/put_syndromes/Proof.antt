@@ -8,63 +8,18 @@ use Rattle.show.proofs.Looking.{shows-all, syndromes-shown, syndromes-h
 use Rattle.show.proofs.record.put_syndromes.Statement.{statement}
 use Rattle.show.proofs.record.put_syndromes.Tie as tie
 
-shared-slice-read-width : tie.Need-shared-slice-read-width
-shared-slice-read-width c = search needs
-
-named-count-requires : tie.Need-named-count-requires
-named-count-requires c κs = search needs
-
-add-last : tie.Need-add-last
-add-last c = search needs
-
-word-length-requires : tie.Need-word-length-requires
-word-length-requires c κs = search needs
-
 add-end : tie.Need-add-end
 add-end c =
     let b5 = c .before .before .before .before .before in
     omega (arith, length-most (getD (b5 .args .bytes .now) 0 0) (c .word-length .result) (c .word-length .ensures))
-
-sub-syndromes : tie.Need-sub-syndromes
-sub-syndromes c = search needs
-
-part-syndromes-start : tie.Need-part-syndromes-start
-part-syndromes-start c = search needs
 
 part-syndromes-end : tie.Need-part-syndromes-end
 part-syndromes-end c =
     let b5 = c .before .before .before .before .before in
     omega (arith, length-most (getD (b5 .args .bytes .now) 0 0) (c .word-length .result) (c .word-length .ensures), b5 .pre .0)
 
-sub-syndromes-2 : tie.Need-sub-syndromes-2
-sub-syndromes-2 c = search needs
-
-part-syndromes-start-2 : tie.Need-part-syndromes-start-2
-part-syndromes-start-2 c = search needs
-
-part-syndromes-end-2 : tie.Need-part-syndromes-end-2
-part-syndromes-end-2 c = search needs
-
-syndromes-requires : tie.Need-syndromes-requires
-syndromes-requires c κs = search needs
-
 enum-told : tie.Need-enum-told
 enum-told c = search needs
-
-slice-aggregate-put-bytes : tie.Need-slice-aggregate-put-bytes
-slice-aggregate-put-bytes c = search needs
-
-put-bytes-requires : tie.Need-put-bytes-requires
-put-bytes-requires c κs = search needs
-
-put-list-requires : tie.Need-put-list-requires
-put-list-requires c κs = search needs
-
-enum-told-2 : tie.Need-enum-told-2
-enum-told-2 c = search needs
-
-same-length : tie.Need-same-length
-same-length c = search needs
 
 returns : tie.Need-returns
 returns c =
@@ -94,26 +49,6 @@ returns-2 c =
     (rw (syndromes-hidden r (x .result) G _ (c .enum-told2 .given .1)) (writes-none _ _ (omega arith)), omega arith)
 
 pub put-syndromes-spec : {M : Type 1} → statement M
-put-syndromes-spec =
-    tie.close
-    (tie.spec
-    shared-slice-read-width
-    named-count-requires
-    add-last
-    word-length-requires
-    add-end
-    sub-syndromes
-    part-syndromes-start
-    part-syndromes-end
-    sub-syndromes-2
-    part-syndromes-start-2
-    part-syndromes-end-2
-    syndromes-requires
-    enum-told
-    slice-aggregate-put-bytes
-    put-bytes-requires
-    put-list-requires
-    enum-told-2
-    same-length
-    returns
-    returns-2)
+put-syndromes-spec = tie.close (tie.spec (λ c. search needs) (λ c κs. search needs) (λ c. search needs) (λ c κs. search needs) add-end
+    (λ c. search needs) (λ c. search needs) part-syndromes-end (λ c. search needs) (λ c. search needs) (λ c. search needs) (λ c κs. search needs)
+    enum-told (λ c. search needs) (λ c κs. search needs) (λ c κs. search needs) (λ c. search needs) (λ c. search needs) returns returns-2)

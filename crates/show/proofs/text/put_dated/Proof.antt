@@ -7,33 +7,6 @@ use Rattle.show.specs.Text.{datedLines}
 use Rattle.show.proofs.text.put_dated.Statement.{statement}
 use Rattle.show.proofs.text.put_dated.Tie as tie
 
-slice-aggregate-put-bytes : tie.Need-slice-aggregate-put-bytes
-slice-aggregate-put-bytes c = search needs
-
-put-bytes-requires : tie.Need-put-bytes-requires
-put-bytes-requires c κs = search needs
-
-put-date-requires : tie.Need-put-date-requires
-put-date-requires c κs = search needs
-
-slice-aggregate-put-labelled : tie.Need-slice-aggregate-put-labelled
-slice-aggregate-put-labelled c = search needs
-
-shared-slice-read-put-labelled : tie.Need-shared-slice-read-put-labelled
-shared-slice-read-put-labelled c = search needs
-
-cast-put-labelled : tie.Need-cast-put-labelled
-cast-put-labelled c = omega (arith, c .shared-slice-known2 .given 99)
-
-put-labelled-requires : tie.Need-put-labelled-requires
-put-labelled-requires c κs = search needs
-
-put-byte-requires : tie.Need-put-byte-requires
-put-byte-requires c κs = search needs
-
-same-length : tie.Need-same-length
-same-length c = search needs
-
 returns : tie.Need-returns
 unfolding datedLines
 returns c =
@@ -48,16 +21,5 @@ returns c =
     )
 
 pub put-dated-spec : {M : Type 1} → statement M
-put-dated-spec =
-    tie.close
-    (tie.spec
-    slice-aggregate-put-bytes
-    put-bytes-requires
-    put-date-requires
-    slice-aggregate-put-labelled
-    shared-slice-read-put-labelled
-    cast-put-labelled
-    put-labelled-requires
-    put-byte-requires
-    same-length
-    returns)
+put-dated-spec = tie.close (tie.spec (λ c. search needs) (λ c κs. search needs) (λ c κs. search needs) (λ c. search needs) (λ c. search needs)
+    (λ c. omega (arith, c .shared-slice-known2 .given 99)) (λ c κs. search needs) (λ c κs. search needs) (λ c. search needs) returns)

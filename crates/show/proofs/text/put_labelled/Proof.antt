@@ -5,17 +5,11 @@ use Rattle.card.proofs.Writing.{writes-on, length-decimal}
 use Rattle.show.proofs.text.put_labelled.Statement.{statement}
 use Rattle.show.proofs.text.put_labelled.Tie as tie
 
-put-bytes-requires : tie.Need-put-bytes-requires
-put-bytes-requires c κs = search needs
-
 put-decimal-requires : tie.Need-put-decimal-requires
 put-decimal-requires c κs =
     let b3 = c .before .before .before in
     let b7 = b3 .before .before .before .before in
     omega (arith, length-decimal (b7 .args .n), b3 .put-bytes .ensures .behind)
-
-same-length : tie.Need-same-length
-same-length c = search needs
 
 returns : tie.Need-returns
 returns c =
@@ -27,4 +21,4 @@ returns c =
     )
 
 pub put-labelled-spec : {M : Type 1} → statement M
-put-labelled-spec = tie.close (tie.spec put-bytes-requires put-decimal-requires same-length returns)
+put-labelled-spec = tie.close (tie.spec (λ c κs. search needs) put-decimal-requires (λ c. search needs) returns)

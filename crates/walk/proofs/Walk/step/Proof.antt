@@ -4,8 +4,5 @@ use Rattle.walk.proofs.Tallying.{steps-two}
 use Rattle.walk.proofs.Walk.step.Statement.{statement}
 use Rattle.walk.proofs.Walk.step.Tie as tie
 
-returns : tie.Need-returns
-returns c = search (needs, steps-two)
-
 pub step-spec : {M : Type 1} → statement M
-step-spec = tie.close (tie.spec (λ c κs. search needs) (λ c. search needs) returns)
+step-spec = tie.close (tie.spec (λ c κs. search needs) (λ c. search needs) (λ c. search (needs, steps-two)))

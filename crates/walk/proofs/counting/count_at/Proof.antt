@@ -4,28 +4,7 @@ use Rattle.walk.proofs.Tallying.{counts-last, counts-whole}
 use Rattle.walk.proofs.counting.count_at.Statement.{statement}
 use Rattle.walk.proofs.counting.count_at.Tie as tie
 
-returns : tie.Need-returns
-returns c = search (needs, counts-last)
-
-returns-2 : tie.Need-returns-2
-returns-2 c = search (needs, counts-whole)
-
 pub count-at-spec : {M : Type 1} → statement M
-count-at-spec =
-    tie.close
-    (tie.spec
-    (λ c. search needs)
-    (λ c. search needs)
-    (λ c. search needs)
-    (λ c. search needs)
-    (λ c. search needs)
-    (λ c κs. search needs)
-    (λ c. search needs)
-    (λ c. search needs)
-    (λ c. search needs)
-    (λ c. search needs)
-    (λ c κs. search needs)
-    (λ c. search needs)
-    returns
-    (λ c. search needs)
-    returns-2)
+count-at-spec = tie.close (tie.spec (λ c. search needs) (λ c. search needs) (λ c. search needs) (λ c. search needs) (λ c. search needs)
+    (λ c κs. search needs) (λ c. search needs) (λ c. search needs) (λ c. search needs) (λ c. search needs) (λ c κs. search needs) (λ c. search needs)
+    (λ c. search (needs, counts-last)) (λ c. search needs) (λ c. search (needs, counts-whole)))

@@ -16,9 +16,6 @@ Inv-loop card₀ first count most progress₀ i₀ card progress i =
 abbrev μ-loop : tie.MeasureT-loop
 μ-loop card₀ first count most progress₀ i₀ card progress i = count - i
 
-loop-holds : tie.Need-loop-holds Inv-loop μ-loop
-loop-holds c = (omega arith, refl, counts-none _ _ _ _)
-
 count-at-requires : tie.Need-count-at-requires Inv-loop μ-loop
 count-at-requires c κs =
     let turn = c .before .before .loop in
@@ -28,26 +25,7 @@ count-at-requires c κs =
           (omega arith),
     )
 
-loop-less : tie.Need-loop-less Inv-loop μ-loop
-loop-less c = omega arith
-
-loop-again : tie.Need-loop-again Inv-loop μ-loop
-loop-again c = (omega arith, search needs, search (needs, counts-on))
-
-returns : tie.Need-returns Inv-loop μ-loop
-returns c = search (needs, counts-end)
-
 pub count-from-spec : {M : Type 1} → statement M
-count-from-spec =
-    tie.close
-    (tie.spec
-    Inv-loop
-    μ-loop
-    loop-holds
-    (λ c. search needs)
-    count-at-requires
-    (λ c. search needs)
-    loop-less
-    loop-again
-    (λ c. search needs)
-    returns)
+count-from-spec = tie.close (tie.spec Inv-loop μ-loop (λ c. (omega arith, refl, counts-none _ _ _ _)) (λ c. search needs) count-at-requires
+    (λ c. search needs) (λ c. omega arith) (λ c. (omega arith, search needs, search (needs, counts-on))) (λ c. search needs)
+    (λ c. search (needs, counts-end)))

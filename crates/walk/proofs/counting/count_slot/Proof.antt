@@ -4,21 +4,6 @@ use Rattle.walk.proofs.Tallying.{counts-blank, counts-record}
 use Rattle.walk.proofs.counting.count_slot.Statement.{statement}
 use Rattle.walk.proofs.counting.count_slot.Tie as tie
 
-returns : tie.Need-returns
-returns c = search (needs, counts-blank)
-
-returns-2 : tie.Need-returns-2
-returns-2 c = search (needs, counts-record)
-
 pub count-slot-spec : {M : Type 1} → statement M
-count-slot-spec =
-    tie.close
-    (tie.spec
-    (λ c κs. search needs)
-    (λ c. search needs)
-    (λ c. search needs)
-    returns
-    (λ c κs. search needs)
-    (λ c κs. search needs)
-    (λ c. search needs)
-    returns-2)
+count-slot-spec = tie.close (tie.spec (λ c κs. search needs) (λ c. search needs) (λ c. search needs) (λ c. search (needs, counts-blank))
+    (λ c κs. search needs) (λ c κs. search needs) (λ c. search needs) (λ c. search (needs, counts-record)))

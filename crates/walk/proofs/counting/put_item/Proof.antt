@@ -4,8 +4,6 @@ use Rattle.card.proofs.Writing.{writes-on}
 use Rattle.walk.proofs.counting.put_item.Statement.{statement}
 use Rattle.walk.proofs.counting.put_item.Tie as tie
 
-returns : tie.Need-returns
-returns c = (search (needs, writes-on), search needs)
-
 pub put-item-spec : {M : Type 1} → statement M
-put-item-spec = tie.close (tie.spec (λ c κs. search needs) (λ c κs. search needs) (λ c. search needs) returns)
+put-item-spec = tie.close (tie.spec (λ c κs. search needs) (λ c κs. search needs) (λ c. search needs)
+    (λ c. (search (needs, writes-on), search needs)))

@@ -14,9 +14,6 @@ Inv-loop card₀ most n walk₀ progress₀ card walk progress = Walked most pro
 abbrev μ-loop : tie.MeasureT-loop
 μ-loop card₀ most n walk₀ progress₀ card walk progress = recordCount (length card₀) + 1 - walk .next
 
-loop-holds : tie.Need-loop-holds Inv-loop μ-loop
-loop-holds c = rw (c .begin .ensures) (walked-start _ _ _)
-
 step-counting-requires : tie.Need-step-counting-requires Inv-loop μ-loop
 step-counting-requires c κs =
     let start = c .before .before .before .before .before .before .before .before in
@@ -31,23 +28,7 @@ loop-less c =
 loop-again : tie.Need-loop-again Inv-loop μ-loop
 loop-again c = walked-on (c .before .before .before .before .before .before .before .before .before .loop .inv) (c .before .before .before .before .before .step-counting .ensures) (omega arith)
 
-same-length : tie.Need-same-length Inv-loop μ-loop
-same-length c = walked-long (c .before .before .loop .inv)
-
-returns : tie.Need-returns Inv-loop μ-loop
-returns c = walked-end (c .before .before .loop .inv) (omega arith)
-
 pub restore-counting-spec : {M : Type 1} → statement M
-restore-counting-spec =
-    tie.close
-    (tie.spec
-    Inv-loop
-    μ-loop
-    (λ c κs. search needs)
-    (λ c κs. search needs)
-    loop-holds
-    step-counting-requires
-    loop-less
-    loop-again
-    same-length
-    returns)
+restore-counting-spec = tie.close (tie.spec Inv-loop μ-loop (λ c κs. search needs) (λ c κs. search needs)
+    (λ c. rw (c .begin .ensures) (walked-start _ _ _)) step-counting-requires loop-less loop-again (λ c. walked-long (c .before .before .loop .inv))
+    (λ c. walked-end (c .before .before .loop .inv) (omega arith)))
