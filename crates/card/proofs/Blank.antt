@@ -48,23 +48,12 @@ accepted-is : (o : Outcome) → isAccepted o ≡ true → (k : ℕ) × (o ≡ ac
 accepted-is (accepted k) t = (k, refl)
 accepted-is (refused n) t = absurd (false≢true t)
 
-refused-is : (o : Outcome) → isAccepted o ≡ false → (n : ℕ) × (o ≡ refused n)
-refused-is (accepted k) t = absurd (false≢true (sym t))
-refused-is (refused n) t = (n, refl)
-
 pub fine-means : (slot : List ℕ) → fine slot ≡ true → (isBlank slot ≡ true) ⊎ ((k : ℕ) × (recordOf slot ≡ accepted k))
 fine-means slot t = go (isBlank slot) refl t
   where
     go : (b : Bool) → isBlank slot ≡ b → (b || passes slot) ≡ true → (isBlank slot ≡ true) ⊎ ((k : ℕ) × (recordOf slot ≡ accepted k))
     go true e t = inl e
     go false e t = inr (accepted-is (recordOf slot) t)
-
-pub not-fine-means : (slot : List ℕ) → fine slot ≡ false → (isBlank slot ≡ false) × ((n : ℕ) × (recordOf slot ≡ refused n))
-not-fine-means slot t = go (isBlank slot) refl t
-  where
-    go : (b : Bool) → isBlank slot ≡ b → (b || passes slot) ≡ false → (isBlank slot ≡ false) × ((n : ℕ) × (recordOf slot ≡ refused n))
-    go true e t = absurd (false≢true (sym t))
-    go false e t = (e, refused-is (recordOf slot) t)
 
 -- ---- a blank slot as a record
 

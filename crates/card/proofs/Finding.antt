@@ -1,8 +1,8 @@
 -- The card check of a card that comes in parts. Assumes nothing.
 use mathlib.Core.Path.{_≡_, refl, sym, ap, ap₂, _∙_, subst}
-use mathlib.Core.Bool.{Bool, true, false, cond, false≢true, true≢false}
-use mathlib.Core.List.{List, [], _++_}
-use Prim.Native.Nat.{ℕ, zero, suc, _+_, _-_, _*_, _≤_}
+use mathlib.Core.Bool.{Bool, true, false, cond, true≢false}
+use mathlib.Core.List.{List, []}
+use Prim.Native.Nat.{ℕ, zero, suc, _+_, _-_, _≤_}
 use native.Mathlib.Nat.{add-zero}
 use native.Mathlib.Omega.{arith}
 use lib.ListN.{length}
@@ -11,17 +11,17 @@ use Rattle.field.specs.declared.Question.{Question}
 use Rattle.code.specs.Call.{repair}
 use Rattle.code.specs.declared.Repair.{Repair}
 use Rattle.code.specs.declared.Repair.the-variants.{Restored, Refused as RefusedBy}
-use Rattle.card.specs.Record.{erasureBytes, recordSize, recordOf}
+use Rattle.card.specs.Record.{erasureBytes, recordOf}
 use Rattle.card.specs.Slots.{recordCount, recordAt, overFirst, overSlots}
 use Rattle.card.specs.Card.{fine, noBad, bad, checkOf, Search, passed, named, sought, searched, answer, firstRefused}
 use Rattle.card.specs.Placed.{placed, Writes}
 use Rattle.card.specs.Words.{refusalLine}
-use Rattle.card.specs.Checked.{outcomeLine, foundLine, okLine, lineOf, names, Finds, behind, orElse, FirstInParts}
+use Rattle.card.specs.Checked.{outcomeLine, foundLine, names, Finds, behind, orElse, FirstInParts}
 use Rattle.card.specs.declared.checked.Found.{Found}
 use Rattle.card.specs.declared.CardCheck.{CardCheck}
 use Rattle.card.specs.declared.CardCheck.the-variants.{AllAccepted, Refused}
 use Rattle.card.proofs.Folding.{over-map, in-parts, count-first}
-use Rattle.card.proofs.Checking.{AllFine, Means, searched-means, first-some}
+use Rattle.card.proofs.Checking.{Means, searched-means, first-some}
 use Rattle.card.proofs.Writing.{writes-none}
 
 -- ---- the line of one record
@@ -143,17 +143,3 @@ module _ (u : Search) {old new : List ℕ} {r : Found} (F : Finds u old r new) w
       go : (v : Search) → names v ≡ false → Writes old 0 (foundLine v) new (r .used) → (names v ≡ false) × (new ≡ old)
       go (passed n) h w = (refl, writes-nothing w)
       go (named n s) h w = absurd (true≢false h)
-
-  pub says-found : r .any ≡ true → Writes old 0 (lineOf u) new (r .used)
-  says-found t = go u (sym (F .any) ∙ t) (F .text)
-    where
-      go : (v : Search) → names v ≡ true → Writes old 0 (foundLine v) new (r .used) → Writes old 0 (lineOf v) new (r .used)
-      go (passed n) h w = absurd (false≢true h)
-      go (named n s) h w = w
-
-  pub says-ok : r .any ≡ false → {last : List ℕ} {m : ℕ} → Writes new 0 okLine last m → Writes old 0 (lineOf u) last m
-  says-ok t {last} {m} w = go u (found-none t .0) (subst (λ (l : List ℕ). Writes l 0 okLine last m) (found-none t .1) w)
-    where
-      go : (v : Search) → names v ≡ false → Writes old 0 okLine last m → Writes old 0 (lineOf v) last m
-      go (passed n) h o = o
-      go (named n s) h o = absurd (true≢false h)

@@ -1,6 +1,6 @@
 -- The questions of a conversion over a card that comes in parts: what they find in parts is what they find in the whole card, and that is
 -- the conversion's verdict and the first offending record. Assumes nothing.
-use mathlib.Core.Path.{_≡_, refl, sym, ap, ap₂, _∙_, subst}
+use mathlib.Core.Path.{_≡_, refl, sym, ap, _∙_, subst}
 use mathlib.Core.Bool.{Bool, true, false}
 use mathlib.Core.List.{List, [], _∷_, _++_}
 use mathlib.Core.Logic.{_⊎_, inl, inr, ⊎-elim}
@@ -20,7 +20,7 @@ use Rattle.card.specs.declared.parts.Findings.{Findings}
 use Rattle.card.specs.Record.{sizeOf, erasureBytes}
 use Rattle.card.specs.Slots.{slotIn, slotCount, overFirst, appended}
 use Rattle.card.specs.Conversion.{oldErasureBytes, converted, convertedCard, blankOr, atMostFour, cardAsked, fourAsked}
-use Rattle.card.specs.inner.Leading.{convertedSlots, every, cardPasses}
+use Rattle.card.specs.inner.Leading.{every, cardPasses}
 use Rattle.card.specs.Leading.{leading, answers, slotPasses, verdictAt}
 use Rattle.card.specs.Findings.{nothingFound, slotFound, partFound, foundVerdict, foundNumber, slotAnswer}
 use Rattle.card.specs.Findings.{FoundInParts, NumberIs, ToNewInParts, ToOldInParts}

@@ -9,13 +9,9 @@ use lib.Bits.{bitAnd, bitOr, or-add-and, or-lt, and-le-l, and-le-r}
 use lib.ListN.{length}
 use Rattle.field.specs.Sum.{at}
 use Rattle.field.specs.inner.Lanes.{Block}
-use Rattle.field.proofs.Packing.{lanes-and, lanes-zero, lanes-same}
+use Rattle.field.proofs.Packing.{lanes-and, lanes-zero}
 use Rattle.field.proofs.Lanewise.{ones, mask}
 use Rattle.code.specs.inner.Block.{Run}
-
--- equal numbers have equal bytes
-pub block-same : (xs ys : List ℕ) (i a b : ℕ) → Block 8 xs i a → Block 8 ys i b → a ≡ b → (j : ℕ) → j < 8 → at xs (i + j) ≡ at ys (i + j)
-block-same xs ys i a b p q e = lanes-same 8 (λ j. at xs (i + j)) (λ j. at ys (i + j)) (p .bytes) (q .bytes) (sym (p .held) ∙ e ∙ q .held)
 
 -- a byte without a digit in common with 256 - q is below q
 pub block-below : (xs : List ℕ) (i a q : ℕ) → 0 < q → Block 8 xs i a → bitAnd a (ones * (256 - q)) ≡ 0 → (j : ℕ) → j < 8 → at xs (i + j) < q

@@ -1,12 +1,11 @@
 -- A table of cases holds if a test that antt computes passes: the encoder's words are compared, a restored word is a codeword near enough,
 -- and of a refused word every choice of r extra places and of the symbols there is tried. Assumes nothing.
-use mathlib.Core.Path.{_≡_, refl, sym, ap, ap₂, _∙_, subst}
+use mathlib.Core.Path.{_≡_, refl, sym, ap, _∙_, subst}
 use mathlib.Core.Bool.{Bool, true, false, not, _&&_}
 use mathlib.Core.List.{List, [], _∷_, _++_, map}
 use Prim.Native.Nat.{ℕ, zero, suc, _≤_, _<_}
 use native.Mathlib.Nat.{not-suc-le-zero, le-of-suc-le-suc}
 use native.Mathlib.Omega.{arith}
-use borrow.Author.Tests.{eq-eqb}
 use lib.Dec.{T, eqb, leb, ltb, eqb→eq, leb→le, ltb→lt, T-not}
 use lib.ListN.{length}
 use Rattle.field.specs.Field.{order}

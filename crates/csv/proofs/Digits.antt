@@ -6,7 +6,6 @@ use Prim.Native.Nat.{ℕ, _+_, _/_, _%_, _^_, _≤_, _<_}
 use native.Mathlib.Omega.{arith}
 use borrow.Author.Tests.{ne-eqb, leb-true, leb-false, ltb-true, ltb-false}
 use lib.Dec.{eqb, leb, ltb}
-use lib.ListN.{length}
 use Rattle.field.proofs.Ask.{and-true-left, and-true-right}
 use Rattle.card.specs.Listing.{decimal}
 use Rattle.card.proofs.Writing.{lastDigit, decimal-one, decimal-more}
@@ -63,9 +62,6 @@ year-digits y h =
     ∙ ap (λ (xs : List ℕ). xs ++ twoDigits (y % 100)) (sym (two-more (20 + y / 100) (omega arith)))
 
 -- ---- how many there are
-
-pub length-two : (n : ℕ) → n < 100 → length (twoDigits n) ≡ 2
-length-two n h = ap length (two-digits n h)
 
 -- ---- a date that exists
 

@@ -89,14 +89,6 @@ lanes-zero zero f e j h = absurd (not-suc-le-zero h)
 lanes-zero (suc n) f e zero h = omega arith
 lanes-zero (suc n) f e (suc j) h = lanes-zero n (λ j. f (suc j)) (omega arith) j (le-of-suc-le-suc h)
 
-pub lanes-same : (n : ℕ) (f g : ℕ → ℕ) → Below 256 n f → Below 256 n g → lanes n f ≡ lanes n g → (j : ℕ) → j < n → f j ≡ g j
-unfolding lanes
-lanes-same zero f g b d e j h = absurd (not-suc-le-zero h)
-lanes-same (suc n) f g b d e zero h = omega (arith, b 0 h, d 0 h)
-lanes-same (suc n) f g b d e (suc j) h =
-    lanes-same n (λ j. f (suc j)) (λ j. g (suc j)) (below-tail 256 n f b) (below-tail 256 n g d) (omega (arith, b 0 (omega arith), d 0 (omega arith)))
-    j (le-of-suc-le-suc h)
-
 -- ---- lanes, taken apart
 
 pub lane-lanes : (n : ℕ) (f : ℕ → ℕ) (j : ℕ) → j < n → Below 256 n f → lane (lanes n f) j ≡ f j

@@ -1,6 +1,6 @@
 -- The rule of the table of powers: one test that antt computes over the whole table, and a law that turns it into what stands at each
 -- exponent. Assumes nothing.
-use mathlib.Core.Path.{_≡_, refl, sym, ap, _∙_, subst}
+use mathlib.Core.Path.{_≡_, sym, ap, _∙_, subst}
 use mathlib.Core.Bool.{Bool, true, _&&_}
 use mathlib.Core.List.{List, [], _∷_}
 use Prim.Native.Nat.{ℕ, zero, suc, _+_, _*_, _%_, _<_}
@@ -20,11 +20,6 @@ use Rattle.field.proofs.Check.{and-left, and-right}
 abbrev pub doubling : ℕ → ℕ → List ℕ → Bool
 doubling m x [] = true
 doubling m x (y ∷ ys) = eqb y x && doubling m (double m y) ys
-
--- x and its doubles, n entries
-abbrev pub orbit : ℕ → ℕ → ℕ → List ℕ
-orbit m x zero = []
-orbit m x (suc n) = x ∷ orbit m (double m x) n
 
 module _ (m : ℕ) (pos : 0 < m) where
   doubling-from : (x : ℕ) → x < order m → (xs : List ℕ) → T (doubling m x xs) → (k : ℕ) → k < length xs → getD xs k 0 ≡ product m (power m α k) x

@@ -1,5 +1,5 @@
 -- A listing from batch to batch, and its last lines. Assumes nothing.
-use mathlib.Core.Path.{_≡_, refl, sym, ap, ap₂, _∙_}
+use mathlib.Core.Path.{_≡_, sym, ap, ap₂, _∙_}
 use mathlib.Core.Bool.{true, false, false≢true}
 use mathlib.Core.List.{List, [], _∷_, _++_}
 use mathlib.Core.Logic.{inl}
@@ -9,7 +9,7 @@ use native.Mathlib.Omega.{arith}
 use lib.ListN.{length, take, replicate, length-append, length-replicate}
 use Rattle.card.specs.Record.{erasureBytes, recordSize}
 use Rattle.card.specs.Slots.{recordCount}
-use Rattle.card.specs.Listing.{slotFurther, partLines, partProgress, mostRecords, start, listing, moreLine, totalLine}
+use Rattle.card.specs.Listing.{slotFurther, partLines, partProgress, mostRecords, start, moreLine, totalLine}
 use Rattle.card.specs.Batch.{batchRecords, batchSize, ListsSlots}
 use Rattle.card.specs.declared.text.Listed.{Listed}
 use Rattle.card.specs.declared.Progress.{Progress}

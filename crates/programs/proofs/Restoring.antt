@@ -2,14 +2,14 @@
 use mathlib.Core.Path.{_≡_, refl, sym, ap, _∙_}
 use mathlib.Core.Bool.{Bool, true, false, not}
 use mathlib.Core.List.{List, []}
-use Prim.Native.Nat.{ℕ, _+_, _*_, _^_, _≤_, _<_}
+use Prim.Native.Nat.{ℕ, _+_, _*_, _<_}
 use native.Mathlib.Omega.{arith}
 use borrow.Author.Tests.{eq-eqb, ne-eqb}
 use lib.ListN.{length, take, length-append}
 use Rattle.card.specs.declared.Progress.{Progress}
 use Rattle.card.specs.Record.{erasureBytes, recordSize, recordUpTo}
 use Rattle.card.specs.Listing.{furtherBy, progressUpTo, start}
-use Rattle.card.specs.Batch.{batchRecords, batchSize, mostBatches}
+use Rattle.card.specs.Batch.{batchSize, mostBatches}
 use Rattle.card.proofs.Folding.{in-parts, over-none}
 use Rattle.card.proofs.Coming.{up-to-within}
 use Rattle.field.proofs.Ask.{and-true-left, and-true-right}
@@ -25,7 +25,7 @@ use Rattle.programs.specs.declared.cardrestore.Restored.{Restored}
 use Rattle.programs.specs.declared.status.Status.the-variants.{Done, AnsweredNo}
 use Rattle.programs.specs.Stream.{hasEnded, Reads, Wrote}
 use Rattle.programs.specs.Restore.{RestoresBatch, RestoresCard, isWhole, restoreStatus}
-use Rattle.programs.specs.inner.Turns.{CanWrite, BatchReady, Begun, canGoOn, TookAll}
+use Rattle.programs.specs.inner.Turns.{CanWrite, BatchReady, Begun, canGoOn}
 use Rattle.programs.specs.inner.Restores.{RestoresPart, RestoresSome}
 use Rattle.programs.proofs.Batches.{took-start, took-batch, took-more, goes-going, goes-ok, denied-no}
 

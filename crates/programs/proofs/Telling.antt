@@ -1,21 +1,19 @@
 -- The day sheets of a card printed from batch to batch. Assumes nothing.
-use mathlib.Core.Path.{_≡_, refl, sym, ap, ap₂, _∙_}
-use mathlib.Core.Bool.{Bool, true, false, not}
+use mathlib.Core.Path.{_≡_, refl, sym, ap, _∙_}
+use mathlib.Core.Bool.{true}
 use mathlib.Core.List.{List, [], _++_}
 use mathlib.Core.Logic.{_⊎_, inl, inr}
-use Prim.Native.Nat.{ℕ, _+_, _*_, _^_, _≤_, _<_}
+use Prim.Native.Nat.{ℕ, _+_, _*_, _<_}
 use native.Mathlib.Omega.{arith}
 use borrow.Author.Tests.{eq-eqb, ne-eqb}
 use lib.ListN.{length, take, length-append}
 use Rattle.card.specs.Record.{erasureBytes, recordSize}
 use Rattle.card.specs.Batch.{mostBatches}
 use Rattle.card.proofs.Folding.{in-parts, over-none}
-use Rattle.card.proofs.Writing.{writes-fits, writes-length}
 use Rattle.csv.specs.declared.Counts.{Counts}
 use Rattle.csv.specs.declared.lines.Listed.{Listed}
-use Rattle.csv.specs.Text.{sheetsHeader, slotTallied, slotSheetTold, sheetsUntold, partSheets, partCounts, untallied, sheetsText}
+use Rattle.csv.specs.Text.{sheetsHeader, slotTallied, slotSheetTold, sheetsUntold, partSheets, partCounts, untallied}
 use Rattle.csv.specs.Batch.{ListsSheets, sheetSlots, sheetBatch, longestSheets}
-use Rattle.csv.specs.inner.Room.{headerRoom}
 use Rattle.csv.proofs.SheetLines.{came-within, lines-in-parts}
 use Rattle.programs.specs.inner.Turns.{TookAll}
 use Rattle.programs.specs.declared.input.Input.{Input}

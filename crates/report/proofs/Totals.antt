@@ -1,6 +1,6 @@
 -- What the report says: every slot is counted once, the mean, and the highest count with its earliest date. Assumes nothing.
 use mathlib.Core.Path.{_≡_, refl, sym, ap, ap₂, _∙_, subst}
-use mathlib.Core.Logic.{_≢_, _⊎_, inl, inr}
+use mathlib.Core.Logic.{_⊎_, inl, inr}
 use mathlib.Core.Bool.{Bool, true, false, cond, _||_, false≢true}
 use mathlib.Core.List.{List}
 use Prim.Native.Nat.{ℕ, zero, suc, _+_, _-_, _*_, _≤_, _<_}
@@ -449,9 +449,6 @@ module _ (card : List ℕ) where
 -- ---- the report of a card
 
 module _ (w : Window) (wh : isWindow w ≡ true) (card : List ℕ) where
-  abbrev last : List ℕ
-  last = partAdded w noReport (listedPart card)
-
   report-row : (p : ℕ) → p < pumps → rowOf (reportOf w card) p ≡ rowOf (partAdded w noReport (listedPart card)) p
   unfolding reportOf
   report-row p h = row-kept (partAdded w noReport (listedPart card)) moreAt (cond (goesOn card) 1 0) p h (omega arith)

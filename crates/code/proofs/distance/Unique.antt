@@ -16,7 +16,7 @@ use Rattle.field.specs.Polynomial.{add}
 use Rattle.field.proofs.Laws.{IsField}
 use Rattle.code.specs.Word.{places, at, Codeword}
 use Rattle.code.specs.Erasure.{member, total, differ, changes}
-use Rattle.code.specs.Near.{distance, radius, Near}
+use Rattle.code.specs.Near.{distance, radius}
 use Rattle.code.proofs.Algebra.{add-of-eq}
 use Rattle.code.proofs.Sums.{total-le, total-add, syndrome-add}
 use Rattle.code.proofs.Members.{members-le}

@@ -1,6 +1,6 @@
 -- A trial is a linear system: its entries, and the solver's answers in terms of the codewords that agree with the word outside the places
 -- of the trial. Assumes nothing.
-use mathlib.Core.Path.{_≡_, refl, sym, ap, ap₂, _∙_, subst}
+use mathlib.Core.Path.{_≡_, refl, sym, ap, _∙_, subst}
 use mathlib.Core.Logic.{_≢_}
 use mathlib.Core.Bool.{Bool, true, false, cond}
 use mathlib.Core.List.{List, [], _∷_, _++_, map}
@@ -15,7 +15,6 @@ use lib.Seq.{getD-take, length-take-le, getD-set-same, getD-set-other, getD-appe
 use Rattle.field.specs.Polynomial.{add}
 use Rattle.field.specs.Field.{order, product}
 use Rattle.field.specs.Question.{isWidth}
-use Rattle.field.specs.inner.Operand.{Operand}
 use Rattle.field.proofs.Laws.{IsField}
 use Rattle.field.proofs.Widths.{field-of}
 use Rattle.field.proofs.Evaluation.{five-at, five-cong}
@@ -25,7 +24,7 @@ use Rattle.code.specs.declared.solver.Solutions.the-variants.{None, One,
 use Rattle.code.specs.Word.{at, five}
 use Rattle.code.specs.inner.Place.{numbers, column}
 use Rattle.code.specs.Erasure.{maskedSyndrome}
-use Rattle.code.specs.inner.Matrix.{rows, unknowns, columns, entry, columnOf, Matrix, Operands, rowAdd, dot, Values, Means}
+use Rattle.code.specs.inner.Matrix.{rows, unknowns, columns, entry, columnOf, Matrix, Operands, dot, Values, Means}
 use Rattle.code.specs.inner.Correction.{fill, placesOf, Ready, systemEntry, SystemColumns, SystemRow, SystemMatrix, NoneAt, OneAt, SeveralAt, Searched}
 use Rattle.code.proofs.Sums.{parity-lt}
 use Rattle.code.proofs.Columns.{combine, column-lt}

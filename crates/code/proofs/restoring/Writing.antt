@@ -2,7 +2,7 @@
 -- counted there alone. Assumes nothing.
 use mathlib.Core.Path.{_≡_, refl, sym, ap, ap₂, _∙_, subst}
 use mathlib.Core.Logic.{_≢_}
-use mathlib.Core.Bool.{Bool, true, false, cond}
+use mathlib.Core.Bool.{true, cond}
 use mathlib.Core.List.{List, [], _∷_}
 use Prim.Native.Nat.{ℕ, zero, suc, _+_, _-_, _≤_, _<_}
 use native.Mathlib.Nat.{le-refl, not-suc-le-zero}
@@ -11,7 +11,6 @@ use native.Mathlib.Omega.{arith}
 use lib.ListN.{length, getD, set, take, drop, drop-of-length-le}
 use lib.Seq.{length-take-le, getD-set-same, getD-set-other}
 use Rattle.field.specs.Question.{allBelow}
-use Rattle.field.proofs.Below.{below-head, below-tail}
 use Rattle.code.specs.Word.{at}
 use Rattle.code.specs.Erasure.{member, distinct, differ, total, changesBelow}
 use Rattle.code.specs.inner.Correction.{fill}
@@ -46,24 +45,6 @@ changes-set n es w u p v k d h l s e f =
     ∙ total-at (λ i. cond (member i es) 0 (differ (at w i) (at u i))) (λ i. cond (member i es) 0 (differ (at w i) (at (set u p v) i))) p
     (λ i q. ap (λ (x : ℕ). cond (member i es) 0 (differ (at w i) x)) (getD-set-other u p i v 0 q))
     (sym (change-same (member p es) (at w p) (at u p) (sym s))) n h
-
--- the number of the places ps outside es at which the value differs from the word's symbol
-abbrev pub changesAt : List ℕ → List ℕ → List ℕ → List ℕ → ℕ
-changesAt es w [] vs = 0
-changesAt es w (p ∷ ps) [] = 0
-changesAt es w (p ∷ ps) (v ∷ vs) = changesAt es w ps vs + cond (member p es) 0 (differ (at w p) v)
-
--- the word filled at distinct places differs from the word at those places alone
-pub changes-fill : (n : ℕ) (es w ps vs : List ℕ) → n ≤ length w → distinct ps ≡ true → allBelow n ps ≡ true
-    → changesAt es w ps vs ≡ changesBelow n es w (fill w ps vs)
-unfolding fill
-changes-fill n es w [] vs l ds bs = changes-same n es w
-changes-fill n es w (p ∷ ps) [] l ds bs = changes-same n es w
-changes-fill n es w (p ∷ ps) (v ∷ vs) l ds bs =
-    let still = fill-other w ps vs p (distinct-head p ps ds) in
-    changes-set n es w (fill w ps vs) p v _ _ (below-head p ps n bs) (omega (arith, below-head p ps n bs, length-fill w ps vs)) still
-    (changes-fill n es w ps vs l (distinct-tail p ps ds) (below-tail p ps n bs))
-    (ap (λ (x : ℕ). cond (member p es) 0 (differ x v)) (sym still))
 
 -- ---- writing the values at the first c places ps, from the last to the first
 

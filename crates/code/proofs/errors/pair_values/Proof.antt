@@ -2,7 +2,6 @@
 use borrow.Author.Needs.{needs}
 use Prim.Native.Nat.{ℕ, _<_}
 use native.Mathlib.Omega.{arith}
-use mathlib.Core.Path.{_∙_}
 use Rattle.field.specs.inner.Operand.{Operand}
 use Rattle.field.proofs.Widths.{field-of}
 use Rattle.field.proofs.Ask.{operand-of}

@@ -10,7 +10,7 @@ use Rattle.field.specs.Question.{allBelow}
 use Rattle.code.specs.declared.solver.Solutions.the-variants.{None, One, Several}
 use Rattle.code.specs.Near.{radius}
 use Rattle.code.specs.Demands.{Passes}
-use Rattle.code.specs.inner.Correction.{correctedPlaces, placesOf, Ready, Workable, NoneWithin, Searched}
+use Rattle.code.specs.inner.Correction.{correctedPlaces, Ready, Workable, NoneWithin, Searched}
 use Rattle.code.proofs.calls.Passing.{given, within-passes}
 use Rattle.code.proofs.restoring.Repairing.{workable, restores-clean, restores-found, restores-none, restores-several}
 use Rattle.code.proofs.restorer.correct_word.Statement.{statement}

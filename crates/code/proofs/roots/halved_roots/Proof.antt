@@ -1,6 +1,5 @@
 -- `code::roots::halved_roots` meets its contract. Assumes nothing.
 use borrow.Author.Needs.{needs}
-use mathlib.Core.Path.{sym, _∙_}
 use Rattle.field.proofs.Bytes.{xor-add, ratio-own}
 use Rattle.code.proofs.finding.Quadratic.{halved-roots}
 use Rattle.code.proofs.roots.halved_roots.Statement.{statement}

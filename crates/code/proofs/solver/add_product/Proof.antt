@@ -1,6 +1,6 @@
 -- `code::solver::add_product` meets its contract. Assumes nothing.
 use borrow.Author.Needs.{needs}
-use mathlib.Core.Path.{_≡_, sym, ap, _∙_}
+use mathlib.Core.Path.{sym, ap, _∙_}
 use Prim.Native.Nat.{ℕ}
 use Rattle.field.specs.Polynomial.{add}
 use Rattle.field.specs.Field.{product}

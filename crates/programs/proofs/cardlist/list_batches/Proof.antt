@@ -1,7 +1,6 @@
 -- `programs::cardlist::list_batches` meets its contract. Assumes nothing.
 use borrow.Author.Needs.{needs}
 use Rattle.programs.proofs.Batches.{denied-yes, denied-no}
-use mathlib.Core.Path.{_≡_, refl}
 use Prim.Native.Nat.{_-_, _*_, _≤_}
 use native.Mathlib.Omega.{arith}
 use Rattle.card.specs.Batch.{batchSize}

@@ -2,7 +2,6 @@
 use borrow.Author.Needs.{needs}
 use mathlib.Core.Path.{sym, refl}
 use native.Mathlib.Omega.{arith}
-use lib.ListN.{length, take}
 use lib.Seq.{length-take-le}
 use Rattle.card.proofs.Writing.{writes-fits, writes-length}
 use Rattle.programs.proofs.Batches.{front-size}
