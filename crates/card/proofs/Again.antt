@@ -1,15 +1,8 @@
 -- Restoring is idempotent: a restored record restores to itself, with 0 changed, at every reach allowed; and what stands in it. Assumes
 -- nothing.
-use borrow.Author.Tests.{eq-eqb}
-use mathlib.Core.Path.{_≡_, refl, sym, ap, _∙_}
-use mathlib.Core.Bool.{true}
-use mathlib.Core.List.{List, [], _++_}
-use Prim.Native.Nat.{ℕ, zero, suc, _-_, _≤_}
-use native.Mathlib.Nat.{le-refl}
-use native.Mathlib.Omega.{arith}
+use Rattle.field.proofs.Base.{eq-eqb, _≡_, refl, sym, ap, _∙_, true, List, [], _++_, ℕ, zero, suc, _-_, _≤_, le-refl, arith, length, drop, replicate}
+use Rattle.field.proofs.Base.{length-append, length-replicate, take-at, drop-at, drop-drop}
 use lib.Dec.{leb·zero}
-use lib.ListN.{length, drop, replicate, length-append, length-replicate}
-use lib.Seq.{take-at, drop-at, drop-drop}
 use Rattle.field.specs.Question.{Outcome, accepted, refused, after, isWidth}
 use Rattle.field.specs.declared.Verdict.{Verdict}
 use Rattle.field.specs.declared.Verdict.the-variants.{Passed, Refused}

@@ -1,13 +1,6 @@
 -- Blank slots: what is not, and what a blank slot gets when it is taken as a record. Assumes nothing.
-use mathlib.Core.Path.{_≡_, refl, sym, ap, _∙_}
-use mathlib.Core.Logic.{_⊎_, inl, inr}
-use mathlib.Core.Bool.{Bool, true, false, _&&_, _||_, false≢true}
-use mathlib.Core.List.{List, [], _∷_}
-use Prim.Native.Nat.{ℕ, _<_}
-use native.Mathlib.Omega.{arith}
-use borrow.Author.Tests.{eq-eqb, ne-eqb, eqb-true}
-use lib.Dec.{eqb}
-use lib.ListN.{length}
+use Rattle.field.proofs.Base.{_≡_, refl, sym, ap, _∙_, _⊎_, inl, inr, Bool, true, false, _&&_, _||_, false≢true, List, [], _∷_, ℕ, _<_, arith, eq-eqb}
+use Rattle.field.proofs.Base.{ne-eqb, eqb-true, eqb, length}
 use Rattle.field.specs.Question.{Outcome, accepted, refused, isWidth}
 use Rattle.field.specs.declared.Question.the-variants.{Width}
 use Rattle.field.specs.declared.Verdict.the-variants.{Refused as RefusedBy}

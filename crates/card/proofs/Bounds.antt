@@ -1,10 +1,5 @@
 -- How long lines are, and how far the numbers of a listing grow: at most two places of a record change. Assumes nothing.
-use mathlib.Core.Path.{_≡_, refl}
-use mathlib.Core.Bool.{Bool, true, false, cond}
-use mathlib.Core.List.{List}
-use Prim.Native.Nat.{ℕ, zero, suc, _+_, _*_, _≤_}
-use native.Mathlib.Omega.{arith}
-use lib.ListN.{length, length-append, length-take}
+use Rattle.field.proofs.Base.{_≡_, refl, Bool, true, false, cond, List, ℕ, zero, suc, _+_, _*_, _≤_, arith, length, length-append, length-take}
 use Rattle.field.specs.Question.{Outcome, accepted, refused}
 use Rattle.code.specs.Call.{withinOf}
 use Rattle.code.proofs.Demands.{few-changed}

@@ -1,15 +1,8 @@
 -- The card check. Assumes nothing.
-use mathlib.Core.Path.{_≡_, refl, sym, ap, _∙_, subst}
+use Rattle.field.proofs.Base.{_≡_, refl, sym, ap, _∙_, subst, Bool, true, false, not, false≢true, List, ℕ, zero, suc, _+_, _-_, _*_, _≤_, _<_, decLt}
+use Rattle.field.proofs.Base.{arith, not-true, not-false, length, take, drop, length-drop, take-all}
 use mathlib.Core.Logic.{_↔_}
-use mathlib.Core.Bool.{Bool, true, false, not, false≢true}
-use mathlib.Core.List.{List}
-use Prim.Native.Nat.{ℕ, zero, suc, _+_, _-_, _*_, _≤_, _<_}
-use native.Mathlib.Decide.{decLt}
-use native.Mathlib.Omega.{arith}
 use borrow.Author.Count.{below-more}
-use borrow.Author.Tests.{not-true, not-false}
-use lib.ListN.{length, take, drop, length-drop}
-use lib.Seq.{take-all}
 use Rattle.field.specs.declared.Question.{Question}
 use Rattle.code.specs.Call.{repair}
 use Rattle.code.specs.declared.Repair.{Repair}

@@ -1,14 +1,8 @@
 -- From batch to batch, whatever is carried and in whatever edition: `over` is a fold that may come in parts, size that of a slot.
 -- Assumes nothing.
-use mathlib.Core.Path.{_≡_, refl, sym, ap, _∙_}
-use mathlib.Core.Bool.{Bool, true}
-use mathlib.Core.List.{List, _++_}
-use Prim.Native.Nat.{ℕ, _+_, _*_, _^_, _≤_}
+use Rattle.field.proofs.Base.{_≡_, refl, sym, ap, _∙_, Bool, true, List, _++_, ℕ, _+_, _*_, _^_, _≤_, add-one, arith, length, length-append}
 use native.Mathlib.Nat.{suc-mul, mul-assoc}
-use native.Mathlib.Numerals.{add-one}
-use native.Mathlib.Omega.{arith}
 use lib.Dec.{lit≤}
-use lib.ListN.{length, length-append}
 use Rattle.field.specs.Question.{Outcome, accepted}
 use Rattle.card.specs.declared.Progress.{Progress}
 use Rattle.card.specs.Record.{mostChanges, recordOf, recordUpTo}

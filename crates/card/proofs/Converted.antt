@@ -1,13 +1,8 @@
 -- A slot written in the other edition, and the slots of the output. k and j are the numbers of erasure bytes, n that of slots. Assumes nothing.
-use mathlib.Core.Path.{_≡_, sym, ap, ap₂, _∙_}
-use mathlib.Core.List.{List, [], _∷_, _++_, append-assoc, append-nil}
-use Prim.Native.Nat.{ℕ, _+_, _-_, _*_, _≤_, _<_, min}
-use native.Mathlib.Decide.{ℕ-discrete}
-use native.Mathlib.Nat.{zero-mul, suc-mul}
-use native.Mathlib.Numerals.{add-one}
-use native.Mathlib.Omega.{arith}
-use lib.ListN.{length, take, drop, replicate, length-append, length-take, length-drop, length-replicate, drop-of-length-le}
-use lib.Seq.{take-all, take-at, drop-at, length-take-le, drop-drop}
+use Rattle.field.proofs.Base.{_≡_, sym, ap, ap₂, _∙_, List, [], _∷_, _++_, append-assoc, append-nil, ℕ, _+_, _-_, _*_, _≤_, _<_, min, ℕ-discrete}
+use Rattle.field.proofs.Base.{zero-mul, add-one, arith, length, take, drop, replicate, length-append, length-take, length-drop, length-replicate}
+use Rattle.field.proofs.Base.{drop-of-length-le, take-all, take-at, drop-at, length-take-le, drop-drop}
+use native.Mathlib.Nat.{suc-mul}
 use Rattle.card.specs.Record.{headerOf, sizeOf, erasureBytes}
 use Rattle.card.specs.Slots.{slotIn, overFirst}
 use Rattle.card.specs.Conversion.{oldErasureBytes, converted}

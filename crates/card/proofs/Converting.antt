@@ -1,14 +1,7 @@
 -- From the answers of the questions to the contracts of the two calls. Assumes nothing.
-use mathlib.Core.Path.{_≡_, refl, sym, ap, _∙_}
-use mathlib.Core.Bool.{Bool, true, false, _&&_, _||_}
-use mathlib.Core.List.{List}
-use Prim.Native.Nat.{ℕ, zero, suc, _*_, _/_, _%_, _<_}
-use native.Mathlib.Decide.{ℕ-discrete}
+use Rattle.field.proofs.Base.{_≡_, refl, sym, ap, _∙_, Bool, true, false, _&&_, _||_, List, ℕ, zero, suc, _*_, _/_, _%_, _<_, ℕ-discrete, arith}
+use Rattle.field.proofs.Base.{eq-eqb, ne-eqb, eqb-true, eqb, length}
 use native.Mathlib.Nat.{div-add-mod'}
-use native.Mathlib.Omega.{arith}
-use borrow.Author.Tests.{eq-eqb, ne-eqb, eqb-true}
-use lib.Dec.{eqb}
-use lib.ListN.{length}
 use Rattle.field.specs.Question.{ask}
 use Rattle.field.specs.declared.Question.{Question}
 use Rattle.field.specs.declared.Question.the-variants.{Width, Length, ErasureCount, Padding}

@@ -1,13 +1,6 @@
 -- The statements of specs/Demands.antt, each under its name in small letters. Assumes nothing.
-use mathlib.Core.Path.{_≡_, refl, sym, ap, ap₂, _∙_, subst}
-use mathlib.Core.Logic.{_≢_, _⊎_, inl, inr}
-use mathlib.Core.Bool.{Bool, true, false, cond, _||_, false≢true}
-use mathlib.Core.List.{List, []}
-use Prim.Native.Nat.{ℕ, zero, suc, _+_, _-_, _/_, _<_, min}
-use native.Mathlib.Omega.{arith}
-use lib.Dec.{eqb}
-use lib.ListN.{length, take, drop, replicate, length-take, length-drop}
-use lib.Seq.{take-at}
+use Rattle.field.proofs.Base.{_≡_, refl, sym, ap, ap₂, _∙_, subst, _≢_, _⊎_, inl, inr, Bool, true, false, cond, _||_, false≢true, List, [], ℕ, zero}
+use Rattle.field.proofs.Base.{suc, _+_, _-_, _/_, _<_, min, arith, eqb, length, take, drop, replicate, length-take, length-drop, take-at}
 use Rattle.field.specs.Question.{Outcome, accepted, refused, refusal, ask, after}
 use Rattle.field.specs.declared.Question.{Question}
 use Rattle.field.specs.declared.Question.the-variants.{Width, Length, ErasureCount, Padding}

@@ -1,13 +1,8 @@
 -- A slot of the old edition, and the same slot in the new one. Assumes nothing.
-use mathlib.Core.Path.{_≡_, refl, sym, ap, ap₂, _∙_}
-use mathlib.Core.Bool.{Bool, true, false, _&&_, _||_}
-use mathlib.Core.List.{List, [], _∷_}
-use Prim.Native.Nat.{ℕ, zero, suc, _+_, _-_, _≤_, _<_, min}
-use native.Mathlib.Omega.{arith}
-use borrow.Author.Tests.{eq-eqb, le-leb, leb-true}
-use lib.Dec.{eqb}
-use lib.ListN.{length, getD, take, drop, getD-replicate, length-take, length-drop}
-use lib.Seq.{drop-drop, getD-take, getD-drop}
+use Rattle.field.proofs.Base.{_≡_, refl, sym, ap, ap₂, _∙_, Bool, true, false, _&&_, _||_, List, [], _∷_, ℕ, zero, suc, _+_, _-_, _≤_, _<_, min}
+use Rattle.field.proofs.Base.{arith, eq-eqb, le-leb, leb-true, eqb, length, getD, take, drop, length-take, length-drop, drop-drop, getD-take}
+use Rattle.field.proofs.Base.{getD-drop}
+use lib.ListN.{getD-replicate}
 use Rattle.field.specs.Question.{Outcome, ask, after, isWidth}
 use Rattle.field.specs.declared.Question.the-variants.{Width, Length, ErasureCount, Padding}
 use Rattle.field.specs.declared.Verdict.{Verdict}

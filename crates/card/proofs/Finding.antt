@@ -1,11 +1,6 @@
 -- The card check of a card that comes in parts. Assumes nothing.
-use mathlib.Core.Path.{_≡_, refl, sym, ap, ap₂, _∙_, subst}
-use mathlib.Core.Bool.{Bool, true, false, cond, true≢false}
-use mathlib.Core.List.{List, []}
-use Prim.Native.Nat.{ℕ, zero, suc, _+_, _-_, _≤_}
-use native.Mathlib.Nat.{add-zero}
-use native.Mathlib.Omega.{arith}
-use lib.ListN.{length}
+use Rattle.field.proofs.Base.{_≡_, refl, sym, ap, ap₂, _∙_, subst, Bool, true, false, cond, true≢false, List, [], ℕ, zero, suc, _+_, _-_, _≤_}
+use Rattle.field.proofs.Base.{add-zero, arith, length}
 use Rattle.field.specs.Question.{refusal}
 use Rattle.field.specs.declared.Question.{Question}
 use Rattle.code.specs.Call.{repair}

@@ -1,17 +1,10 @@
 -- The questions of a conversion over a card that comes in parts: what they find in parts is what they find in the whole card, and that is
 -- the conversion's verdict and the first offending record. Assumes nothing.
-use mathlib.Core.Path.{_≡_, refl, sym, ap, _∙_, subst}
-use mathlib.Core.Bool.{Bool, true, false}
-use mathlib.Core.List.{List, [], _∷_, _++_}
-use mathlib.Core.Logic.{_⊎_, inl, inr, ⊎-elim}
-use Prim.Native.Nat.{ℕ, zero, suc, _+_, _-_, _*_, _/_, _%_, _≤_, _<_, min}
-use native.Mathlib.Decide.{ℕ-discrete}
-use native.Mathlib.Nat.{add-zero, div-mul-le-self}
-use native.Mathlib.Omega.{arith}
+use Rattle.field.proofs.Base.{_≡_, refl, sym, ap, _∙_, subst, Bool, true, false, List, [], _∷_, _++_, _⊎_, inl, inr, ⊎-elim, ℕ, zero, suc, _+_, _-_}
+use Rattle.field.proofs.Base.{_*_, _/_, _%_, _≤_, _<_, min, ℕ-discrete, add-zero, arith, ltb-true, ltb-false, eq-eqb, ne-eqb, eqb-true, eqb, ltb}
+use Rattle.field.proofs.Base.{length, getD}
+use native.Mathlib.Nat.{div-mul-le-self}
 use borrow.Author.Count.{below-more}
-use borrow.Author.Tests.{ltb-true, ltb-false, eq-eqb, ne-eqb, eqb-true}
-use lib.Dec.{eqb, ltb}
-use lib.ListN.{length, getD}
 use Rattle.field.specs.Question.{ask}
 use Rattle.field.specs.declared.Question.the-variants.{Length}
 use Rattle.field.specs.declared.Verdict.the-variants.{Passed, Refused}

@@ -1,15 +1,8 @@
 -- The layout of a record, and what its own questions tell of it. Assumes nothing.
-use mathlib.Core.Path.{_≡_, refl, sym, ap, ap₂, _∙_}
-use mathlib.Core.Logic.{_≢_}
-use mathlib.Core.Bool.{Bool, true, false, not, _&&_}
-use mathlib.Core.List.{List, [], _∷_}
-use Prim.Native.Nat.{ℕ, zero, suc, _+_, _-_, _≤_, _<_}
-use native.Mathlib.Numerals.{add-one}
-use native.Mathlib.Omega.{arith}
-use borrow.Author.Tests.{eq-eqb, ne-eqb, eqb-true, le-leb, lt-leb, leb-true, not-true, not-false}
-use lib.Dec.{eqb, leb}
-use lib.ListN.{length, getD, take, drop, replicate, drop-of-length-le, length-drop}
-use lib.Seq.{drop-cons, take-all, take-take}
+use Rattle.field.proofs.Base.{_≡_, refl, sym, ap, ap₂, _∙_, _≢_, Bool, true, false, not, _&&_, List, [], _∷_, ℕ, zero, suc, _+_, _-_, _≤_, _<_}
+use Rattle.field.proofs.Base.{add-one, arith, eq-eqb, ne-eqb, eqb-true, le-leb, lt-leb, leb-true, not-true, not-false, eqb, leb, length, getD, take}
+use Rattle.field.proofs.Base.{drop, replicate, drop-of-length-le, length-drop, drop-cons, take-all}
+use lib.Seq.{take-take}
 use Rattle.field.specs.Question.{ask, isWidth}
 use Rattle.field.specs.declared.Question.the-variants.{Width, Length, ErasureCount, Padding, FourErasures}
 use Rattle.field.specs.declared.Verdict.the-variants.{Passed, Refused}

@@ -1,9 +1,5 @@
 -- How many of a conversion's questions are passed: of one slot, of slot after slot, and the verdict. Assumes nothing.
-use mathlib.Core.Path.{_≡_, refl, sym, _∙_}
-use mathlib.Core.Bool.{Bool, true, false, _&&_}
-use mathlib.Core.List.{List, [], _∷_}
-use Prim.Native.Nat.{ℕ, suc, min}
-use native.Mathlib.Omega.{arith}
+use Rattle.field.proofs.Base.{_≡_, refl, sym, _∙_, Bool, true, false, _&&_, List, [], _∷_, ℕ, suc, min, arith}
 use Rattle.field.specs.Question.{ask}
 use Rattle.field.specs.declared.Question.the-variants.{Width, ErasureCount, Padding, FourErasures}
 use Rattle.field.specs.declared.Verdict.the-variants.{Passed}

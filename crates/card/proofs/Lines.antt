@@ -1,13 +1,7 @@
 -- Listing slot by slot, and a listing in parts: the lines and the progress of two parts are those of the first and then those of the
 -- second. Assumes nothing.
-use borrow.Author.Tests.{lt-ltb, le-ltb}
-use mathlib.Core.Path.{_≡_, refl, sym, ap, ap₂, _∙_, subst}
-use mathlib.Core.Bool.{Bool, true, false, cond}
-use mathlib.Core.List.{List, [], _++_, append-assoc, append-nil}
-use Prim.Native.Nat.{ℕ, _+_, _*_, _≤_, _<_}
-use native.Mathlib.Omega.{arith}
-use lib.ListN.{length, getD, length-append, length-take, length-drop}
-use lib.Seq.{take-all, take-at}
+use Rattle.field.proofs.Base.{lt-ltb, le-ltb, _≡_, refl, sym, ap, ap₂, _∙_, subst, Bool, true, false, cond, List, [], _++_, append-assoc, append-nil}
+use Rattle.field.proofs.Base.{ℕ, _+_, _*_, _≤_, _<_, arith, length, getD, length-append, length-take, length-drop, take-all, take-at}
 use Rattle.field.specs.Question.{Outcome}
 use Rattle.card.specs.declared.Progress.{Progress}
 use Rattle.card.specs.declared.text.Listed.{Listed}

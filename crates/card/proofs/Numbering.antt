@@ -1,9 +1,5 @@
 -- Record numbers: what the test of one means, both ways. Assumes nothing.
-use borrow.Author.Tests.{le-leb, lt-leb, leb-true}
-use mathlib.Core.Path.{_≡_}
-use mathlib.Core.Bool.{true, false}
-use Prim.Native.Nat.{ℕ, _≤_, _<_}
-use lib.Dec.{leb}
+use Rattle.field.proofs.Base.{le-leb, lt-leb, leb-true, _≡_, true, false, ℕ, _≤_, _<_, leb}
 use Rattle.field.proofs.Ask.{and-true-left, and-true-right}
 use Rattle.card.specs.Card.{isNumber}
 

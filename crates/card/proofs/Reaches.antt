@@ -1,11 +1,6 @@
 -- A record restored up to a longest reach: as with its own r, or refused; restored again; and up to two. Assumes nothing.
-use mathlib.Core.Path.{_≡_, refl, sym, ap, fun-ext, _∙_}
-use mathlib.Core.List.{List}
-use Prim.Native.Nat.{ℕ, _≤_, _<_}
-use native.Mathlib.Decide.{decLt}
-use native.Mathlib.Nat.{le-refl}
-use native.Mathlib.Omega.{arith}
-use lib.ListN.{length}
+use Rattle.field.proofs.Base.{_≡_, refl, sym, ap, _∙_, List, ℕ, _≤_, _<_, decLt, le-refl, arith, length}
+use mathlib.Core.Path.{fun-ext}
 use Rattle.field.specs.Question.{Outcome, accepted, refused}
 use Rattle.field.specs.declared.Verdict.the-variants.{Passed}
 use Rattle.code.specs.Near.{distance}

@@ -1,10 +1,7 @@
 -- The restored record. Assumes nothing.
-use mathlib.Core.Path.{_≡_, refl, sym, ap, ap₂, _∙_, subst₂}
-use mathlib.Core.List.{List, _∷_, _++_}
-use Prim.Native.Nat.{ℕ, _+_, _-_, min}
-use native.Mathlib.Omega.{arith}
-use lib.ListN.{length, take, drop, replicate, take-append-drop, length-drop}
-use lib.Seq.{drop-at, drop-drop, length-take-le}
+use Rattle.field.proofs.Base.{_≡_, refl, sym, ap, ap₂, _∙_, List, _∷_, _++_, ℕ, _+_, _-_, min, arith, length, take, drop, replicate, take-append-drop}
+use Rattle.field.proofs.Base.{length-drop, drop-at, drop-drop, length-take-le}
+use mathlib.Core.Path.{subst₂}
 use Rattle.field.specs.Question.{Outcome, accepted, refused, refusal, after}
 use Rattle.field.specs.declared.Question.{Question}
 use Rattle.field.specs.declared.Question.the-variants.{Length}

@@ -1,11 +1,5 @@
 -- The refusals that restoring a record can give: their numbers go up to 16, that of the reach. Assumes nothing.
-use mathlib.Core.Path.{_≡_, subst}
-use mathlib.Core.Bool.{Bool, true, false, _&&_}
-use mathlib.Core.List.{List}
-use Prim.Native.Nat.{ℕ, _≤_}
-use native.Mathlib.Omega.{arith}
-use lib.Dec.{eqb, leb}
-use lib.ListN.{length}
+use Rattle.field.proofs.Base.{_≡_, subst, Bool, true, false, _&&_, List, ℕ, _≤_, arith, eqb, leb, length}
 use Rattle.field.specs.Question.{Outcome, refused, refusal, ask, after, isWidth}
 use Rattle.field.specs.declared.Question.{Question}
 use Rattle.field.specs.declared.Question.the-variants.{Width, Length, ErasureCount, Padding}

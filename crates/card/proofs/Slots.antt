@@ -1,14 +1,7 @@
 -- Slots of a card, one after the other, and of two parts. k is the number of erasure bytes, n that of slots. Assumes nothing.
-use mathlib.Core.Path.{_≡_, sym, ap, _∙_, subst}
-use mathlib.Core.Bool.{false}
-use mathlib.Core.List.{List, _++_}
-use Prim.Native.Nat.{ℕ, _+_, _-_, _*_, _/_, _%_, _≤_, _<_}
-use native.Mathlib.Decide.{ℕ-discrete}
+use Rattle.field.proofs.Base.{_≡_, sym, ap, _∙_, subst, false, List, _++_, ℕ, _+_, _-_, _*_, _/_, _%_, _≤_, _<_, ℕ-discrete, arith, eq-eqb, ne-eqb}
+use Rattle.field.proofs.Base.{eqb, length, take, drop, length-take, length-drop}
 use native.Mathlib.Nat.{suc-mul, add-mul, mul-le-mul-right, div-add-mod', mul-div-cancel}
-use native.Mathlib.Omega.{arith}
-use borrow.Author.Tests.{eq-eqb, ne-eqb}
-use lib.Dec.{eqb}
-use lib.ListN.{length, take, drop, length-take, length-drop}
 use lib.Seq.{take-append-le, drop-append-le, drop-append-add}
 use Rattle.card.specs.Record.{sizeOf}
 use Rattle.card.specs.Slots.{slotIn}

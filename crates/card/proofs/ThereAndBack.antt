@@ -1,14 +1,8 @@
 -- There and back, over whole cards. Assumes nothing.
-use mathlib.Core.Path.{_≡_, refl, sym, ap, ap₂, _∙_, subst}
-use mathlib.Core.Bool.{Bool, true, _&&_}
-use mathlib.Core.List.{List, _++_}
-use Prim.Native.Nat.{ℕ, zero, suc, _*_, _/_, _%_, _≤_, _<_}
-use native.Mathlib.Nat.{zero-mul, suc-mul, mul-div-cancel, mul-mod-left}
-use native.Mathlib.Omega.{arith}
-use borrow.Author.Tests.{eq-eqb}
-use lib.Dec.{eqb}
-use lib.ListN.{length, take}
-use lib.Seq.{take-all, take-add}
+use Rattle.field.proofs.Base.{_≡_, refl, sym, ap, ap₂, _∙_, subst, Bool, true, _&&_, List, _++_, ℕ, zero, suc, _*_, _/_, _%_, _≤_, _<_, zero-mul}
+use Rattle.field.proofs.Base.{arith, eq-eqb, eqb, length, take, take-all}
+use native.Mathlib.Nat.{suc-mul, mul-div-cancel, mul-mod-left}
+use lib.Seq.{take-add}
 use Rattle.field.specs.Question.{accepted, ask}
 use Rattle.field.specs.declared.Question.{Question}
 use Rattle.field.specs.declared.Question.the-variants.{Width, Length, ErasureCount, Padding, FourErasures}

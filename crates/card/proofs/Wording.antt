@@ -1,9 +1,5 @@
 -- Refusals in words. Assumes nothing.
-use mathlib.Core.Path.{_≡_, sym, ap, _∙_, subst}
-use mathlib.Core.List.{List}
-use Prim.Native.Nat.{ℕ, _+_, _≤_}
-use native.Mathlib.Omega.{arith}
-use lib.ListN.{length}
+use Rattle.field.proofs.Base.{_≡_, sym, ap, _∙_, subst, List, ℕ, _+_, _≤_, arith, length}
 use Rattle.field.specs.Question.{refusal}
 use Rattle.field.specs.declared.Question.{Question}
 use Rattle.card.specs.Words.{words}

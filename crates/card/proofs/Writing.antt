@@ -1,15 +1,10 @@
 -- Writing text into a buffer: one text behind another is both in one, and a number's digits one by one. Assumes nothing.
-use borrow.Author.Tests.{lt-ltb, le-ltb}
-use mathlib.Core.Path.{_≡_, refl, sym, ap, ap₂, _∙_}
-use mathlib.Core.Bool.{Bool, cond, true, false}
-use mathlib.Core.List.{List, [], _∷_, _++_, append-assoc}
-use Prim.Native.Nat.{ℕ, zero, suc, _+_, _/_, _%_, _^_, _≤_, zero-le, suc-le-suc, _<_}
-use native.Mathlib.Nat.{add-zero, pow-suc, div-lt-iff-lt-mul}
-use native.Mathlib.Numerals.{add-one}
-use native.Mathlib.Omega.{arith}
-use lib.Dec.{ltb}
-use lib.ListN.{length, getD, set, take, drop, take-append-drop, length-append, length-take, length-drop}
-use lib.Seq.{take-suc, take-all, take-at, drop-append-add, drop-drop, set-split}
+use Rattle.field.proofs.Base.{lt-ltb, le-ltb, _≡_, refl, sym, ap, ap₂, _∙_, Bool, cond, true, false, List, [], _∷_, _++_, append-assoc, ℕ, zero, suc}
+use Rattle.field.proofs.Base.{_+_, _/_, _%_, _^_, _≤_, zero-le, _<_, add-zero, add-one, arith, ltb, length, getD, set, take, drop, take-append-drop}
+use Rattle.field.proofs.Base.{length-append, length-take, length-drop, take-all, take-at, drop-drop}
+use Prim.Native.Nat.{suc-le-suc}
+use native.Mathlib.Nat.{pow-suc, div-lt-iff-lt-mul}
+use lib.Seq.{take-suc, drop-append-add, set-split}
 use Rattle.card.specs.Listing.{digitsFrom, decimal}
 use Rattle.card.specs.Placed.{placed, Writes}
 

@@ -1,6 +1,5 @@
 -- Facts that the laws of the field give: sums that cancel, squares, powers of powers. Assumes nothing.
-use mathlib.Core.Path.{_≡_, sym, ap, _∙_}
-use Prim.Native.Nat.{ℕ, _*_, _<_}
+use Rattle.field.proofs.Base.{_≡_, sym, ap, _∙_, ℕ, _*_, _<_}
 use native.Mathlib.Nat.{mul-comm}
 use Rattle.field.specs.Polynomial.{add}
 use Rattle.field.specs.Field.{order, product, power}

@@ -1,12 +1,6 @@
 -- Eight neighbouring bytes at a time: what a test of their number says of each, and a loop that passes over them. Assumes nothing.
-use mathlib.Core.Path.{_≡_, sym, ap₂, _∙_, subst}
-use mathlib.Core.List.{List}
-use Prim.Native.Nat.{ℕ, _+_, _-_, _*_, _≤_, _<_}
-use native.Mathlib.Nat.{not-suc-le-zero}
-use native.Mathlib.Decide.{decLt}
-use native.Mathlib.Omega.{arith}
+use Rattle.field.proofs.Base.{_≡_, sym, ap₂, _∙_, subst, List, ℕ, _+_, _-_, _*_, _≤_, _<_, not-suc-le-zero, decLt, arith, length}
 use lib.Bits.{bitAnd, bitOr, or-add-and, or-lt, and-le-l, and-le-r}
-use lib.ListN.{length}
 use Rattle.field.specs.Sum.{at}
 use Rattle.field.specs.inner.Lanes.{Block}
 use Rattle.field.proofs.Packing.{lanes-and, lanes-zero}

@@ -1,13 +1,8 @@
 -- A table of cases holds if a test that antt computes passes: the encoder's words are compared, a restored word is a codeword near enough,
 -- and of a refused word every choice of r extra places and of the symbols there is tried. Assumes nothing.
-use mathlib.Core.Path.{_≡_, refl, sym, ap, _∙_, subst}
-use mathlib.Core.Bool.{Bool, true, false, not, _&&_}
-use mathlib.Core.List.{List, [], _∷_, _++_, map}
-use Prim.Native.Nat.{ℕ, zero, suc, _≤_, _<_}
-use native.Mathlib.Nat.{not-suc-le-zero, le-of-suc-le-suc}
-use native.Mathlib.Omega.{arith}
-use lib.Dec.{T, eqb, leb, ltb, eqb→eq, leb→le, ltb→lt, T-not}
-use lib.ListN.{length}
+use Rattle.field.proofs.Base.{_≡_, refl, sym, ap, _∙_, subst, Bool, true, false, not, _&&_, List, [], _∷_, _++_, map, ℕ, zero, suc, _≤_, _<_}
+use Rattle.field.proofs.Base.{not-suc-le-zero, le-of-suc-le-suc, arith, T, eqb, leb, ltb, eqb→eq, length}
+use lib.Dec.{leb→le, ltb→lt, T-not}
 use Rattle.field.specs.Field.{order}
 use Rattle.field.specs.Question.{Outcome, accepted, refused, refusal, allBelow}
 use Rattle.field.specs.declared.Question.the-variants.{Correctable}

@@ -1,8 +1,6 @@
 -- The cases hold, the starred ones and the codeword of width 4 by a computed test; and with that codeword the distance at width 4 is not 5.
 -- Assumes nothing.
-use mathlib.Core.List.{List, [], _∷_, _++_}
-use native.Mathlib.Omega.{arith}
-use lib.Dec.{T, lit<}
+use Rattle.field.proofs.Base.{List, [], _∷_, _++_, arith, T, lit<}
 use Rattle.field.specs.inner.Operand.{arithmetic}
 use Rattle.code.specs.Word.{sum, at, Codeword}
 use Rattle.code.specs.inner.Place.{column}

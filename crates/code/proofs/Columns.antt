@@ -1,13 +1,7 @@
 -- The code's matrix by columns: a word's syndromes are the sum of the columns, each times its symbol, and what the erased places add to
 -- them is the combination of the erased columns. Assumes nothing.
-use mathlib.Core.Path.{_≡_, refl, sym, ap, ap₂, _∙_}
-use mathlib.Core.Logic.{_≢_}
-use mathlib.Core.Bool.{Bool, true, false, cond, _||_}
-use mathlib.Core.List.{List, [], _∷_, map}
-use Prim.Native.Nat.{ℕ, _+_, _-_, _*_, _≤_, _<_}
-use native.Mathlib.Omega.{arith}
-use borrow.Author.Tests.{eq-eqb, ne-eqb, lt-ltb, le-ltb}
-use lib.Dec.{eqb, ltb}
+use Rattle.field.proofs.Base.{_≡_, refl, sym, ap, ap₂, _∙_, _≢_, Bool, true, false, cond, _||_, List, [], _∷_, map, ℕ, _+_, _-_, _*_, _≤_, _<_, arith}
+use Rattle.field.proofs.Base.{eq-eqb, ne-eqb, lt-ltb, le-ltb, eqb, ltb}
 use Rattle.field.specs.Polynomial.{add}
 use Rattle.field.specs.Field.{order, product, power, α}
 use Rattle.field.specs.Question.{allBelow}

@@ -1,11 +1,7 @@
 -- The demands of specs/Demands.antt, each under its name in small letters. Assumes nothing.
-use mathlib.Core.Path.{_≡_, refl, sym, ap, _∙_, subst}
+use Rattle.field.proofs.Base.{_≡_, refl, sym, ap, _∙_, subst, Bool, true, false, cond, true≢false, List, [], _∷_, map, ℕ, _+_, _-_, _/_, arith}
+use Rattle.field.proofs.Base.{length}
 use mathlib.Core.Logic.{_↔_}
-use mathlib.Core.Bool.{Bool, true, false, cond, true≢false}
-use mathlib.Core.List.{List, [], _∷_, map}
-use Prim.Native.Nat.{ℕ, _+_, _-_, _/_}
-use native.Mathlib.Omega.{arith}
-use lib.ListN.{length}
 use Rattle.field.specs.Question.{Outcome, accepted, refused, after, isWidth}
 use Rattle.field.specs.declared.Verdict.{Verdict}
 use Rattle.field.specs.declared.Verdict.the-variants.{Passed, Refused as RefusedBy}

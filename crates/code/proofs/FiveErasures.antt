@@ -1,13 +1,7 @@
 -- The cases with five erasures. Assumes nothing.
-use mathlib.Core.Path.{_≡_, refl, sym, ap, ap₂, _∙_}
-use mathlib.Core.Bool.{false, _&&_}
-use mathlib.Core.List.{List, [], _∷_, map}
-use Prim.Native.Nat.{ℕ, _+_, _≤_}
-use native.Mathlib.Omega.{arith}
-use borrow.Author.Tests.{ne-eqb}
-use lib.Dec.{T, leb, leb→le}
-use lib.ListN.{length, length-drop}
-use lib.Seq.{getD-drop, ext-getD}
+use Rattle.field.proofs.Base.{_≡_, refl, sym, ap, ap₂, _∙_, false, _&&_, List, [], _∷_, map, ℕ, _+_, _≤_, arith, ne-eqb, T, leb, length, length-drop}
+use Rattle.field.proofs.Base.{getD-drop, ext-getD}
+use lib.Dec.{leb→le}
 use Rattle.field.specs.Polynomial.{add}
 use Rattle.field.specs.Field.{product}
 use Rattle.field.specs.inner.Operand.{arithmetic}

@@ -1,9 +1,5 @@
 -- The length of a word at each width, and what it tells of the width. Assumes nothing.
-use mathlib.Core.Path.{_≡_, refl, ap, _∙_}
-use mathlib.Core.Logic.{_≢_}
-use mathlib.Core.Bool.{Bool, true, false, cond}
-use Prim.Native.Nat.{ℕ, _+_, _≤_}
-use native.Mathlib.Omega.{arith}
+use Rattle.field.proofs.Base.{_≡_, refl, ap, _∙_, _≢_, Bool, true, false, cond, ℕ, _+_, _≤_, arith}
 use Rattle.field.specs.Question.{isWidth}
 use Rattle.field.specs.inner.Operand.{orderOf}
 use Rattle.field.proofs.Ask.{width-yes, width-no, order-is}

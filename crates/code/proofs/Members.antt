@@ -1,15 +1,9 @@
 -- Lists of places: their entries, that they are distinct and below a bound, and how often each occurs. Assumes nothing.
-use mathlib.Core.Path.{_≡_, refl, sym, ap, _∙_}
-use mathlib.Core.Logic.{_≢_}
-use mathlib.Core.Bool.{Bool, true, false, cond, not, _&&_, _||_, false≢true, or-assoc}
-use mathlib.Core.List.{List, [], _∷_, _++_}
-use Prim.Native.Nat.{ℕ, zero, suc, _+_, _≤_, _<_, zero-le}
-use native.Mathlib.Nat.{zero-add, le-refl}
-use native.Mathlib.Decide.{ℕ-discrete}
-use native.Mathlib.Omega.{arith}
-use borrow.Author.Tests.{not-true, ltb-false, lt-ltb, le-ltb, eqb-true, eq-eqb, ne-eqb}
-use lib.Dec.{eqb, ltb}
-use lib.ListN.{length}
+use Rattle.field.proofs.Base.{_≡_, refl, sym, ap, _∙_, _≢_, Bool, true, false, cond, not, _&&_, _||_, false≢true, List, [], _∷_, _++_, ℕ, zero, suc}
+use Rattle.field.proofs.Base.{_+_, _≤_, _<_, zero-le, le-refl, ℕ-discrete, arith, not-true, ltb-false, lt-ltb, le-ltb, eqb-true, eq-eqb, ne-eqb, eqb}
+use Rattle.field.proofs.Base.{ltb, length}
+use mathlib.Core.Bool.{or-assoc}
+use native.Mathlib.Nat.{zero-add}
 use Rattle.field.specs.Question.{allBelow}
 use Rattle.field.proofs.Ask.{and-true-left, and-true-right}
 use Rattle.code.specs.Erasure.{member, distinct, total}

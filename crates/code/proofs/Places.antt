@@ -1,12 +1,8 @@
 -- Arrays of places by their numbers, and the loops over them: each is a loop over numbers. Assumes nothing.
-use mathlib.Core.Path.{_≡_, refl, sym, ap, ap₂, _∙_}
-use mathlib.Core.Bool.{true}
-use mathlib.Core.List.{List, [], _∷_, _++_, map}
-use Prim.Native.Nat.{ℕ, zero, suc, _+_, _≤_, _<_}
-use native.Mathlib.Numerals.{add-one}
-use native.Mathlib.Omega.{arith}
-use lib.ListN.{length, getD, set, take, drop, length-map}
-use lib.Seq.{take-suc, take-suc-set, getD-take, length-take-le}
+use Rattle.field.proofs.Base.{_≡_, refl, sym, ap, ap₂, _∙_, true, List, [], _∷_, _++_, map, ℕ, zero, suc, _+_, _≤_, _<_, add-one, arith, length, getD}
+use Rattle.field.proofs.Base.{set, take, drop, getD-take, length-take-le}
+use lib.ListN.{length-map}
+use lib.Seq.{take-suc, take-suc-set}
 use Rattle.code.specs.declared.place.Place.{Place}
 use Rattle.code.specs.Erasure.{member}
 use Rattle.code.specs.inner.Place.{numbers}

@@ -1,16 +1,10 @@
 -- What the tests of the questions mean, both ways, and how each steps along a list, for the loops that carry it out. Assumes nothing.
-use mathlib.Core.Path.{_≡_, refl, sym, ap, _∙_}
-use mathlib.Core.Logic.{_≢_, _⊎_, inl, inr, ⊎-elim}
-use mathlib.Core.Bool.{Bool, true, false, not, _&&_, _||_, false≢true, or-true}
-use mathlib.Core.List.{List, [], _∷_}
-use Prim.Native.Nat.{ℕ, zero, suc, _+_, _-_, _≤_, _<_}
-use native.Mathlib.Nat.{le-of-suc-le-suc, not-suc-le-zero, zero-add, add-zero, add-suc, suc-add}
-use native.Mathlib.Numerals.{add-one}
-use native.Mathlib.Omega.{arith}
-use borrow.Author.Tests.{lt-ltb, le-ltb, ltb-true, eq-eqb, ne-eqb, eqb-true, eqb-false}
-use lib.Dec.{ltb, eqb, eqb·suc-zero}
-use lib.ListN.{length, getD, take, drop, drop-of-length-le}
-use lib.Seq.{drop-cons}
+use Rattle.field.proofs.Base.{_≡_, refl, sym, ap, _∙_, _≢_, _⊎_, inl, inr, ⊎-elim, Bool, true, false, not, _&&_, _||_, false≢true, List, [], _∷_, ℕ}
+use Rattle.field.proofs.Base.{zero, suc, _+_, _-_, _≤_, _<_, le-of-suc-le-suc, not-suc-le-zero, add-zero, add-one, arith, lt-ltb, le-ltb, ltb-true}
+use Rattle.field.proofs.Base.{eq-eqb, ne-eqb, eqb-true, eqb-false, ltb, eqb, length, getD, take, drop, drop-of-length-le, drop-cons}
+use mathlib.Core.Bool.{or-true}
+use native.Mathlib.Nat.{zero-add, add-suc, suc-add}
+use lib.Dec.{eqb·suc-zero}
 use Rattle.field.specs.Question.{allBelow}
 use Rattle.field.proofs.Ask.{and-true-left, and-true-right}
 use Rattle.code.specs.inner.Block.{Run}

@@ -1,11 +1,5 @@
 -- Two lists are compared byte by byte. Assumes nothing.
-use mathlib.Core.Path.{_≡_, refl, sym, ap, ap₂, _∙_}
-use mathlib.Core.Bool.{Bool, true, false}
-use mathlib.Core.List.{List, [], _∷_}
-use Prim.Native.Nat.{ℕ}
-use native.Mathlib.Omega.{arith}
-use borrow.Author.Tests.{eq-eqb, eqb-true}
-use lib.Dec.{eqb}
+use Rattle.field.proofs.Base.{_≡_, refl, sym, ap, ap₂, _∙_, Bool, true, false, List, [], _∷_, ℕ, arith, eq-eqb, eqb-true, eqb}
 use Rattle.field.proofs.Ask.{and-true-left, and-true-right}
 use Rattle.code.specs.Call.{sameBytes}
 

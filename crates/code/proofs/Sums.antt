@@ -1,9 +1,7 @@
 -- Totals of a function's first values, and the syndromes, which are linear. Assumes nothing.
-use mathlib.Core.Path.{_≡_, refl, sym, ap, ap₂, _∙_, subst}
-use Prim.Native.Nat.{ℕ, zero, suc, _+_, _≤_, _<_, zero-le}
-use native.Mathlib.Nat.{add-zero, add-suc, add-assoc, not-suc-le-zero, le-refl}
-use native.Mathlib.Decide.{ℕ-discrete}
-use native.Mathlib.Omega.{arith}
+use Rattle.field.proofs.Base.{_≡_, refl, sym, ap, ap₂, _∙_, subst, ℕ, zero, suc, _+_, _≤_, _<_, zero-le, add-zero, not-suc-le-zero, le-refl}
+use Rattle.field.proofs.Base.{ℕ-discrete, arith}
+use native.Mathlib.Nat.{add-suc, add-assoc}
 use Rattle.field.specs.Polynomial.{add}
 use Rattle.field.specs.Field.{order, product}
 use Rattle.field.proofs.Laws.{IsField}

@@ -1,14 +1,6 @@
 -- A line without its carriage return, and a text cut into columns. Assumes nothing.
-use mathlib.Core.Path.{_≡_, refl, sym, ap, _∙_}
-use mathlib.Core.Bool.{Bool, true, false, cond}
-use mathlib.Core.List.{List, [], _∷_}
-use Prim.Native.Nat.{ℕ, suc, _+_, _-_, _≤_, _<_}
-use native.Mathlib.Numerals.{add-one}
-use native.Mathlib.Omega.{arith}
-use borrow.Author.Tests.{eq-eqb, ne-eqb}
-use lib.Dec.{eqb}
-use lib.ListN.{length, getD, take, drop, drop-of-length-le, length-drop}
-use lib.Seq.{drop-cons, drop-drop, take-all}
+use Rattle.field.proofs.Base.{_≡_, refl, sym, ap, _∙_, Bool, true, false, cond, List, [], _∷_, ℕ, suc, _+_, _-_, _≤_, _<_, add-one, arith, eq-eqb}
+use Rattle.field.proofs.Base.{ne-eqb, eqb, length, getD, take, drop, drop-of-length-le, length-drop, drop-cons, drop-drop, take-all}
 use Rattle.csv.specs.Text.{separator}
 use Rattle.csv.specs.Reading.{carriageReturn, trimmed, firstColumn, otherColumns}
 

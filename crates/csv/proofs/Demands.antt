@@ -1,5 +1,5 @@
 -- The demands of specs/Demands.antt, each under its name in small letters. Assumes nothing.
-use mathlib.Core.Path.{ap, _∙_}
+use Rattle.field.proofs.Base.{ap, _∙_}
 use Rattle.card.proofs.Folding.{in-parts as over-parts}
 use Rattle.csv.specs.Text.{slotTallied, sheetsText}
 use Rattle.csv.specs.Making.{cardOf}

@@ -1,11 +1,7 @@
 -- The digits of small numbers, and the size of a date's numbers. Assumes nothing.
-use mathlib.Core.Path.{_≡_, refl, sym, ap, ap₂, _∙_}
-use mathlib.Core.Bool.{Bool, true, false, cond}
-use mathlib.Core.List.{List, [], _∷_, _++_, append-assoc}
-use Prim.Native.Nat.{ℕ, _+_, _/_, _%_, _^_, _≤_, _<_}
-use native.Mathlib.Omega.{arith}
-use borrow.Author.Tests.{ne-eqb, leb-true, leb-false, ltb-true, ltb-false}
-use lib.Dec.{eqb, leb, ltb}
+use Rattle.field.proofs.Base.{_≡_, refl, sym, ap, ap₂, _∙_, Bool, true, false, cond, List, [], _∷_, _++_, append-assoc, ℕ, _+_, _/_, _%_, _^_, _≤_}
+use Rattle.field.proofs.Base.{_<_, arith, ne-eqb, leb-true, ltb-true, ltb-false, eqb, leb, ltb}
+use borrow.Author.Tests.{leb-false}
 use Rattle.field.proofs.Ask.{and-true-left, and-true-right}
 use Rattle.card.specs.Listing.{decimal}
 use Rattle.card.proofs.Writing.{lastDigit, decimal-one, decimal-more}

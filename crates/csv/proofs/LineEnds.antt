@@ -1,13 +1,7 @@
 -- Where a line of a text ends: byte by byte. Assumes nothing.
-use mathlib.Core.Path.{_≡_, sym, ap, ap₂, _∙_}
-use mathlib.Core.Bool.{Bool, cond}
-use mathlib.Core.List.{List, [], _∷_, _++_, append-nil}
-use Prim.Native.Nat.{ℕ, suc, _+_, _-_, _≤_, _<_}
-use native.Mathlib.Numerals.{add-one}
-use native.Mathlib.Omega.{arith}
-use borrow.Author.Tests.{eq-eqb, ne-eqb}
-use lib.ListN.{length, getD, take, drop, drop-of-length-le, length-drop}
-use lib.Seq.{take-suc, take-all, drop-cons, getD-drop}
+use Rattle.field.proofs.Base.{_≡_, sym, ap, ap₂, _∙_, Bool, cond, List, [], _∷_, _++_, append-nil, ℕ, suc, _+_, _-_, _≤_, _<_, add-one, arith, eq-eqb}
+use Rattle.field.proofs.Base.{ne-eqb, length, getD, take, drop, drop-of-length-le, length-drop, take-all, drop-cons, getD-drop}
+use lib.Seq.{take-suc}
 use Rattle.card.specs.Listing.{newline}
 use Rattle.csv.specs.Making.{lastLine, linesFrom}
 use Rattle.csv.specs.inner.Taking.{OneLine}

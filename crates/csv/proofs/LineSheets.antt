@@ -1,12 +1,6 @@
 -- What a line stands for are the symbols of a sheet. Assumes nothing.
-use mathlib.Core.Path.{_≡_, refl, sym, ap, _∙_, subst}
-use mathlib.Core.Bool.{Bool, true, false, cond, _&&_}
-use mathlib.Core.List.{List, [], _∷_, _++_}
-use Prim.Native.Nat.{ℕ, zero, suc, _+_, _-_, _<_}
-use native.Mathlib.Omega.{arith}
-use borrow.Author.Tests.{ltb-true}
-use lib.Dec.{eqb, leb, ltb}
-use lib.ListN.{length, getD, length-append}
+use Rattle.field.proofs.Base.{_≡_, refl, sym, ap, _∙_, subst, Bool, true, false, cond, _&&_, List, [], _∷_, _++_, ℕ, zero, suc, _+_, _-_, _<_, arith}
+use Rattle.field.proofs.Base.{ltb-true, eqb, leb, ltb, length, getD, length-append}
 use lib.Seq.{getD-append-add}
 use Rattle.field.proofs.Ask.{and-true-left, and-true-right}
 use Rattle.code.specs.Word.{at}

@@ -1,8 +1,5 @@
 -- Laws of the making of a card from a text: lines behind other lines, and no line behind a refused one. Assumes nothing.
-use mathlib.Core.Path.{_≡_, refl, sym, ap, ap₂, _∙_}
-use mathlib.Core.Bool.{false}
-use mathlib.Core.List.{List, [], _∷_, _++_, append-assoc}
-use Prim.Native.Nat.{ℕ}
+use Rattle.field.proofs.Base.{_≡_, refl, sym, ap, ap₂, _∙_, false, List, [], _∷_, _++_, append-assoc, ℕ}
 use Rattle.csv.specs.declared.TextState.{TextState}
 use Rattle.csv.specs.Making.{isFine, lineRead, lineMade, linesRead, linesMade}
 

@@ -1,13 +1,6 @@
 -- A byte that is written over another, and a number's digits written so that each goes over a leading zero. Assumes nothing.
-use mathlib.Core.Path.{_≡_, refl, sym, ap, ap₂, subst, _∙_}
-use mathlib.Core.Bool.{Bool, true, false}
-use mathlib.Core.List.{List, [], _∷_, _++_, append-assoc}
-use Prim.Native.Nat.{ℕ, _+_, _/_, _%_, _≤_, _<_}
-use native.Mathlib.Omega.{arith}
-use borrow.Author.Tests.{ltb-true, ltb-false}
-use lib.Dec.{ltb}
-use lib.ListN.{length, take, drop, length-append, length-take}
-use lib.Seq.{take-at, drop-at}
+use Rattle.field.proofs.Base.{_≡_, refl, sym, ap, ap₂, subst, _∙_, Bool, true, false, List, [], _∷_, _++_, append-assoc, ℕ, _+_, _/_, _%_, _≤_, _<_}
+use Rattle.field.proofs.Base.{arith, ltb-true, ltb-false, ltb, length, take, drop, length-append, length-take, take-at, drop-at}
 use Rattle.card.specs.Listing.{decimal}
 use Rattle.card.specs.Placed.{placed, Writes}
 use Rattle.card.proofs.Writing.{writes-on, decimal-one}

@@ -1,12 +1,6 @@
 -- Printed numbers and dates: which bytes they do not have, and that they are read back. Assumes nothing.
-use mathlib.Core.Path.{_≡_, refl, ap, ap₂, _∙_}
-use mathlib.Core.Bool.{Bool, true, false, cond, _&&_}
-use mathlib.Core.List.{List, [], _∷_, _++_}
-use Prim.Native.Nat.{ℕ, zero, suc, _+_, _-_, _*_, _/_, _%_, _≤_, _<_}
-use native.Mathlib.Omega.{arith}
-use borrow.Author.Tests.{eq-eqb, ne-eqb, eqb-true, eqb-false, lt-ltb, le-leb, ltb-true}
-use lib.Dec.{eqb, ltb}
-use lib.ListN.{length, length-append}
+use Rattle.field.proofs.Base.{_≡_, refl, ap, ap₂, _∙_, Bool, true, false, cond, _&&_, List, [], _∷_, _++_, ℕ, zero, suc, _+_, _-_, _*_, _/_, _%_, _≤_}
+use Rattle.field.proofs.Base.{_<_, arith, eq-eqb, ne-eqb, eqb-true, eqb-false, lt-ltb, le-leb, ltb-true, eqb, ltb, length, length-append}
 use Rattle.field.specs.Field.{order}
 use Rattle.field.proofs.Ask.{and-true-left, and-true-right}
 use Rattle.code.specs.Word.{at}

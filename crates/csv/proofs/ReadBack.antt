@@ -1,13 +1,7 @@
 -- A line that is printed is read back, and what a line stands for are the symbols of a sheet. Assumes nothing.
-use mathlib.Core.Path.{_≡_, refl, sym, ap, ap₂, _∙_, subst}
-use mathlib.Core.Bool.{Bool, true, false, cond}
-use mathlib.Core.List.{List, [], _∷_, _++_, append-nil}
-use Prim.Native.Nat.{ℕ, zero, suc, _+_, _-_, _<_}
-use native.Mathlib.Omega.{arith}
-use borrow.Author.Tests.{eq-eqb, ne-eqb}
-use lib.Dec.{eqb}
-use lib.ListN.{length, getD, take, drop, take-append-drop, length-take, drop-of-length-le}
-use lib.Seq.{getD-take, drop-cons}
+use Rattle.field.proofs.Base.{_≡_, refl, sym, ap, ap₂, _∙_, subst, Bool, true, false, cond, List, [], _∷_, _++_, append-nil, ℕ, zero, suc, _+_, _-_}
+use Rattle.field.proofs.Base.{_<_, arith, eq-eqb, ne-eqb, eqb, length, getD, take, drop, take-append-drop, length-take, drop-of-length-le, getD-take}
+use Rattle.field.proofs.Base.{drop-cons}
 use Rattle.code.specs.Word.{at}
 use Rattle.code.specs.Demands.{occurs}
 use Rattle.card.specs.Listing.{decimal}

@@ -1,12 +1,7 @@
 -- Counts column by column, a line from its columns, and which header a line is. Assumes nothing.
-use mathlib.Core.Path.{_≡_, refl, sym, ap, ap₂, _∙_}
-use mathlib.Core.Bool.{Bool, true, false, cond, not}
-use mathlib.Core.List.{List, [], _∷_, _++_, append-assoc, append-nil}
-use Prim.Native.Nat.{ℕ, suc, _+_, _-_, _≤_, _<_}
-use native.Mathlib.Numerals.{add-one}
-use native.Mathlib.Omega.{arith}
-use borrow.Author.Tests.{eq-eqb, ne-eqb, not-true, not-false}
-use lib.ListN.{length, take, drop, set, replicate, take-append-drop}
+use Rattle.field.proofs.Base.{_≡_, refl, sym, ap, ap₂, _∙_, Bool, true, false, cond, not, List, [], _∷_, _++_, append-assoc, append-nil, ℕ, suc, _+_}
+use Rattle.field.proofs.Base.{_-_, _≤_, _<_, add-one, arith, eq-eqb, ne-eqb, not-true, not-false, length, take, drop, set, replicate}
+use Rattle.field.proofs.Base.{take-append-drop}
 use lib.Seq.{drop-set-lt, take-suc-set}
 use Rattle.code.specs.Demands.{occurs}
 use Rattle.sheet.specs.Sheet.{quarters, sheetSize}

@@ -1,9 +1,5 @@
 -- Times and counts, column by column. Assumes nothing.
-use mathlib.Core.Path.{_≡_, refl, sym, ap, _∙_}
-use mathlib.Core.List.{List, [], _∷_, _++_, append-assoc, append-nil}
-use Prim.Native.Nat.{ℕ, _+_, _≤_, _<_}
-use native.Mathlib.Numerals.{add-one}
-use lib.ListN.{length, getD, take}
+use Rattle.field.proofs.Base.{_≡_, refl, sym, ap, _∙_, List, [], _∷_, _++_, append-assoc, append-nil, ℕ, _+_, _≤_, _<_, add-one, length, getD, take}
 use lib.Seq.{take-suc}
 use Rattle.card.specs.Listing.{decimal}
 use Rattle.card.specs.Placed.{Writes}

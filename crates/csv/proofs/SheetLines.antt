@@ -1,12 +1,8 @@
 -- The text slot by slot, how long it is and how far the counts grow; and in parts: the lines and counts of two parts are those of the first
 -- and then those of the second. Assumes nothing.
-use mathlib.Core.Path.{_≡_, refl, sym, ap, _∙_, subst}
-use mathlib.Core.Bool.{Bool, true, false, cond}
-use mathlib.Core.List.{List, _++_, append-assoc, append-nil}
-use Prim.Native.Nat.{ℕ, zero, suc, _+_, _*_, _^_, _≤_}
-use native.Mathlib.Omega.{arith}
+use Rattle.field.proofs.Base.{_≡_, refl, sym, ap, _∙_, subst, Bool, true, false, cond, List, _++_, append-assoc, append-nil, ℕ, zero, suc, _+_, _*_}
+use Rattle.field.proofs.Base.{_^_, _≤_, arith, length}
 use lib.Dec.{lit≤}
-use lib.ListN.{length}
 use Rattle.card.specs.Record.{erasureBytes, recordSize}
 use Rattle.card.specs.Slots.{recordCount, recordAt, isBlank, overFirst, overSlots, Came}
 use Rattle.card.specs.Batch.{batchRecords, batchSize as cardBatch, mostBatches}

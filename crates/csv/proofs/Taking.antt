@@ -1,12 +1,6 @@
 -- A line that is taken: how long it is, if it is a sheet's, and what is made of it. Assumes nothing.
-use mathlib.Core.Path.{_≡_, refl, ap, subst}
-use mathlib.Core.Bool.{Bool, true, false, cond}
-use mathlib.Core.List.{List, [], _∷_}
-use Prim.Native.Nat.{ℕ, suc, _+_, _-_, _*_, _≤_}
-use native.Mathlib.Omega.{arith}
-use borrow.Author.Tests.{eq-eqb, ne-eqb, eqb-true}
-use lib.Dec.{eqb}
-use lib.ListN.{length, getD, take, length-take}
+use Rattle.field.proofs.Base.{_≡_, refl, ap, subst, Bool, true, false, cond, List, [], _∷_, ℕ, suc, _+_, _-_, _*_, _≤_, arith, eq-eqb, ne-eqb}
+use Rattle.field.proofs.Base.{eqb-true, eqb, length, getD, take, length-take}
 use Rattle.code.specs.Demands.{occurs}
 use Rattle.card.specs.Record.{recordSize}
 use Rattle.card.specs.Placed.{Writes}

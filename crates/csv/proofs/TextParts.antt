@@ -1,11 +1,6 @@
 -- A text in parts: the lines of a part taken one by one, and the last line. Assumes nothing.
-use mathlib.Core.Path.{_≡_, refl, sym, ap, _∙_}
-use mathlib.Core.Bool.{true, false, false≢true}
-use mathlib.Core.List.{List, [], _∷_, _++_, append-assoc, append-nil}
-use Prim.Native.Nat.{ℕ, _+_, _-_, _*_, _≤_, _<_}
-use native.Mathlib.Omega.{arith}
-use lib.ListN.{length, take, drop, length-drop}
-use lib.Seq.{length-take-le}
+use Rattle.field.proofs.Base.{_≡_, refl, sym, ap, _∙_, true, false, false≢true, List, [], _∷_, _++_, append-assoc, append-nil, ℕ, _+_, _-_, _*_, _≤_}
+use Rattle.field.proofs.Base.{_<_, arith, length, take, drop, length-drop, length-take-le}
 use Rattle.card.specs.Record.{recordSize}
 use Rattle.card.specs.Placed.{Writes}
 use Rattle.card.proofs.Writing.{writes-none, writes-length, writes-on}

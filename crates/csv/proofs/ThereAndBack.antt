@@ -1,10 +1,5 @@
 -- Cards of clean sheets and their texts: each is made of the other. Assumes nothing.
-use mathlib.Core.Path.{_≡_, refl, sym, ap, ap₂, _∙_}
-use mathlib.Core.Bool.{Bool, true, cond}
-use mathlib.Core.List.{List, [], _∷_, _++_, append-assoc, append-nil}
-use Prim.Native.Nat.{ℕ, _+_}
-use native.Mathlib.Omega.{arith}
-use borrow.Author.Tests.{ne-eqb}
+use Rattle.field.proofs.Base.{_≡_, refl, sym, ap, ap₂, _∙_, Bool, true, cond, List, [], _∷_, _++_, append-assoc, append-nil, ℕ, _+_, arith, ne-eqb}
 use Rattle.code.specs.Demands.{occurs}
 use Rattle.card.specs.Slots.{overFirst}
 use Rattle.card.specs.Listing.{digitsFrom, newline}

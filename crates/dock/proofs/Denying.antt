@@ -1,12 +1,5 @@
 -- When a call is refused with 19. Assumes nothing.
-use borrow.Author.Tests.{ltb-true, ltb-false, le-ltb}
-use mathlib.Core.Path.{_≡_, refl, sym, ap, _∙_}
-use mathlib.Core.Logic.{_≢_}
-use mathlib.Core.Bool.{Bool, true, false, _||_, false≢true}
-use mathlib.Core.List.{List}
-use Prim.Native.Nat.{ℕ}
-use native.Mathlib.Omega.{arith}
-use lib.Dec.{ltb}
+use Rattle.field.proofs.Base.{ltb-true, ltb-false, le-ltb, _≡_, refl, sym, ap, _∙_, _≢_, Bool, true, false, _||_, false≢true, List, ℕ, arith, ltb}
 use Rattle.field.specs.Question.{Outcome, accepted, refused, ask, after}
 use Rattle.field.specs.declared.Question.the-variants.{Bay}
 use Rattle.field.specs.declared.Verdict.the-variants.{Passed}

@@ -1,13 +1,6 @@
 -- Runs of calls: what is used and what is left. Assumes nothing.
-use borrow.Author.Tests.{eqb-true, eqb-false}
-use mathlib.Core.Path.{_≡_, refl, sym, ap, _∙_, subst}
-use mathlib.Core.Logic.{_≢_}
-use mathlib.Core.Bool.{Bool, true, false, cond, false≢true}
-use mathlib.Core.List.{List, [], _∷_}
-use Prim.Native.Nat.{ℕ, zero, suc, _+_, _-_, _<_}
-use native.Mathlib.Omega.{arith}
-use lib.Dec.{eqb}
-use lib.ListN.{length}
+use Rattle.field.proofs.Base.{eqb-true, eqb-false, _≡_, refl, sym, ap, _∙_, subst, _≢_, Bool, true, false, cond, false≢true, List, [], _∷_, ℕ, zero}
+use Rattle.field.proofs.Base.{suc, _+_, _-_, _<_, arith, eqb, length}
 use Rattle.code.specs.Call.{sameBytes}
 use Rattle.code.proofs.Same.{same-refl, same-equal}
 use Rattle.dock.specs.declared.Rewrites.{Rewrites}

@@ -1,13 +1,7 @@
 -- A bay's call: the record that costs a rewrite, and the answers of the functions. Assumes nothing.
-use borrow.Author.Tests.{lt-ltb, le-ltb, ltb-true}
-use mathlib.Core.Path.{_≡_, refl, sym, ap, ap₂, _∙_}
-use mathlib.Core.Logic.{_≢_}
-use mathlib.Core.Bool.{Bool, true, false, cond, _||_, or-true}
-use mathlib.Core.List.{List}
-use Prim.Native.Nat.{ℕ, _≤_, _<_}
-use native.Mathlib.Omega.{arith}
-use lib.Dec.{ltb}
-use lib.ListN.{length}
+use Rattle.field.proofs.Base.{lt-ltb, le-ltb, ltb-true, _≡_, refl, sym, ap, ap₂, _∙_, _≢_, Bool, true, false, cond, _||_, List, ℕ, _≤_, _<_, arith}
+use Rattle.field.proofs.Base.{ltb, length}
+use mathlib.Core.Bool.{or-true}
 use Rattle.field.specs.Question.{Outcome, accepted, refused, refusal, ask, after}
 use Rattle.field.specs.declared.Question.{Question}
 use Rattle.field.specs.declared.Question.the-variants.{Length, Bay, Rewrite}

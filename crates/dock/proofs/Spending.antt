@@ -1,15 +1,6 @@
 -- The rewrites left: what is left to a bay, and one less. Assumes nothing.
-use borrow.Author.Tests.{lt-ltb, le-ltb, ltb-true}
-use mathlib.Core.Path.{_≡_, refl, sym, _∙_}
-use mathlib.Core.Logic.{_≢_}
-use mathlib.Core.Bool.{Bool, true}
-use mathlib.Core.List.{List, [], _∷_}
-use Prim.Native.Nat.{ℕ, zero, suc, _+_, _-_, _≤_, _<_}
-use native.Mathlib.Decide.{decLt}
-use native.Mathlib.Omega.{arith}
-use lib.Dec.{ltb}
-use lib.ListN.{length, getD, set, length-set}
-use lib.Seq.{getD-set-same, getD-set-other}
+use Rattle.field.proofs.Base.{lt-ltb, le-ltb, ltb-true, _≡_, refl, sym, _∙_, _≢_, Bool, true, List, [], _∷_, ℕ, zero, suc, _+_, _-_, _≤_, _<_, decLt}
+use Rattle.field.proofs.Base.{arith, ltb, length, getD, set, length-set, getD-set-same, getD-set-other}
 use Rattle.dock.specs.declared.Rewrites.{Rewrites}
 use Rattle.dock.specs.Dock.{ownOf, anyLeft, spent}
 use Rattle.dock.specs.Run.{ownSum, allLeft}

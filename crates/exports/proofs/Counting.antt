@@ -1,11 +1,6 @@
 -- The counts of the dock as lent numbers. Assumes nothing.
-use borrow.Author.Tests.{eq-eqb, ne-eqb, eqb-true, lt-ltb, le-ltb}
-use mathlib.Core.Path.{_≡_, refl, sym, ap, _∙_}
-use mathlib.Core.List.{List, [], _∷_, _++_}
-use Prim.Native.Nat.{ℕ, _≤_, _<_}
-use native.Mathlib.Omega.{arith}
-use lib.Dec.{eqb, ltb}
-use lib.ListN.{length, getD, set}
+use Rattle.field.proofs.Base.{eq-eqb, ne-eqb, eqb-true, lt-ltb, le-ltb, _≡_, refl, sym, ap, _∙_, List, [], _∷_, _++_, ℕ, _≤_, _<_, arith, eqb, ltb}
+use Rattle.field.proofs.Base.{length, getD, set}
 use Rattle.field.specs.Question.{after}
 use Rattle.field.specs.declared.Question.{Question}
 use Rattle.field.specs.declared.Question.the-variants.{Length, Bay}

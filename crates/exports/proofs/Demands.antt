@@ -1,14 +1,6 @@
 -- The statements of specs/Demands.antt, each under its name in small letters. Assumes nothing.
-use borrow.Author.Tests.{eq-eqb, ne-eqb, le-ltb}
-use mathlib.Core.Path.{_≡_, refl, sym, ap, ap₂, _∙_, subst}
-use mathlib.Core.Logic.{_≢_}
-use mathlib.Core.Bool.{Bool, true, false, cond, not}
-use mathlib.Core.List.{List, [], _∷_, _++_}
-use Prim.Native.Nat.{ℕ, zero, suc, _+_, _*_, _/_, _%_, _≤_, _<_}
-use native.Mathlib.Decide.{decLt}
-use native.Mathlib.Omega.{arith}
-use lib.Dec.{eqb, leb, ltb}
-use lib.ListN.{length, replicate, length-append, length-take}
+use Rattle.field.proofs.Base.{eq-eqb, ne-eqb, le-ltb, _≡_, refl, sym, ap, ap₂, _∙_, subst, _≢_, Bool, true, false, cond, not, List, [], _∷_, _++_, ℕ}
+use Rattle.field.proofs.Base.{zero, suc, _+_, _*_, _/_, _%_, _≤_, _<_, decLt, arith, eqb, leb, ltb, length, replicate, length-append, length-take}
 use Rattle.field.specs.Polynomial.{add}
 use Rattle.field.specs.Field.{order, product as productM, power as powerM, inverse as inverseM}
 use Rattle.field.specs.Answer.{operands, sumOf, productOf, powerOf, inverseOf}

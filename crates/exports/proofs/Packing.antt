@@ -1,6 +1,5 @@
 -- The numbers that the calls return. Assumes nothing.
-use mathlib.Core.Path.{_≡_, sym, ap, _∙_}
-use Prim.Native.Nat.{ℕ, _*_}
+use Rattle.field.proofs.Base.{_≡_, sym, ap, _∙_, ℕ, _*_}
 use Rattle.field.specs.Question.{Outcome, accepted, refused, refusal}
 use Rattle.field.specs.declared.Question.{Question}
 use Rattle.card.specs.Card.{Check, checkOf}

@@ -1,11 +1,5 @@
 -- The part of a comparison, by its offset and size. Assumes nothing.
-use mathlib.Core.Path.{_≡_, sym, ap, _∙_}
-use mathlib.Core.Bool.{Bool, true, false, cond}
-use mathlib.Core.List.{List, []}
-use Prim.Native.Nat.{ℕ, _-_, _*_, _≤_, _<_}
-use native.Mathlib.Omega.{arith}
-use lib.Dec.{eqb}
-use lib.ListN.{length, take, drop}
+use Rattle.field.proofs.Base.{_≡_, sym, ap, _∙_, Bool, true, false, cond, List, [], ℕ, _-_, _*_, _≤_, _<_, arith, eqb, length, take, drop}
 use Rattle.field.specs.Question.{Outcome, accepted, refused, refusal}
 use Rattle.field.specs.declared.Question.{Question}
 use Rattle.card.specs.Record.{recordSize}

@@ -1,13 +1,7 @@
 -- What the answers to the questions say. Assumes nothing.
-use mathlib.Core.Path.{_≡_, refl, sym, ap, _∙_, subst}
-use mathlib.Core.Logic.{_≢_}
-use mathlib.Core.Bool.{Bool, true, false, not, _&&_, cond, false≢true}
-use mathlib.Core.List.{List, [], _∷_}
-use Prim.Native.Nat.{ℕ, _≤_, _<_}
-use native.Mathlib.Omega.{arith}
-use lib.Dec.{eqb, ltb}
+use Rattle.field.proofs.Base.{_≡_, refl, sym, ap, _∙_, subst, _≢_, Bool, true, false, not, _&&_, cond, false≢true, List, [], _∷_, ℕ, _≤_, _<_}
+use Rattle.field.proofs.Base.{arith, eqb, ltb, lt-ltb, le-ltb, ltb-true, eq-eqb, ne-eqb}
 use lib.Pow.{pow-pos}
-use borrow.Author.Tests.{lt-ltb, le-ltb, ltb-true, eq-eqb, ne-eqb}
 use Rattle.field.specs.Field.{order}
 use Rattle.field.specs.Question.{Outcome, refused, refusal, ask, after, isWidth, allBelow}
 use Rattle.field.specs.Answer.{operands}

@@ -1,13 +1,6 @@
 -- What the test of question 7 means for a list of symbols, both ways. Assumes nothing.
-use mathlib.Core.Path.{_≡_, refl}
-use mathlib.Core.Bool.{Bool, true, _&&_}
-use mathlib.Core.List.{List, [], _∷_}
-use Prim.Native.Nat.{ℕ, zero, suc, _≤_, _<_}
-use native.Mathlib.Nat.{le-of-suc-le-suc, not-suc-le-zero}
-use native.Mathlib.Omega.{arith}
-use borrow.Author.Tests.{lt-ltb, ltb-true}
-use lib.Dec.{ltb}
-use lib.ListN.{length, getD}
+use Rattle.field.proofs.Base.{_≡_, refl, Bool, true, _&&_, List, [], _∷_, ℕ, zero, suc, _≤_, _<_, le-of-suc-le-suc, not-suc-le-zero, arith}
+use Rattle.field.proofs.Base.{lt-ltb, ltb-true, ltb, length, getD}
 use Rattle.field.specs.Question.{allBelow}
 use Rattle.field.proofs.Ask.{and-true-left, and-true-right}
 use Rattle.field.specs.Sum.{at}

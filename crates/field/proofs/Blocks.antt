@@ -1,10 +1,6 @@
 -- The bytes of a list in one number, put together by halves. Assumes nothing.
-use mathlib.Core.Path.{_≡_, sym, ap, ap₂, _∙_}
-use mathlib.Core.List.{List}
-use Prim.Native.Nat.{ℕ, zero, suc, _+_, _-_, _*_, _^_, _<_}
-use native.Mathlib.Nat.{not-suc-le-zero, le-of-suc-le-suc, add-zero}
-use native.Mathlib.Decide.{decLt}
-use native.Mathlib.Omega.{arith}
+use Rattle.field.proofs.Base.{_≡_, sym, ap, ap₂, _∙_, List, ℕ, zero, suc, _+_, _-_, _*_, _^_, _<_, not-suc-le-zero, le-of-suc-le-suc, add-zero}
+use Rattle.field.proofs.Base.{decLt, arith}
 use Rattle.field.specs.Sum.{at}
 use Rattle.field.specs.inner.Lanes.{lanes, Block}
 use Rattle.field.proofs.Packing.{lanes-cong, lanes-lt, lanes-split}

@@ -1,16 +1,10 @@
 -- The laws of arithmetic on bytes below the questions: for symbols at a width of the field it is the arithmetic of the field.
 -- Assumes nothing.
-use mathlib.Core.Path.{_≡_, refl, sym, ap, ap₂, _∙_, subst}
-use mathlib.Core.Logic.{_≢_, _⊎_, inl, inr}
-use mathlib.Core.Bool.{Bool, true, false, cond}
-use Prim.Native.Nat.{ℕ, _%_, _≤_, _<_}
-use native.Mathlib.Nat.{mod-lt, mod-eq-of-lt}
-use native.Mathlib.Decide.{ℕ-discrete}
-use native.Mathlib.Omega.{arith}
+use Rattle.field.proofs.Base.{_≡_, refl, sym, ap, ap₂, _∙_, subst, _≢_, _⊎_, inl, inr, Bool, true, false, cond, ℕ, _%_, _≤_, _<_, mod-eq-of-lt}
+use Rattle.field.proofs.Base.{ℕ-discrete, arith, eqb, ne-eqb}
+use native.Mathlib.Nat.{mod-lt}
 use lib.Bits.{bitXor}
 use lib.Pow.{pow-pos}
-use lib.Dec.{eqb}
-use borrow.Author.Tests.{ne-eqb}
 use Rattle.field.specs.Polynomial.{add}
 use Rattle.field.specs.Field.{order, product, power, inverse, α}
 use Rattle.field.specs.Question.{isWidth}

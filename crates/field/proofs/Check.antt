@@ -1,11 +1,5 @@
 -- A rule at every number below a bound, by one test that antt computes. Assumes nothing.
-use mathlib.Core.Path.{_≡_, sym, subst}
-use mathlib.Core.Bool.{Bool, true, false, _&&_, _||_}
-use Prim.Native.Nat.{ℕ, zero, suc, _<_}
-use native.Mathlib.Nat.{not-suc-le-zero}
-use native.Mathlib.Decide.{ℕ-discrete}
-use native.Mathlib.Omega.{arith}
-use lib.Dec.{T}
+use Rattle.field.proofs.Base.{_≡_, sym, subst, Bool, true, false, _&&_, _||_, ℕ, zero, suc, _<_, not-suc-le-zero, ℕ-discrete, arith, T}
 
 pub and-left : (a b : Bool) → T (a && b) → T a
 and-left true b t = tt

@@ -1,12 +1,6 @@
 -- The statements of specs/Demands.antt, each under its name in small letters. Assumes nothing.
-use mathlib.Core.Path.{_≡_, refl, sym, ap, _∙_, subst}
-use mathlib.Core.Logic.{_≢_}
-use mathlib.Core.Bool.{Bool, true, cond, not}
-use mathlib.Core.List.{[], _∷_}
-use Prim.Native.Nat.{ℕ, _<_}
-use native.Mathlib.Omega.{arith}
-use borrow.Author.Tests.{lt-ltb, ne-eqb, eqb-false, not-true}
-use lib.Dec.{eqb, lit<}
+use Rattle.field.proofs.Base.{_≡_, refl, sym, ap, _∙_, subst, _≢_, Bool, true, cond, not, [], _∷_, ℕ, _<_, arith, lt-ltb, ne-eqb, eqb-false}
+use Rattle.field.proofs.Base.{not-true, eqb, lit<}
 use Rattle.field.specs.inner.Operand.{arithmetic}
 use Rattle.field.specs.Polynomial.{add, carryless}
 use Rattle.field.specs.Field.{order, polynomial, product, inverse}

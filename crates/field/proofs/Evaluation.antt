@@ -1,13 +1,9 @@
 -- Horner's rule for weighted sums, and one step of the pass that computes them. Bytes count by the symbols that they stand for.
 -- Assumes nothing.
-use mathlib.Core.Path.{_≡_, refl, sym, ap, ap₂, _∙_, subst}
-use mathlib.Core.Bool.{true}
-use mathlib.Core.List.{List, [], _∷_}
-use Prim.Native.Nat.{ℕ, zero, suc, _-_, _*_, _%_, _≤_, _<_}
-use native.Mathlib.Nat.{mul-zero, mul-suc, add-comm, mod-eq-of-lt}
-use native.Mathlib.Omega.{arith}
-use lib.ListN.{length, getD, drop}
-use lib.Seq.{drop-cons, drop-length}
+use Rattle.field.proofs.Base.{_≡_, refl, sym, ap, ap₂, _∙_, subst, true, List, [], _∷_, ℕ, zero, suc, _-_, _*_, _%_, _≤_, _<_, mod-eq-of-lt}
+use Rattle.field.proofs.Base.{arith, length, getD, drop, drop-cons}
+use native.Mathlib.Nat.{mul-zero, mul-suc, add-comm}
+use lib.Seq.{drop-length}
 use Rattle.field.specs.Polynomial.{add}
 use Rattle.field.specs.Field.{order, product, power, α}
 use Rattle.field.specs.Question.{isWidth, allBelow}

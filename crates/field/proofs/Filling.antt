@@ -1,11 +1,6 @@
 -- Arrays of numbers that a loop fills: place by place, and two places at a time. Assumes nothing.
-use mathlib.Core.Path.{_≡_, sym, ap, _∙_, subst}
-use mathlib.Core.List.{List}
-use Prim.Native.Nat.{ℕ, _+_, _*_, _/_, _%_, _<_}
-use native.Mathlib.Decide.{ℕ-discrete, decLt}
-use native.Mathlib.Omega.{arith}
-use lib.ListN.{length, set, length-set}
-use lib.Seq.{getD-set-same, getD-set-other}
+use Rattle.field.proofs.Base.{_≡_, sym, ap, _∙_, subst, List, ℕ, _+_, _*_, _/_, _%_, _<_, ℕ-discrete, decLt, arith, length, set, length-set}
+use Rattle.field.proofs.Base.{getD-set-same, getD-set-other}
 use Rattle.field.specs.Sum.{at}
 use Rattle.field.specs.inner.Lanes.{lanes, Block}
 use Rattle.field.proofs.Below.{past-end}

@@ -1,10 +1,6 @@
 -- The half-trace is a root of x² + x = c, where there is one: one test that antt computes over the symbols of width 7. Assumes nothing.
-use mathlib.Core.Path.{_≡_, refl, sym, ap, ap₂, _∙_}
-use mathlib.Core.Logic.{_⊎_, inl, inr}
-use mathlib.Core.Bool.{Bool, true, false, _||_}
-use Prim.Native.Nat.{ℕ, _*_, _%_, _<_}
-use native.Mathlib.Nat.{mod-eq-of-lt}
-use lib.Dec.{T, eqb, eqb→eq}
+use Rattle.field.proofs.Base.{_≡_, refl, sym, ap, ap₂, _∙_, _⊎_, inl, inr, Bool, true, false, _||_, ℕ, _*_, _%_, _<_, mod-eq-of-lt, T, eqb}
+use Rattle.field.proofs.Base.{eqb→eq}
 use Rattle.field.specs.Polynomial.{add}
 use Rattle.field.specs.Field.{product, power}
 use Rattle.field.specs.inner.Operand.{arithmetic}

@@ -1,13 +1,11 @@
 -- Masks and shifts multiply every lane by a power of α: one test that antt computes, over the symbols of one lane, and the laws of
 -- Packing.antt. Assumes nothing.
-use mathlib.Core.Path.{_≡_, sym, ap, ap₂, _∙_}
-use mathlib.Core.Bool.{Bool, _&&_}
-use Prim.Native.Nat.{ℕ, _-_, _*_, _/_, _%_, _^_, _≤_, _<_}
-use native.Mathlib.Nat.{mod-eq-of-lt, lt-of-lt-of-le, pow-le-pow-right}
-use native.Mathlib.Omega.{arith}
+use Rattle.field.proofs.Base.{_≡_, sym, ap, ap₂, _∙_, Bool, _&&_, ℕ, _-_, _*_, _/_, _%_, _^_, _≤_, _<_, mod-eq-of-lt, arith, T, eqb, ltb}
+use Rattle.field.proofs.Base.{eqb→eq}
+use native.Mathlib.Nat.{lt-of-lt-of-le, pow-le-pow-right}
 use lib.Bits.{bitAnd, and-mask}
 use lib.Pow.{pow-pos, shr-le}
-use lib.Dec.{T, eqb, ltb, eqb→eq, ltb→lt}
+use lib.Dec.{ltb→lt}
 use Rattle.field.specs.Polynomial.{add}
 use Rattle.field.specs.Field.{product, power, α}
 use Rattle.field.specs.inner.Operand.{arithmetic}

@@ -1,11 +1,8 @@
 -- The laws of the field (`IsField` of specs/Laws.antt), proved at every width at which α generates the symbols other than 0.
 -- Assumes nothing.
-use mathlib.Core.Path.{_≡_, refl, sym, ap, ap₂, _∙_}
-use mathlib.Core.Logic.{_≢_}
-use Prim.Native.Nat.{ℕ, zero, suc, _+_, _-_, _*_, _/_, _%_, _≤_, _<_}
-use native.Mathlib.Nat.{zero-add, add-zero, mul-comm, pow-suc}
-use native.Mathlib.Decide.{decLt, ℕ-discrete}
-use native.Mathlib.Omega.{arith}
+use Rattle.field.proofs.Base.{_≡_, refl, sym, ap, ap₂, _∙_, _≢_, ℕ, zero, suc, _+_, _-_, _*_, _/_, _%_, _≤_, _<_, add-zero, decLt, ℕ-discrete}
+use Rattle.field.proofs.Base.{arith}
+use native.Mathlib.Nat.{zero-add, mul-comm, pow-suc}
 use lib.Pow.{pow-mono}
 use Rattle.field.specs.Polynomial.{add}
 use Rattle.field.proofs.Polynomial.{add-comm, add-assoc, add-left-comm, add-zero-l, add-zero-r, add-self, add-lt, add-cancel, eq-of-add}

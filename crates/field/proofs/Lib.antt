@@ -1,4 +1,5 @@
 -- The laws that the crates above use.
+pub mod Base  -- the words of the proofs: names of the kit, passed on
 pub mod Check  -- a rule at every number below a bound, by one computed test
 pub mod Laws  -- the laws of the field, gathered in `IsField`
 pub mod Widths  -- 3, 4, 5 and 7 are such widths: `field-of`, `cubes-of`

@@ -1,9 +1,7 @@
 -- Operations on a number whose bytes are lanes act on each lane apart. Assumes nothing.
-use mathlib.Core.Path.{_≡_, refl, sym, ap, ap₂, _∙_}
-use mathlib.Core.List.{List, [], _∷_}
-use Prim.Native.Nat.{ℕ, zero, suc, _+_, _*_, _/_, _%_, _^_, _≤_, _<_}
-use native.Mathlib.Nat.{not-suc-le-zero, le-of-suc-le-suc, mul-comm, mul-div-cancel, div-div-eq-div-mul, pow-suc}
-use native.Mathlib.Omega.{arith}
+use Rattle.field.proofs.Base.{_≡_, refl, sym, ap, ap₂, _∙_, List, [], _∷_, ℕ, zero, suc, _+_, _*_, _/_, _%_, _^_, _≤_, _<_, not-suc-le-zero}
+use Rattle.field.proofs.Base.{le-of-suc-le-suc, arith}
+use native.Mathlib.Nat.{mul-comm, mul-div-cancel, div-div-eq-div-mul, pow-suc}
 use lib.Bits.{bitAnd, bitXor, and-block, xor-block, xor-shr, xor-mod}
 use lib.Pow.{pow-add}
 use Rattle.field.specs.Polynomial.{add}

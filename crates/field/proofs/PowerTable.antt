@@ -1,13 +1,8 @@
 -- The rule of the table of powers: one test that antt computes over the whole table, and a law that turns it into what stands at each
 -- exponent. Assumes nothing.
-use mathlib.Core.Path.{_≡_, sym, ap, _∙_, subst}
-use mathlib.Core.Bool.{Bool, true, _&&_}
-use mathlib.Core.List.{List, [], _∷_}
-use Prim.Native.Nat.{ℕ, zero, suc, _+_, _*_, _%_, _<_}
-use native.Mathlib.Nat.{zero-add, le-of-suc-le-suc, not-suc-le-zero, zero-mul, one-mul}
-use native.Mathlib.Omega.{arith}
-use lib.Dec.{T, eqb, eqb→eq, lit<}
-use lib.ListN.{length, getD}
+use Rattle.field.proofs.Base.{_≡_, sym, ap, _∙_, subst, Bool, true, _&&_, List, [], _∷_, ℕ, zero, suc, _+_, _*_, _%_, _<_, le-of-suc-le-suc}
+use Rattle.field.proofs.Base.{not-suc-le-zero, zero-mul, arith, T, eqb, eqb→eq, lit<, length, getD}
+use native.Mathlib.Nat.{zero-add, one-mul}
 use Rattle.field.specs.Field.{order, double, product, power, α}
 use Rattle.field.specs.inner.Operand.{arithmetic}
 use Rattle.field.proofs.Ring.{double-lt, product-assoc, product-comm, product-one-l, product-one-r}

@@ -1,8 +1,6 @@
 -- The laws of powers, at every width. Assumes nothing.
-use mathlib.Core.Path.{_≡_, refl, sym, ap, _∙_}
-use Prim.Native.Nat.{ℕ, zero, suc, _+_, _*_, _<_}
+use Rattle.field.proofs.Base.{_≡_, refl, sym, ap, _∙_, ℕ, zero, suc, _+_, _*_, _<_, arith}
 use native.Mathlib.Nat.{zero-add, suc-add, mul-zero, mul-suc}
-use native.Mathlib.Omega.{arith}
 use lib.Pow.{pow-mono}
 use Rattle.field.proofs.Polynomial.{carryless-one-l, carryless-twice-l}
 use Rattle.field.specs.Field.{order, double, remainder, product, power, α}

@@ -2,15 +2,8 @@
 -- t + a, may be added at each place t + b instead, and the row is one shorter. It holds for every value of the numbers that takes sums to
 -- sums, so for numbers of eight, four, two lanes and one, and for every list: y^7 = y^3 + 1 has two places, y^8 = y^7 + y^4 + 1 three. What
 -- is asked of the relation is that it holds at α^d, where d is the exponent of the sum times the lanes of a number. Assumes nothing.
-use mathlib.Core.Path.{_≡_, refl, sym, ap, ap₂, _∙_, subst}
-use mathlib.Core.List.{List, [], _∷_}
-use Prim.Native.Nat.{ℕ, zero, suc, _+_, _-_, _*_, _≤_, _<_}
-use native.Mathlib.Nat.{not-suc-le-zero}
-use native.Mathlib.Decide.{ℕ-discrete}
-use native.Mathlib.Omega.{arith}
-use lib.Dec.{lit<}
-use lib.ListN.{length, set, length-set}
-use lib.Seq.{getD-set-same, getD-set-other}
+use Rattle.field.proofs.Base.{_≡_, refl, sym, ap, ap₂, _∙_, subst, List, [], _∷_, ℕ, zero, suc, _+_, _-_, _*_, _≤_, _<_, not-suc-le-zero}
+use Rattle.field.proofs.Base.{ℕ-discrete, arith, lit<, length, set, length-set, getD-set-same, getD-set-other}
 use Rattle.field.specs.Polynomial.{add}
 use Rattle.field.specs.Field.{product, power, α}
 use Rattle.field.specs.inner.Operand.{arithmetic}

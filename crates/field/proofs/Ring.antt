@@ -1,15 +1,12 @@
 -- The laws of sum and product modulo a polynomial, at every width: a commutative ring. Assumes nothing.
-use mathlib.Core.Path.{_≡_, refl, sym, ap, ap₂, _∙_, subst}
-use mathlib.Core.Bool.{Bool, true, false, cond}
-use Prim.Native.Nat.{ℕ, zero, suc, _*_, _/_, _%_, _^_, _≤_, _<_}
-use native.Mathlib.Nat.{le-refl, le-of-eq, lt-of-lt-of-le, lt-of-le-of-lt, not-suc-le-zero, zero-lt-suc, mod-lt, div-add-mod', one-mul, zero-mul, mul-comm, mul-div-cancel, mul-mod-left, pow-suc, div-eq-of-lt, div-lt-iff-lt-mul, le-div-iff-mul-le, mul-lt-mul-of-pos-right, div-le-self}
-use native.Mathlib.Omega.{arith}
+use Rattle.field.proofs.Base.{_≡_, refl, sym, ap, ap₂, _∙_, subst, Bool, true, false, cond, ℕ, zero, suc, _*_, _/_, _%_, _^_, _≤_, _<_}
+use Rattle.field.proofs.Base.{le-refl, not-suc-le-zero, zero-mul, arith, ltb, eqb, lit<, ltb-true, ltb-false, eqb-true, lt-ltb}
+use native.Mathlib.Nat.{le-of-eq, lt-of-lt-of-le, lt-of-le-of-lt, zero-lt-suc, mod-lt, div-add-mod', one-mul, mul-comm, mul-div-cancel, mul-mod-left, pow-suc, div-eq-of-lt, div-lt-iff-lt-mul, le-div-iff-mul-le, mul-lt-mul-of-pos-right, div-le-self}
 use lib.Arith.{bin-ind}
 use lib.Pow.{pow-pos, pow-mono}
-use lib.Dec.{ltb, eqb, lit<, lit≤}
+use lib.Dec.{lit≤}
 use lib.Bits.{xor-shr}
 use lib.Pow as P
-use borrow.Author.Tests.{ltb-true, ltb-false, eqb-true, lt-ltb}
 use Rattle.field.specs.Polynomial.{add, carryless, digits, digitsFrom}
 use Rattle.field.proofs.Polynomial.{add-assoc, add-self, add-lt, add-zero-l, add-zero-r, twice-add, interchange, add-half, add-odd, split, carryless-add-l, carryless-add-r, carryless-comm, carryless-assoc, carryless-step, carryless-zero-l, carryless-one-l, carryless-twice-l, carryless-zero-r, carryless-digit-l, add-cancel, sums, digits-step, Digit, Digit.off, Digit.on, digit, digit<, digit-add-l}
 use Rattle.field.specs.Field.{order, polynomial, reduce, double, remainder, product}

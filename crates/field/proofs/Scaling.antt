@@ -1,10 +1,6 @@
 -- Lanes times a symbol: the sum of their products with the powers of α that the symbol's digits name. Assumes nothing.
-use mathlib.Core.Path.{_≡_, refl, sym, ap, ap₂, _∙_, subst}
-use mathlib.Core.List.{List, [], _∷_}
-use Prim.Native.Nat.{ℕ, zero, suc, _*_, _/_, _%_, _^_, _≤_, _<_}
-use native.Mathlib.Nat.{mod-eq-of-lt}
-use native.Mathlib.Omega.{arith}
-use lib.Dec.{T, eqb, eqb→eq}
+use Rattle.field.proofs.Base.{_≡_, refl, sym, ap, ap₂, _∙_, subst, List, [], _∷_, ℕ, zero, suc, _*_, _/_, _%_, _^_, _≤_, _<_, mod-eq-of-lt}
+use Rattle.field.proofs.Base.{arith, T, eqb, eqb→eq}
 use Rattle.field.specs.Polynomial.{add}
 use Rattle.field.specs.Field.{product, power, α}
 use Rattle.field.specs.inner.Operand.{arithmetic}

@@ -1,8 +1,6 @@
 -- The sum over the symbols by segments: the sum in each, then the sum over the segments. Assumes nothing.
-use mathlib.Core.Path.{_≡_, sym, ap, ap₂, _∙_}
-use Prim.Native.Nat.{ℕ, zero, suc, _+_, _*_}
+use Rattle.field.proofs.Base.{_≡_, sym, ap, ap₂, _∙_, ℕ, zero, suc, _+_, _*_, arith}
 use native.Mathlib.Nat.{mul-zero}
-use native.Mathlib.Omega.{arith}
 use Rattle.field.specs.Polynomial.{add}
 use Rattle.field.specs.Field.{product, power, α}
 use Rattle.field.specs.Sum.{sum, weighted}

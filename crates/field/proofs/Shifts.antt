@@ -1,10 +1,8 @@
 -- Products with the first powers of α by shifts: one test that antt computes at each width, over all symbols. Assumes nothing.
-use mathlib.Core.Path.{_≡_, sym, ap, _∙_, subst}
-use mathlib.Core.Bool.{Bool, true, not, _&&_, _||_}
-use Prim.Native.Nat.{ℕ, _+_, _-_, _*_, _/_, _%_, _^_, _≤_, _<_}
-use native.Mathlib.Omega.{arith}
+use Rattle.field.proofs.Base.{_≡_, sym, ap, _∙_, subst, Bool, true, not, _&&_, _||_, ℕ, _+_, _-_, _*_, _/_, _%_, _^_, _≤_, _<_, arith, T, eqb}
+use Rattle.field.proofs.Base.{leb, eqb→eq}
 use lib.Bits.{bitAnd}
-use lib.Dec.{T, eqb, leb, eqb→eq, eqb-refl, le→leb, T-not}
+use lib.Dec.{eqb-refl, le→leb, T-not}
 use Rattle.field.specs.Polynomial.{add}
 use Rattle.field.specs.Field.{order, polynomial, product, power, α}
 use Rattle.field.specs.inner.Operand.{arithmetic}

@@ -1,12 +1,9 @@
 -- One step of the loops of product and power, at every width. Assumes nothing.
-use mathlib.Core.Path.{_≡_, refl, sym, ap, ap₂, _∙_, subst₂}
-use mathlib.Core.Bool.{Bool, true, cond}
-use mathlib.Core.Logic.{_≢_}
-use Prim.Native.Nat.{ℕ, zero, suc, _+_, _-_, _*_, _/_, _%_, _≤_, _<_}
-use native.Mathlib.Nat.{zero-mul, one-mul, div-add-mod', mul-comm, mod-eq-of-lt}
-use native.Mathlib.Omega.{arith}
+use Rattle.field.proofs.Base.{_≡_, refl, sym, ap, ap₂, _∙_, Bool, true, cond, _≢_, ℕ, zero, suc, _+_, _-_, _*_, _/_, _%_, _≤_, _<_, zero-mul}
+use Rattle.field.proofs.Base.{mod-eq-of-lt, arith, lt-ltb, le-ltb}
+use mathlib.Core.Path.{subst₂}
+use native.Mathlib.Nat.{one-mul, div-add-mod', mul-comm}
 use lib.Pow.{pow-pos}
-use borrow.Author.Tests.{lt-ltb, le-ltb}
 use Rattle.field.specs.Polynomial.{add, carryless}
 use Rattle.field.proofs.Polynomial.{add-comm, add-assoc, add-zero-r, carryless-step, carryless-twice-r, Digit, Digit.off, Digit.on, digit}
 use Rattle.field.specs.Field.{order, polynomial, reduce, double, remainder, product, power, inverse, α}

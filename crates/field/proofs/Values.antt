@@ -1,12 +1,8 @@
 -- The value of a number that holds one, two, four or eight symbols: their sum at exponent e, by halves. A row of numbers is a row of twice as
 -- many halves; so folds and halvings in turn leave eight symbols that have the sums of all. Assumes nothing.
-use mathlib.Core.Path.{_≡_, refl, sym, ap, ap₂, _∙_, subst}
-use mathlib.Core.List.{List}
-use Prim.Native.Nat.{ℕ, _+_, _*_, _/_, _%_, _^_, _<_}
-use native.Mathlib.Nat.{mod-eq-of-lt, mod-lt, lt-trans}
-use native.Mathlib.Omega.{arith}
+use Rattle.field.proofs.Base.{_≡_, refl, sym, ap, ap₂, _∙_, subst, List, ℕ, _+_, _*_, _/_, _%_, _^_, _<_, mod-eq-of-lt, arith, length}
+use native.Mathlib.Nat.{mod-lt, lt-trans}
 use lib.Bits.{xor-shr, xor-mod}
-use lib.ListN.{length}
 use Rattle.field.specs.Polynomial.{add}
 use Rattle.field.specs.Field.{product, power, α}
 use Rattle.field.specs.Sum.{at, weighted}

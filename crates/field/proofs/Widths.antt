@@ -1,12 +1,8 @@
 -- The widths 3, 4, 5 and 7 are fields: α generates the symbols other than 0, by tests that antt computes at each width over the powers of α
 -- by doubling. Assumes nothing.
-use mathlib.Core.Path.{_≡_, refl, sym, ap, _∙_, subst}
-use mathlib.Core.Logic.{_≢_}
-use mathlib.Core.Bool.{Bool, true, false, not, _&&_, _||_, false≢true}
-use Prim.Native.Nat.{ℕ, zero, suc, _-_, _%_, _<_, _≤_}
-use native.Mathlib.Omega.{arith}
-use lib.Dec.{T, eqb, leb, ltb, eqb→eq, leb→le, ltb→lt, T-not}
-use borrow.Author.Tests.{eqb-true}
+use Rattle.field.proofs.Base.{_≡_, refl, sym, ap, _∙_, subst, _≢_, Bool, true, false, not, _&&_, _||_, false≢true, ℕ, zero, suc, _-_, _%_, _<_}
+use Rattle.field.proofs.Base.{_≤_, arith, T, eqb, leb, ltb, eqb→eq, eqb-true}
+use lib.Dec.{leb→le, ltb→lt, T-not}
 use Rattle.field.specs.Field.{order, double, power, α}
 use Rattle.field.specs.inner.Operand.{arithmetic}
 use Rattle.field.specs.Question.{isWidth}

@@ -1,15 +1,7 @@
 -- From batch to batch of an input, whatever is carried. Assumes nothing.
-use mathlib.Core.Path.{_≡_, refl, sym, ap, _∙_}
-use mathlib.Core.Bool.{Bool, true, false, not, _&&_, _||_, false≢true, true≢false}
-use mathlib.Core.Logic.{_⊎_, inl, inr}
-use mathlib.Core.List.{List, [], _++_}
-use Prim.Native.Nat.{ℕ, _+_, _*_, _≤_, _<_}
-use native.Mathlib.Nat.{zero-mul}
-use native.Mathlib.Omega.{arith}
-use borrow.Author.Tests.{lt-ltb, not-false, not-true}
-use lib.Dec.{ltb}
-use lib.ListN.{length, take, drop, length-append}
-use lib.Seq.{length-take-le, take-at}
+use Rattle.field.proofs.Base.{_≡_, refl, sym, ap, _∙_, Bool, true, false, not, _&&_, _||_, false≢true, true≢false, _⊎_, inl, inr, List, [], _++_, ℕ}
+use Rattle.field.proofs.Base.{_+_, _*_, _≤_, _<_, zero-mul, arith, lt-ltb, not-false, not-true, ltb, length, take, drop, length-append}
+use Rattle.field.proofs.Base.{length-take-le, take-at}
 use Rattle.card.specs.Slots.{Came}
 use Rattle.card.specs.Batch.{batchRecords}
 use Rattle.card.specs.Placed.{placed, Writes}

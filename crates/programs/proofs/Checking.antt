@@ -1,11 +1,6 @@
 -- A card check from batch to batch, and its line. Assumes nothing.
-use mathlib.Core.Path.{_≡_, refl, sym, ap, _∙_, subst}
-use mathlib.Core.Bool.{Bool, true, false, cond, false≢true, true≢false}
-use mathlib.Core.List.{List}
-use mathlib.Core.Logic.{_⊎_, inl, inr, ⊎-elim}
-use Prim.Native.Nat.{ℕ, _+_, _*_, _≤_}
-use native.Mathlib.Omega.{arith}
-use lib.ListN.{length, take, length-take}
+use Rattle.field.proofs.Base.{_≡_, refl, sym, ap, _∙_, subst, Bool, true, false, cond, false≢true, true≢false, List, _⊎_, inl, inr, ⊎-elim, ℕ, _+_}
+use Rattle.field.proofs.Base.{_*_, _≤_, arith, length, take, length-take}
 use Rattle.card.specs.Record.{erasureBytes, recordSize}
 use Rattle.card.specs.Slots.{recordCount, overSlots}
 use Rattle.card.specs.Card.{Search, passed, named, sought, searched}

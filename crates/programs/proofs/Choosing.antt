@@ -1,10 +1,5 @@
 -- A definition by `cond`, at the way out that the tests have taken. Assumes nothing.
-use mathlib.Core.Path.{_≡_, sym, ap, _∙_}
-use mathlib.Core.Bool.{Bool, true, false, cond}
-use Prim.Native.Nat.{ℕ, _<_, _≤_}
-use native.Mathlib.Omega.{arith}
-use borrow.Author.Tests.{eq-eqb, ne-eqb, lt-ltb, le-ltb}
-use lib.Dec.{eqb, ltb}
+use Rattle.field.proofs.Base.{_≡_, sym, ap, _∙_, Bool, true, false, cond, ℕ, _<_, _≤_, arith, eq-eqb, ne-eqb, lt-ltb, le-ltb, eqb, ltb}
 
 module _ {A : Type 0} where
   -- the test t has said yes, or no, by its answer b

@@ -1,13 +1,6 @@
 -- Two slots that were sought, side by side: what is said, how the program ends, and what is written. Assumes nothing.
-use mathlib.Core.Path.{_≡_, refl, sym, ap, ap₂, _∙_}
-use mathlib.Core.Bool.{Bool, true, false, cond, not, _&&_}
-use mathlib.Core.List.{List, []}
-use mathlib.Core.Logic.{_⊎_, inl, inr}
-use Prim.Native.Nat.{ℕ, _-_, _<_}
-use native.Mathlib.Omega.{arith}
-use borrow.Author.Tests.{not-true}
-use lib.Dec.{eqb}
-use lib.ListN.{length, take}
+use Rattle.field.proofs.Base.{_≡_, refl, sym, ap, ap₂, _∙_, Bool, true, false, cond, not, _&&_, List, [], _⊎_, inl, inr, ℕ, _-_, _<_, arith, not-true}
+use Rattle.field.proofs.Base.{eqb, length, take}
 use Rattle.field.specs.Question.{Outcome, accepted, refused, refusal}
 use Rattle.field.specs.declared.Question.{Question}
 use Rattle.field.specs.declared.Question.the-variants.{RecordNumber}

@@ -1,16 +1,9 @@
 -- A card asked, and converted, batch by batch. Assumes nothing.
-use mathlib.Core.Path.{_≡_, sym, ap, _∙_, subst}
-use mathlib.Core.Bool.{Bool, true, false, cond, false≢true}
-use mathlib.Core.List.{List, [], _++_}
-use mathlib.Core.Logic.{_⊎_, inl, inr, ⊎-elim}
-use Prim.Native.Nat.{ℕ, _+_, _-_, _*_, _%_, _^_, _≤_, _<_}
-use native.Mathlib.Nat.{zero-mul, zero-div, eq-or-lt-of-le, add-mul, mul-assoc, mul-comm, mul-mod-left}
+use Rattle.field.proofs.Base.{_≡_, sym, ap, _∙_, subst, Bool, true, false, cond, false≢true, List, [], _++_, _⊎_, inl, inr, ⊎-elim, ℕ, _+_, _-_, _*_}
+use Rattle.field.proofs.Base.{_%_, _^_, _≤_, _<_, zero-mul, arith, eqb-true, eqb, length, take, length-append, length-take-le}
+use native.Mathlib.Nat.{zero-div, eq-or-lt-of-le, add-mul, mul-assoc, mul-comm, mul-mod-left}
 use native.Mathlib.Nat.{mul-le-mul, mul-le-mul-right, div-le-of-le-mul, div-le-self}
-use native.Mathlib.Omega.{arith}
-use borrow.Author.Tests.{eqb-true}
-use lib.Dec.{eqb}
-use lib.ListN.{length, take, length-append}
-use lib.Seq.{length-take-le, take-append-le}
+use lib.Seq.{take-append-le}
 use Rattle.field.specs.declared.Verdict.{Verdict}
 use Rattle.field.specs.declared.Verdict.the-variants.{Passed, Refused}
 use Rattle.code.specs.Call.{sameBytes, done}

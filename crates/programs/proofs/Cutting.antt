@@ -1,15 +1,10 @@
 -- A text of day sheets taken part by part. Assumes nothing.
-use mathlib.Core.Path.{_≡_, refl, sym, ap, _∙_}
-use mathlib.Core.Bool.{Bool, true, false, _&&_, _||_, false≢true}
-use mathlib.Core.List.{List, [], _++_, append-assoc, append-nil}
-use Prim.Native.Nat.{ℕ, _+_, _-_, _*_, _^_, _≤_, _<_}
+use Rattle.field.proofs.Base.{_≡_, refl, sym, ap, _∙_, Bool, true, false, _&&_, _||_, false≢true, List, [], _++_, append-assoc, append-nil, ℕ, _+_}
+use Rattle.field.proofs.Base.{_-_, _*_, _^_, _≤_, _<_, arith, eqb-true, eqb-false, eqb, ltb, length, take, drop, getD, set, length-append}
+use Rattle.field.proofs.Base.{length-drop, length-take-le, getD-set-same, getD-set-other, getD-take, getD-drop, ext-getD, drop-at}
 use lib.IntN.{ℤ}
-use native.Mathlib.Omega.{arith}
-use borrow.Author.Tests.{eqb-true, eqb-false}
 use borrow.Rule.Slice.PartMut.{putMid, same-len-mid, take-put}
-use lib.Dec.{eqb, ltb}
-use lib.ListN.{length, take, drop, getD, set, length-append, length-drop}
-use lib.Seq.{length-take-le, getD-set-same, getD-set-other, getD-take, getD-drop, ext-getD, take-add, drop-at}
+use lib.Seq.{take-add}
 use Rattle.card.specs.Placed.{Writes}
 use Rattle.csv.specs.declared.Made.{Made}
 use Rattle.csv.specs.declared.TextState.{TextState}

@@ -1,12 +1,7 @@
 -- A listing from batch to batch, and its last lines. Assumes nothing.
-use mathlib.Core.Path.{_≡_, sym, ap, ap₂, _∙_}
-use mathlib.Core.Bool.{true, false, false≢true}
-use mathlib.Core.List.{List, [], _∷_, _++_}
-use mathlib.Core.Logic.{inl}
-use Prim.Native.Nat.{ℕ, _+_, _*_, _^_, _≤_, _<_}
+use Rattle.field.proofs.Base.{_≡_, sym, ap, ap₂, _∙_, true, false, false≢true, List, [], _∷_, _++_, inl, ℕ, _+_, _*_, _^_, _≤_, _<_, arith, length}
+use Rattle.field.proofs.Base.{take, replicate, length-append, length-replicate}
 use native.Mathlib.Nat.{add-assoc}
-use native.Mathlib.Omega.{arith}
-use lib.ListN.{length, take, replicate, length-append, length-replicate}
 use Rattle.card.specs.Record.{erasureBytes, recordSize}
 use Rattle.card.specs.Slots.{recordCount}
 use Rattle.card.specs.Listing.{slotFurther, partLines, partProgress, mostRecords, start, moreLine, totalLine}

@@ -1,14 +1,6 @@
 -- The look at a slot that was sought. Assumes nothing.
-use mathlib.Core.Path.{_≡_, sym, ap, _∙_}
-use mathlib.Core.Bool.{Bool, true, false, cond, false≢true}
-use mathlib.Core.List.{List}
-use mathlib.Core.Logic.{_⊎_, inl, inr}
-use Prim.Native.Nat.{ℕ, _-_, _≤_}
-use native.Mathlib.Omega.{arith}
-use borrow.Author.Tests.{eq-eqb, ne-eqb}
-use lib.Dec.{eqb}
-use lib.ListN.{length, take}
-use lib.Seq.{take-all}
+use Rattle.field.proofs.Base.{_≡_, sym, ap, _∙_, Bool, true, false, cond, false≢true, List, _⊎_, inl, inr, ℕ, _-_, _≤_, arith, eq-eqb, ne-eqb, eqb}
+use Rattle.field.proofs.Base.{length, take, take-all}
 use Rattle.card.specs.Record.{recordSize}
 use Rattle.card.specs.Slots.{recordAt}
 use Rattle.card.specs.Card.{recordNumbered, fine, checkOf, firstRefused}

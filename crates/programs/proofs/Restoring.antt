@@ -1,11 +1,6 @@
 -- A card restored from batch to batch. Assumes nothing.
-use mathlib.Core.Path.{_≡_, refl, sym, ap, _∙_}
-use mathlib.Core.Bool.{Bool, true, false, not}
-use mathlib.Core.List.{List, []}
-use Prim.Native.Nat.{ℕ, _+_, _*_, _<_}
-use native.Mathlib.Omega.{arith}
-use borrow.Author.Tests.{eq-eqb, ne-eqb}
-use lib.ListN.{length, take, length-append}
+use Rattle.field.proofs.Base.{_≡_, refl, sym, ap, _∙_, Bool, true, false, not, List, [], ℕ, _+_, _*_, _<_, arith, eq-eqb, ne-eqb, length, take}
+use Rattle.field.proofs.Base.{length-append}
 use Rattle.card.specs.declared.Progress.{Progress}
 use Rattle.card.specs.Record.{erasureBytes, recordSize, recordUpTo}
 use Rattle.card.specs.Listing.{furtherBy, progressUpTo, start}

@@ -1,13 +1,6 @@
 -- What a text is, where an argument of a role stands, and what the roles decide. Assumes nothing.
-use mathlib.Core.Path.{_≡_, refl, sym, ap, _∙_}
-use mathlib.Core.Bool.{Bool, true, false, cond}
-use mathlib.Core.List.{List, [], _∷_}
-use Prim.Native.Nat.{ℕ, zero, suc, _+_, _-_, _<_, _≤_}
-use native.Mathlib.Numerals.{add-one}
-use native.Mathlib.Omega.{arith}
-use borrow.Author.Tests.{eq-eqb, ne-eqb}
-use lib.ListN.{length, getD, drop, drop-of-length-le}
-use lib.Seq.{drop-cons, take-all}
+use Rattle.field.proofs.Base.{_≡_, refl, sym, ap, _∙_, Bool, true, false, cond, List, [], _∷_, ℕ, zero, suc, _+_, _-_, _<_, _≤_, add-one, arith}
+use Rattle.field.proofs.Base.{eq-eqb, ne-eqb, length, getD, drop, drop-of-length-le, drop-cons, take-all}
 use Rattle.card.specs.Listing.{bytesOf}
 use Rattle.code.specs.Call.{sameBytes}
 use Rattle.report.specs.Window.{isWindow}

@@ -1,14 +1,7 @@
 -- A slot sought batch by batch, and the number of a record in an argument. Assumes nothing.
-use mathlib.Core.Path.{_≡_, refl, sym, ap, _∙_, subst}
-use mathlib.Core.Bool.{Bool, true, false, cond}
-use mathlib.Core.List.{List, [], _++_}
-use mathlib.Core.Logic.{_⊎_, inl, inr}
-use Prim.Native.Nat.{ℕ, _+_, _-_, _*_, _≤_, _<_}
-use native.Mathlib.Numerals.{add-one}
-use native.Mathlib.Omega.{arith}
-use borrow.Author.Tests.{le-leb, lt-leb}
-use lib.ListN.{length, take, drop, getD, length-append, length-take, length-drop, drop-of-length-le}
-use lib.Seq.{length-take-le, drop-cons}
+use Rattle.field.proofs.Base.{_≡_, refl, sym, ap, _∙_, subst, Bool, true, false, cond, List, [], _++_, _⊎_, inl, inr, ℕ, _+_, _-_, _*_, _≤_, _<_}
+use Rattle.field.proofs.Base.{add-one, arith, le-leb, lt-leb, length, take, drop, getD, length-append, length-take, length-drop, drop-of-length-le}
+use Rattle.field.proofs.Base.{length-take-le, drop-cons}
 use Rattle.card.specs.Record.{erasureBytes, recordSize}
 use Rattle.card.specs.Slots.{recordCount, recordAt}
 use Rattle.card.specs.Card.{recordNumbered}

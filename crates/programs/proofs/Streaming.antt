@@ -1,15 +1,8 @@
 -- What the answer of a read or write means, reading and writing part by part, and numbers that C answers. Assumes nothing.
-use mathlib.Core.Path.{_≡_, refl, sym, subst, ap, _∙_}
-use mathlib.Core.Bool.{true, false, false≢true, true≢false}
-use mathlib.Core.List.{List}
-use Prim.Native.Nat.{ℕ, zero, suc, _+_, _-_, _^_, _≤_, _<_, min}
+use Rattle.field.proofs.Base.{_≡_, refl, sym, subst, ap, _∙_, true, false, false≢true, true≢false, List, ℕ, zero, suc, _+_, _-_, _^_, _≤_, _<_, min}
+use Rattle.field.proofs.Base.{arith, ltb-true, length, take, drop, length-drop, length-take-le, T, lit<}
 use native.Mathlib.Nat.{min-le-right, lt-of-le-of-lt}
-use native.Mathlib.Omega.{arith}
-use borrow.Author.Tests.{ltb-true}
 use lib.IntN.{ℤ, pos, negsuc, natAbs}
-use lib.ListN.{length, take, drop, length-drop}
-use lib.Seq.{length-take-le}
-use lib.Dec.{T, lit<}
 use lib.Signed.{ltZ, nonNeg, natAbs-le}
 use mir.Syntax.{w32, w64}
 use mir.Val.{Fits, SFits, toZ, ofZ}

@@ -1,13 +1,6 @@
 -- A report from batch to batch, and the table of it. Assumes nothing.
-use mathlib.Core.Path.{_≡_, refl, sym, ap, _∙_, subst}
-use mathlib.Core.Bool.{Bool, true, false, cond, false≢true}
-use mathlib.Core.List.{List, [], _∷_, _++_}
-use Prim.Native.Nat.{ℕ, zero, suc, _+_, _*_, _^_, _≤_, _<_}
-use native.Mathlib.Omega.{arith}
-use borrow.Author.Tests.{lt-ltb}
-use lib.Dec.{ltb}
-use lib.ListN.{length, take, length-append}
-use lib.Seq.{take-at}
+use Rattle.field.proofs.Base.{_≡_, refl, sym, ap, _∙_, subst, Bool, true, false, cond, false≢true, List, [], _∷_, _++_, ℕ, zero, suc, _+_, _*_, _^_}
+use Rattle.field.proofs.Base.{_≤_, _<_, arith, lt-ltb, ltb, length, take, length-append, take-at}
 use Rattle.card.specs.Record.{recordSize, erasureBytes}
 use Rattle.card.specs.Slots.{recordCount}
 use Rattle.card.specs.Listing.{mostRecords}

@@ -1,12 +1,6 @@
 -- The day sheets of a card printed from batch to batch. Assumes nothing.
-use mathlib.Core.Path.{_≡_, refl, sym, ap, _∙_}
-use mathlib.Core.Bool.{true}
-use mathlib.Core.List.{List, [], _++_}
-use mathlib.Core.Logic.{_⊎_, inl, inr}
-use Prim.Native.Nat.{ℕ, _+_, _*_, _<_}
-use native.Mathlib.Omega.{arith}
-use borrow.Author.Tests.{eq-eqb, ne-eqb}
-use lib.ListN.{length, take, length-append}
+use Rattle.field.proofs.Base.{_≡_, refl, sym, ap, _∙_, true, List, [], _++_, _⊎_, inl, inr, ℕ, _+_, _*_, _<_, arith, eq-eqb, ne-eqb, length, take}
+use Rattle.field.proofs.Base.{length-append}
 use Rattle.card.specs.Record.{erasureBytes, recordSize}
 use Rattle.card.specs.Batch.{mostBatches}
 use Rattle.card.proofs.Folding.{in-parts, over-none}

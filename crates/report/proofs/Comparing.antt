@@ -1,14 +1,7 @@
 -- Two day sheets side by side. Assumes nothing.
-use mathlib.Core.Path.{_≡_, refl, sym, ap, ap₂, _∙_, subst}
-use mathlib.Core.Bool.{Bool, true, false, cond, not, _&&_}
-use mathlib.Core.List.{List, [], _∷_}
-use Prim.Native.Nat.{ℕ, zero, suc, _+_, _≤_, _<_}
-use native.Mathlib.Numerals.{add-one}
-use native.Mathlib.Omega.{arith}
-use borrow.Author.Tests.{eq-eqb, ne-eqb, eqb-true, not-true, not-false}
-use lib.Dec.{eqb}
-use lib.ListN.{length, getD, take, drop, replicate, drop-of-length-le}
-use lib.Seq.{drop-cons, getD-take, length-take-le}
+use Rattle.field.proofs.Base.{_≡_, refl, sym, ap, ap₂, _∙_, subst, Bool, true, false, cond, not, _&&_, List, [], _∷_, ℕ, zero, suc, _+_, _≤_, _<_}
+use Rattle.field.proofs.Base.{add-one, arith, eq-eqb, ne-eqb, eqb-true, not-true, not-false, eqb, length, getD, take, drop, replicate}
+use Rattle.field.proofs.Base.{drop-of-length-le, drop-cons, getD-take, length-take-le}
 use denote.Ref.{RefT, now}
 use Rattle.field.specs.Question.{Outcome, accepted, refused, refusal, ask, after}
 use Rattle.field.specs.declared.Question.{Question}

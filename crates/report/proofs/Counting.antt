@@ -1,15 +1,9 @@
 -- Counts in a window, and the row of a pump with a further sheet. Assumes nothing.
-use mathlib.Core.Path.{_≡_, refl, sym, ap, ap₂, _∙_}
-use mathlib.Core.Bool.{Bool, true, false, cond, not, _||_}
-use mathlib.Core.List.{List, [], _∷_}
-use Prim.Native.Nat.{ℕ, zero, suc, _+_, _-_, _*_, _/_, _%_, _≤_, _<_, max}
+use Rattle.field.proofs.Base.{_≡_, refl, sym, ap, ap₂, _∙_, Bool, true, false, cond, not, _||_, List, [], _∷_, ℕ, zero, suc, _+_, _-_, _*_, _/_, _%_}
+use Rattle.field.proofs.Base.{_≤_, _<_, add-one, arith, eq-eqb, ne-eqb, lt-ltb, le-ltb, ltb-true, ltb-false, leb-true, not-true, not-false, eqb, leb}
+use Rattle.field.proofs.Base.{ltb, length, getD, drop, length-take, length-drop, drop-of-length-le, drop-cons, getD-take, getD-drop}
+use Prim.Native.Nat.{max}
 use native.Mathlib.Nat.{le-max-left}
-use native.Mathlib.Numerals.{add-one}
-use native.Mathlib.Omega.{arith}
-use borrow.Author.Tests.{eq-eqb, ne-eqb, lt-ltb, le-ltb, ltb-true, ltb-false, leb-true, not-true, not-false}
-use lib.Dec.{eqb, leb, ltb}
-use lib.ListN.{length, getD, drop, length-take, length-drop, drop-of-length-le}
-use lib.Seq.{drop-cons, getD-take, getD-drop}
 use Rattle.field.specs.Question.{ask}
 use Rattle.field.specs.declared.Question.the-variants.{Length, Window as InWindow}
 use Rattle.field.specs.declared.Verdict.the-variants.{Passed, Refused}

@@ -1,13 +1,7 @@
 -- The demands of specs/Demands.antt, each under its name in small letters. Assumes nothing.
-use mathlib.Core.Path.{_≡_, refl, sym, ap, ap₂, _∙_}
-use mathlib.Core.Bool.{Bool, true, false, cond, _&&_}
-use mathlib.Core.List.{List, [], _∷_}
-use Prim.Native.Nat.{ℕ, _+_, _-_, _*_}
-use native.Mathlib.Omega.{arith}
-use lib.Dec.{ltb}
-use lib.ListN.{length, take, drop}
+use Rattle.field.proofs.Base.{_≡_, refl, sym, ap, ap₂, _∙_, Bool, true, false, cond, _&&_, List, [], _∷_, ℕ, _+_, _-_, _*_, arith, ltb, length, take}
+use Rattle.field.proofs.Base.{drop, getD-take, getD-drop}
 use denote.Ref.{RefT, now}
-use lib.Seq.{getD-take, getD-drop}
 use Rattle.field.specs.Question.{Outcome, accepted, ask, after}
 use Rattle.field.specs.declared.Question.the-variants.{RecordNumber, SameDay}
 use Rattle.field.specs.declared.Verdict.{Verdict}

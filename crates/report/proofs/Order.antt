@@ -1,12 +1,6 @@
 -- The order of dates. Assumes nothing.
-use mathlib.Core.Path.{_≡_, refl, ap, ap₂, _∙_}
-use mathlib.Core.Logic.{_⊎_, inl, inr}
-use mathlib.Core.Bool.{Bool, true, false, cond}
-use Prim.Native.Nat.{ℕ, _+_, _≤_, _<_}
-use native.Mathlib.Nat.{le-refl}
-use native.Mathlib.Omega.{arith}
-use borrow.Author.Tests.{eq-eqb, ne-eqb, eqb-true, eqb-false, lt-ltb, le-ltb, ltb-true, ltb-false}
-use lib.Dec.{eqb, ltb}
+use Rattle.field.proofs.Base.{_≡_, refl, ap, ap₂, _∙_, _⊎_, inl, inr, Bool, true, false, cond, ℕ, _+_, _≤_, _<_, le-refl, arith, eq-eqb, ne-eqb}
+use Rattle.field.proofs.Base.{eqb-true, eqb-false, lt-ltb, le-ltb, ltb-true, ltb-false, eqb, ltb}
 use Rattle.report.specs.Window.{below, earlier}
 use Rattle.report.specs.declared.row.Date.{Date}
 use Rattle.report.specs.Demands.{EarlierMeans, DaysInOrder}

@@ -1,15 +1,7 @@
 -- The texts of a quarter hour, and the search for it. Assumes nothing.
-use mathlib.Core.Path.{_≡_, refl, sym, ap, _∙_, subst}
-use mathlib.Core.Logic.{_⊎_, inl, inr, ⊎-elim}
-use mathlib.Core.Bool.{Bool, true, false, cond, _&&_, _||_}
-use mathlib.Core.List.{List}
-use Prim.Native.Nat.{ℕ, zero, suc, _+_, _-_, _≤_, _<_}
+use Rattle.field.proofs.Base.{_≡_, refl, sym, ap, _∙_, subst, _⊎_, inl, inr, ⊎-elim, Bool, true, false, cond, _&&_, _||_, List, ℕ, zero, suc, _+_}
+use Rattle.field.proofs.Base.{_-_, _≤_, _<_, arith, eqb-true, eqb-false, eqb, length, take, drop, take-at}
 use native.Mathlib.Numerals.{unary-clauses}
-use native.Mathlib.Omega.{arith}
-use borrow.Author.Tests.{eqb-true, eqb-false}
-use lib.Dec.{eqb}
-use lib.ListN.{length, take, drop}
-use lib.Seq.{take-at}
 use Rattle.field.proofs.Ask.{and-true-left, and-true-right}
 use Rattle.code.specs.Call.{sameBytes}
 use Rattle.code.proofs.Same.{same-equal}

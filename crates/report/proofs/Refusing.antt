@@ -1,12 +1,5 @@
 -- What a comparison refuses, and in which order. Assumes nothing.
-use mathlib.Core.Path.{_≡_, refl, sym, ap, ap₂, _∙_, subst}
-use mathlib.Core.Logic.{_⊎_, inl, inr}
-use mathlib.Core.Bool.{Bool, true, false, _&&_}
-use mathlib.Core.List.{List}
-use Prim.Native.Nat.{ℕ, _≤_}
-use native.Mathlib.Omega.{arith}
-use lib.Dec.{eqb}
-use lib.ListN.{length}
+use Rattle.field.proofs.Base.{_≡_, refl, sym, ap, ap₂, _∙_, subst, _⊎_, inl, inr, Bool, true, false, _&&_, List, ℕ, _≤_, arith, eqb, length}
 use Rattle.field.specs.Field.{order}
 use Rattle.field.specs.Question.{Outcome, accepted, refused, refusal, ask, after, isWidth, allBelow}
 use Rattle.field.specs.declared.Question.{Question}

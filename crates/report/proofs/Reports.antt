@@ -1,15 +1,11 @@
 -- The report as a list of numbers: rows, bounds, slot by slot. Assumes nothing.
-use mathlib.Core.Path.{_≡_, refl, sym, ap, ap₂, _∙_, subst}
-use mathlib.Core.Logic.{_≢_}
-use mathlib.Core.Bool.{Bool, true, false, cond}
-use mathlib.Core.List.{List, [], _∷_, _++_, append-nil}
-use Prim.Native.Nat.{ℕ, zero, suc, _+_, _-_, _*_, _^_, _≤_, _<_}
+use Rattle.field.proofs.Base.{_≡_, refl, sym, ap, ap₂, _∙_, subst, _≢_, Bool, true, false, cond, List, [], _∷_, _++_, append-nil, ℕ, zero, suc, _+_}
+use Rattle.field.proofs.Base.{_-_, _*_, _^_, _≤_, _<_, arith, lt-ltb, le-ltb, ltb-true, ltb-false, eqb-true, eqb, ltb, length, getD, set, take, drop}
+use Rattle.field.proofs.Base.{replicate, length-append, length-take, length-drop, length-set, length-replicate, drop-of-length-le, drop-at, take-all}
+use Rattle.field.proofs.Base.{getD-take, getD-drop, getD-set-other, ext-getD, length-take-le}
 use native.Mathlib.Nat.{div-le-self, mod-le}
-use native.Mathlib.Omega.{arith}
-use borrow.Author.Tests.{lt-ltb, le-ltb, ltb-true, ltb-false, eqb-true}
-use lib.Dec.{eqb, ltb}
-use lib.ListN.{length, getD, set, take, drop, replicate, length-append, length-take, length-drop, length-set, length-replicate, drop-of-length-le, List·getD-append}
-use lib.Seq.{drop-at, take-all, getD-append-add, getD-take, getD-drop, getD-set-other, ext-getD, length-take-le, sets, sets-eq}
+use lib.ListN.{List·getD-append}
+use lib.Seq.{getD-append-add, sets, sets-eq}
 use Rattle.field.specs.Question.{ask}
 use Rattle.field.specs.declared.Question.{Question}
 use Rattle.field.specs.declared.Question.the-variants.{Length, Window as InWindow}

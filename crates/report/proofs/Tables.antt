@@ -1,13 +1,6 @@
 -- The lines of a table: how they come about, and how long they are. Assumes nothing.
-use mathlib.Core.Path.{_≡_, refl, sym, ap, _∙_}
-use mathlib.Core.Bool.{Bool, true, false, cond}
-use mathlib.Core.List.{List, [], _∷_, _++_, append-assoc}
-use Prim.Native.Nat.{ℕ, zero, suc, _+_, _*_, _≤_, _<_}
-use native.Mathlib.Numerals.{add-one}
-use native.Mathlib.Omega.{arith}
-use borrow.Author.Tests.{lt-ltb, le-ltb, ltb-true}
-use lib.Dec.{eqb, ltb}
-use lib.ListN.{length, length-append}
+use Rattle.field.proofs.Base.{_≡_, refl, sym, ap, _∙_, Bool, true, false, cond, List, [], _∷_, _++_, append-assoc, ℕ, zero, suc, _+_, _*_, _≤_, _<_}
+use Rattle.field.proofs.Base.{add-one, arith, lt-ltb, le-ltb, ltb-true, eqb, ltb, length, length-append}
 use Rattle.code.specs.Word.{at}
 use Rattle.card.specs.Listing.{decimal, space, newline, blankWord, moreLine}
 use Rattle.card.specs.Placed.{Writes}

@@ -1,16 +1,11 @@
 -- What the report says: every slot is counted once, the mean, and the highest count with its earliest date. Assumes nothing.
-use mathlib.Core.Path.{_≡_, refl, sym, ap, ap₂, _∙_, subst}
-use mathlib.Core.Logic.{_⊎_, inl, inr}
-use mathlib.Core.Bool.{Bool, true, false, cond, _||_, false≢true}
-use mathlib.Core.List.{List}
-use Prim.Native.Nat.{ℕ, zero, suc, _+_, _-_, _*_, _≤_, _<_}
-use native.Mathlib.Decide.{ℕ-discrete}
+use Rattle.field.proofs.Base.{_≡_, refl, sym, ap, ap₂, _∙_, subst, _⊎_, inl, inr, Bool, true, false, cond, _||_, false≢true, List, ℕ, zero, suc, _+_}
+use Rattle.field.proofs.Base.{_-_, _*_, _≤_, _<_, ℕ-discrete, arith, eq-eqb, ne-eqb, eqb-true, eqb-false, leb-true, lt-ltb, le-ltb, eqb, leb, length}
+use Rattle.field.proofs.Base.{getD, set, take, drop, replicate, take-append-drop, length-take, length-drop, length-replicate, take-all, getD-take}
+use Rattle.field.proofs.Base.{getD-drop, getD-set-same, getD-set-other, ext-getD, length-take-le}
 use native.Mathlib.Nat.{div-add-mod', mod-lt}
-use native.Mathlib.Omega.{arith}
-use borrow.Author.Tests.{eq-eqb, ne-eqb, eqb-true, eqb-false, leb-true, leb-false, lt-ltb, le-ltb}
-use lib.Dec.{eqb, leb}
-use lib.ListN.{length, getD, set, take, drop, replicate, take-append-drop, length-take, length-drop, length-replicate, getD-replicate}
-use lib.Seq.{take-all, getD-take, getD-drop, getD-set-same, getD-set-other, ext-getD, length-take-le}
+use borrow.Author.Tests.{leb-false}
+use lib.ListN.{getD-replicate}
 use Rattle.field.specs.Question.{accepted, refused}
 use Rattle.code.specs.Word.{at}
 use Rattle.code.specs.Demands.{occurs}

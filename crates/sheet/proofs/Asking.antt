@@ -1,14 +1,6 @@
 -- What the answers of the functions that put the questions say, for the calls above them. Assumes nothing.
-use mathlib.Core.Path.{_≡_, refl, sym, ap, _∙_}
-use mathlib.Core.Logic.{_≢_}
-use mathlib.Core.Bool.{Bool, true, false, cond, not}
-use mathlib.Core.List.{List}
-use Prim.Native.Nat.{ℕ, _+_, _-_}
-use native.Mathlib.Omega.{arith}
-use borrow.Author.Tests.{eq-eqb, ne-eqb, not-true, not-false}
-use lib.Dec.{eqb}
-use lib.ListN.{length, take, drop}
-use lib.Seq.{drop-drop}
+use Rattle.field.proofs.Base.{_≡_, refl, sym, ap, _∙_, _≢_, Bool, true, false, cond, not, List, ℕ, _+_, _-_, arith, eq-eqb, ne-eqb, not-true}
+use Rattle.field.proofs.Base.{not-false, eqb, length, take, drop, drop-drop}
 use Rattle.field.specs.Field.{order}
 use Rattle.field.specs.Question.{Outcome, accepted, refused, refusal, ask, after, isWidth, allBelow}
 use Rattle.field.specs.inner.Operand.{orderOf}

@@ -1,9 +1,6 @@
 -- From the answers of the questions to the contracts of the calls. Assumes nothing.
-use mathlib.Core.Path.{_≡_, refl, sym, ap, _∙_, subst₂}
-use mathlib.Core.List.{List}
-use Prim.Native.Nat.{ℕ, _+_, _≤_}
-use native.Mathlib.Omega.{arith}
-use lib.ListN.{length}
+use Rattle.field.proofs.Base.{_≡_, refl, sym, ap, _∙_, List, ℕ, _+_, _≤_, arith, length}
+use mathlib.Core.Path.{subst₂}
 use Rattle.field.specs.Question.{accepted}
 use Rattle.field.specs.declared.Question.{Question}
 use Rattle.field.specs.declared.Verdict.{Verdict}

@@ -1,14 +1,7 @@
 -- The calendar, as the functions compute it. Assumes nothing.
-use mathlib.Core.Path.{_≡_, refl, sym, ap, _∙_}
-use mathlib.Core.Logic.{_≢_, inl, inr}
-use mathlib.Core.Bool.{Bool, true, false, cond, _&&_, _||_}
-use mathlib.Core.List.{List, [], _∷_, _++_, map}
-use Prim.Native.Nat.{ℕ, suc, _+_, _%_}
-use native.Mathlib.Omega.{arith}
-use borrow.Author.Tests.{eq-eqb, ne-eqb, le-leb}
+use Rattle.field.proofs.Base.{_≡_, refl, sym, ap, _∙_, _≢_, inl, inr, Bool, true, false, cond, _&&_, _||_, List, [], _∷_, _++_, map, ℕ, suc, _+_, _%_}
+use Rattle.field.proofs.Base.{arith, eq-eqb, ne-eqb, le-leb, eqb, leb, length, replicate}
 use types.Run.{OneOf}
-use lib.Dec.{eqb, leb}
-use lib.ListN.{length, replicate}
 use Rattle.code.specs.Erasure.{member}
 use Rattle.sheet.specs.Calendar.{isLeap, thirty, thirtyOne, daysIn, epoch, dateExists}
 

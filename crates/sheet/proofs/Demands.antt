@@ -1,8 +1,5 @@
 -- The demands of specs/Demands.antt, each under its name in small letters. Assumes nothing.
-use mathlib.Core.Path.{_≡_, refl, sym, ap, _∙_, subst}
-use mathlib.Core.List.{List}
-use Prim.Native.Nat.{ℕ}
-use lib.ListN.{length}
+use Rattle.field.proofs.Base.{_≡_, refl, sym, ap, _∙_, subst, List, ℕ, length}
 use Rattle.field.specs.Question.{accepted}
 use Rattle.field.specs.declared.Verdict.{Verdict}
 use Rattle.field.specs.declared.Verdict.the-variants.{Passed}

@@ -1,13 +1,7 @@
 -- What passes the questions of writing and reading, what passing tells, and that each undoes the other. Assumes nothing.
-use mathlib.Core.Path.{_≡_, refl, sym, ap, ap₂, _∙_, subst}
-use mathlib.Core.Bool.{true}
-use mathlib.Core.List.{List, [], _∷_, _++_}
-use Prim.Native.Nat.{ℕ, _+_, _-_, _<_}
-use native.Mathlib.Omega.{arith}
-use borrow.Author.Tests.{eq-eqb, eqb-true}
-use lib.Dec.{eqb, ltb}
-use lib.ListN.{length, getD, replicate, take-append-drop, length-take, length-drop, length-append}
-use lib.Seq.{take-at, drop-at, getD-take, getD-drop}
+use Rattle.field.proofs.Base.{_≡_, refl, sym, ap, ap₂, _∙_, subst, true, List, [], _∷_, _++_, ℕ, _+_, _-_, _<_, arith, eq-eqb, eqb-true, eqb, ltb}
+use Rattle.field.proofs.Base.{length, getD, replicate, take-append-drop, length-take, length-drop, length-append, take-at, drop-at, getD-take}
+use Rattle.field.proofs.Base.{getD-drop}
 use Rattle.field.specs.Field.{order}
 use Rattle.field.specs.Question.{isWidth, allBelow}
 use Rattle.field.specs.declared.Question.the-variants.{Width, Length, Symbol, Syndrome, SheetWidth, Date, Unused}

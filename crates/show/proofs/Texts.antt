@@ -1,8 +1,5 @@
 -- Texts one behind the other. Assumes nothing.
-use mathlib.Core.List.{List}
-use Prim.Native.Nat.{ℕ, _+_, _≤_}
-use native.Mathlib.Numerals.{add-one}
-use lib.ListN.{length}
+use Rattle.field.proofs.Base.{List, ℕ, _+_, _≤_, add-one, length}
 use Rattle.card.specs.Placed.{Writes}
 use Rattle.card.proofs.Writing.{writes-none, writes-on}
 use Rattle.show.specs.Text.{texts}

@@ -1,14 +1,7 @@
 -- A look at a record, and looks between the steps of a walk. Assumes nothing.
-use borrow.Author.Tests.{eq-eqb, ne-eqb, eqb-true}
-use mathlib.Core.Path.{_≡_, refl, sym, ap, ap₂, _∙_, subst}
-use mathlib.Core.Bool.{Bool, true, false}
-use mathlib.Core.List.{List, [], _∷_, _++_, append-nil}
-use Prim.Native.Nat.{ℕ, _+_, _-_, _*_, _≤_, _<_}
-use native.Mathlib.Decide.{decLt}
-use native.Mathlib.Omega.{arith}
-use lib.Dec.{eqb}
-use lib.ListN.{length, take, drop, length-append, length-take, length-drop, take-append-drop, drop-of-length-le}
-use lib.Seq.{take-all}
+use Rattle.field.proofs.Base.{eq-eqb, ne-eqb, eqb-true, _≡_, refl, sym, ap, ap₂, _∙_, subst, Bool, true, false, List, [], _∷_, _++_, append-nil, ℕ}
+use Rattle.field.proofs.Base.{_+_, _-_, _*_, _≤_, _<_, decLt, arith, eqb, length, take, drop, length-append, length-take, length-drop}
+use Rattle.field.proofs.Base.{take-append-drop, drop-of-length-le, take-all}
 use Rattle.field.specs.Question.{Outcome, accepted, refused, refusal, after}
 use Rattle.field.specs.declared.Question.{Question}
 use Rattle.field.specs.declared.Question.the-variants.{Length, RecordNumber}

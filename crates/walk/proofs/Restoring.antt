@@ -1,10 +1,9 @@
 -- A card restored slot by slot and part by part, whatever is made of a slot. Assumes nothing.
-use mathlib.Core.Path.{_≡_, sym, ap, ap₂, fun-ext, _∙_}
-use mathlib.Core.List.{List, [], _++_, append-assoc, append-nil}
-use Prim.Native.Nat.{ℕ, _+_, _-_, _*_, _≤_, _<_, min}
-use native.Mathlib.Omega.{arith}
-use lib.ListN.{length, take, drop, length-append, length-take, length-drop, take-append-drop, drop-of-length-le}
-use lib.Seq.{take-at, drop-at, take-all, take-add, drop-drop}
+use Rattle.field.proofs.Base.{_≡_, sym, ap, ap₂, _∙_, List, [], _++_, append-assoc, append-nil, ℕ, _+_, _-_, _*_, _≤_, _<_, min, arith, length, take}
+use Rattle.field.proofs.Base.{drop, length-append, length-take, length-drop, take-append-drop, drop-of-length-le, take-at, drop-at, take-all}
+use Rattle.field.proofs.Base.{drop-drop}
+use mathlib.Core.Path.{fun-ext}
+use lib.Seq.{take-add}
 use Rattle.card.specs.Record.{erasureBytes, recordSize, mostChanges, recordWritten, recordWrittenUpTo}
 use Rattle.card.specs.Slots.{recordCount, recordAt, overFirst, overSlots, appended}
 use Rattle.card.proofs.Again.{written-size, written-again}

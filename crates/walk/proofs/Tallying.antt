@@ -1,11 +1,7 @@
 -- Restoring a card up to a longest reach n and counting its slots. Assumes nothing.
-use mathlib.Core.Path.{_≡_, refl, sym, ap, ap₂, _∙_, subst}
-use mathlib.Core.Bool.{Bool, true, false, cond}
-use mathlib.Core.List.{List, [], _++_}
-use Prim.Native.Nat.{ℕ, zero, suc, _+_, _-_, _*_, _≤_, _<_, min}
+use Rattle.field.proofs.Base.{_≡_, refl, sym, ap, ap₂, _∙_, subst, Bool, true, false, cond, List, [], _++_, ℕ, zero, suc, _+_, _-_, _*_, _≤_, _<_}
+use Rattle.field.proofs.Base.{min, arith, length, take, drop, length-drop, length-take, drop-of-length-le}
 use native.Mathlib.Nat.{zero-add}
-use native.Mathlib.Omega.{arith}
-use lib.ListN.{length, take, drop, length-drop, length-take, drop-of-length-le}
 use Rattle.field.specs.Question.{Outcome, accepted, refused}
 use Rattle.field.specs.declared.Question.{Question}
 use Rattle.field.specs.declared.Verdict.{Verdict}

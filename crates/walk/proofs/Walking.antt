@@ -1,14 +1,7 @@
 -- The steps of a walk: the questions of one, its answer, and steps one after the other. Assumes nothing.
-use borrow.Author.Tests.{eq-eqb, ne-eqb, eqb-true}
-use mathlib.Core.Path.{_≡_, refl, sym, ap, ap₂, _∙_}
-use mathlib.Core.Bool.{Bool, true, false}
-use mathlib.Core.List.{List}
-use Prim.Native.Nat.{ℕ, zero, suc, _+_, _-_, _*_, _≤_, _<_, min}
-use native.Mathlib.Decide.{decLt}
+use Rattle.field.proofs.Base.{eq-eqb, ne-eqb, eqb-true, _≡_, refl, sym, ap, ap₂, _∙_, Bool, true, false, List, ℕ, zero, suc, _+_, _-_, _*_, _≤_, _<_}
+use Rattle.field.proofs.Base.{min, decLt, arith, eqb, length}
 use native.Mathlib.Nat.{zero-add}
-use native.Mathlib.Omega.{arith}
-use lib.Dec.{eqb}
-use lib.ListN.{length}
 use Rattle.field.specs.Question.{accepted, refused}
 use Rattle.field.specs.declared.Question.the-variants.{Length, RecordNumber}
 use Rattle.field.specs.declared.Verdict.{Verdict}

@@ -1,13 +1,6 @@
 -- What the answers of the functions that put the questions say, for the calls above them. Assumes nothing.
-use mathlib.Core.Path.{_≡_, refl, sym, ap, _∙_}
-use mathlib.Core.Logic.{_≢_}
-use mathlib.Core.Bool.{Bool, true, false, cond, false≢true, not}
-use mathlib.Core.List.{List}
-use Prim.Native.Nat.{ℕ, _+_, _-_, _≤_, _<_}
-use native.Mathlib.Omega.{arith}
-use borrow.Author.Tests.{eq-eqb, ne-eqb, eqb-true, le-leb, lt-leb, not-true, not-false}
-use lib.Dec.{eqb}
-use lib.ListN.{length}
+use Rattle.field.proofs.Base.{_≡_, refl, sym, ap, _∙_, _≢_, Bool, true, false, cond, false≢true, not, List, ℕ, _+_, _-_, _≤_, _<_, arith, eq-eqb}
+use Rattle.field.proofs.Base.{ne-eqb, eqb-true, le-leb, lt-leb, not-true, not-false, eqb, length}
 use Rattle.field.specs.Field.{order}
 use Rattle.field.specs.Question.{accepted, refused, refusal, ask, after, isWidth, allBelow}
 use Rattle.field.specs.inner.Operand.{orderOf}

@@ -1,11 +1,6 @@
 -- The encoder makes a codeword from any data, which it holds, and every codeword from its own data. Assumes nothing.
-use mathlib.Core.Path.{_≡_, refl, sym, ap, _∙_, subst}
-use mathlib.Core.List.{List}
-use Prim.Native.Nat.{ℕ, _+_, _-_, _≤_, _<_}
-use native.Mathlib.Decide.{decLt}
-use native.Mathlib.Omega.{arith}
-use lib.ListN.{length-drop, List·getD-append}
-use lib.Seq.{getD-drop, ext-getD}
+use Rattle.field.proofs.Base.{_≡_, refl, sym, ap, _∙_, subst, List, ℕ, _+_, _-_, _≤_, _<_, decLt, arith, length-drop, getD-drop, ext-getD}
+use lib.ListN.{List·getD-append}
 use Rattle.field.specs.Polynomial.{add}
 use Rattle.field.specs.Field.{order}
 use Rattle.field.proofs.Laws.{IsField}

@@ -1,11 +1,5 @@
 -- The syndromes of a word from the sums over its data, the part after the check symbols. Assumes nothing.
-use mathlib.Core.Path.{_≡_, sym, ap, _∙_, subst}
-use mathlib.Core.Bool.{true}
-use mathlib.Core.List.{List}
-use Prim.Native.Nat.{ℕ, _+_, _-_, _*_, _<_}
-use native.Mathlib.Omega.{arith}
-use lib.ListN.{length, take, drop, length-drop}
-use lib.Seq.{getD-drop}
+use Rattle.field.proofs.Base.{_≡_, sym, ap, _∙_, subst, true, List, ℕ, _+_, _-_, _*_, _<_, arith, length, take, drop, length-drop, getD-drop}
 use Rattle.field.specs.Polynomial.{add}
 use Rattle.field.specs.Field.{order, product, power, α}
 use Rattle.field.specs.Question.{allBelow}

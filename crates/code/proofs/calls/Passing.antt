@@ -1,14 +1,7 @@
 -- What the questions before question 8 tell of a word and its erasures, what the question about the syndromes tells, that data passes the
 -- encoder's questions and a codeword the reader's. Assumes nothing.
-use mathlib.Core.Path.{_≡_, refl, sym, ap, _∙_}
-use mathlib.Core.Bool.{Bool, true}
-use mathlib.Core.List.{List}
-use Prim.Native.Nat.{ℕ, _≤_, _<_}
-use native.Mathlib.Nat.{le-refl}
-use native.Mathlib.Omega.{arith}
-use borrow.Author.Tests.{leb-true, le-leb, lt-leb, eqb-true, eq-eqb}
-use lib.Dec.{eqb, leb}
-use lib.ListN.{length}
+use Rattle.field.proofs.Base.{_≡_, refl, sym, ap, _∙_, Bool, true, List, ℕ, _≤_, _<_, le-refl, arith, leb-true, le-leb, lt-leb, eqb-true, eq-eqb, eqb}
+use Rattle.field.proofs.Base.{leb, length}
 use Rattle.field.specs.Field.{order}
 use Rattle.field.specs.Question.{ask, isWidth, allBelow}
 use Rattle.field.specs.declared.Question.{Question}

@@ -1,13 +1,8 @@
 -- The distance of the code: 5 where cubing is one to one, 4 in any case; so it goes by the width's parity. Assumes nothing.
-use mathlib.Core.Path.{_≡_, refl, sym, ap, ap₂, _∙_, subst}
-use mathlib.Core.Logic.{_≢_}
-use mathlib.Core.Bool.{true}
-use Prim.Native.Nat.{ℕ, zero, suc, _+_, _-_, _*_, _%_, _≤_, _<_, zero-le}
-use native.Mathlib.Nat.{add-zero, not-suc-le-zero, suc-ne-zero, le-refl}
-use native.Mathlib.Numerals.{add-one}
-use native.Mathlib.Decide.{ℕ-discrete, decLt}
-use native.Mathlib.Omega.{arith}
-use lib.Dec.{T, ltb, ltb→lt}
+use Rattle.field.proofs.Base.{_≡_, refl, sym, ap, ap₂, _∙_, subst, _≢_, true, ℕ, zero, suc, _+_, _-_, _*_, _%_, _≤_, _<_, zero-le, add-zero}
+use Rattle.field.proofs.Base.{not-suc-le-zero, le-refl, add-one, ℕ-discrete, decLt, arith, T, ltb}
+use native.Mathlib.Nat.{suc-ne-zero}
+use lib.Dec.{ltb→lt}
 use Rattle.field.specs.Polynomial.{add}
 use Rattle.field.specs.Field.{order, product, power, α}
 use Rattle.field.specs.Question.{isWidth}

@@ -1,17 +1,7 @@
 -- Codewords that differ at fewer places than the distance are one; so are codewords within r places of one word, outside its erasures.
 -- Everything takes the distance as given. Assumes nothing.
-use mathlib.Core.Path.{_≡_, sym, ap, ap₂, _∙_, subst}
-use mathlib.Core.Logic.{_≢_}
-use mathlib.Core.Bool.{Bool, true, false, cond}
-use mathlib.Core.List.{List}
-use Prim.Native.Nat.{ℕ, zero, suc, _+_, _≤_, _<_, zero-le}
-use native.Mathlib.Nat.{le-refl}
-use native.Mathlib.Decide.{ℕ-discrete}
-use native.Mathlib.Omega.{arith}
-use lib.Dec.{eqb}
-use lib.ListN.{length}
-use lib.Seq.{ext-getD}
-use borrow.Author.Tests.{eq-eqb, ne-eqb}
+use Rattle.field.proofs.Base.{_≡_, sym, ap, ap₂, _∙_, subst, _≢_, Bool, true, false, cond, List, ℕ, zero, suc, _+_, _≤_, _<_, zero-le, le-refl}
+use Rattle.field.proofs.Base.{ℕ-discrete, arith, eqb, length, ext-getD, eq-eqb, ne-eqb}
 use Rattle.field.specs.Polynomial.{add}
 use Rattle.field.proofs.Laws.{IsField}
 use Rattle.code.specs.Word.{places, at, Codeword}

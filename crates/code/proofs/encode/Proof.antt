@@ -1,6 +1,5 @@
 -- `code::encode` meets its contract. Assumes nothing.
-use borrow.Author.Needs.{needs}
-use mathlib.Core.Path.{refl}
+use Rattle.field.proofs.Base.{needs, refl}
 use Rattle.code.proofs.calls.Answers.{slices-width, slices-data, slices-lengths, slices-symbols, encodes}
 use Rattle.code.proofs.encode.Statement.{statement}
 use Rattle.code.proofs.encode.Tie as tie

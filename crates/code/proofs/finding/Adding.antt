@@ -1,14 +1,6 @@
 -- What is added at a few places makes a codeword, where the columns there make all five syndromes. No erasures. Assumes nothing.
-use mathlib.Core.Path.{_≡_, refl, sym, ap, ap₂, _∙_, subst}
-use mathlib.Core.Logic.{_≢_}
-use mathlib.Core.Bool.{Bool, true, false, cond, _||_}
-use mathlib.Core.List.{List, [], _∷_, map}
-use Prim.Native.Nat.{ℕ, suc, _≤_, _<_}
-use native.Mathlib.Nat.{le-refl}
-use native.Mathlib.Omega.{arith}
-use borrow.Author.Tests.{eq-eqb, ne-eqb, ltb-true, lt-ltb, le-ltb}
-use lib.Dec.{eqb, ltb}
-use lib.ListN.{length}
+use Rattle.field.proofs.Base.{_≡_, refl, sym, ap, ap₂, _∙_, subst, _≢_, Bool, true, false, cond, _||_, List, [], _∷_, map, ℕ, suc, _≤_, _<_, le-refl}
+use Rattle.field.proofs.Base.{arith, eq-eqb, ne-eqb, ltb-true, lt-ltb, le-ltb, eqb, ltb, length}
 use Rattle.field.specs.Polynomial.{add}
 use Rattle.field.specs.Field.{order, product}
 use Rattle.field.specs.Question.{allBelow}

@@ -1,14 +1,7 @@
 -- One wrong place beside erasures: a codeword within one place differs from the word at a check place, or at a data place of which the sums
 -- outside the erasures tell the ratio. Assumes nothing.
-use mathlib.Core.Path.{_≡_, refl, sym, ap, _∙_, subst}
-use mathlib.Core.Logic.{_≢_}
-use mathlib.Core.Bool.{Bool, true, false, _||_, true≢false}
-use mathlib.Core.List.{List, [], _∷_, map}
-use Prim.Native.Nat.{ℕ, _+_, _≤_, _<_}
-use native.Mathlib.Decide.{decLt}
-use native.Mathlib.Omega.{arith}
-use borrow.Author.Tests.{eq-eqb}
-use lib.Dec.{eqb}
+use Rattle.field.proofs.Base.{_≡_, refl, sym, ap, _∙_, subst, _≢_, Bool, true, false, _||_, true≢false, List, [], _∷_, map, ℕ, _+_, _≤_, _<_, decLt}
+use Rattle.field.proofs.Base.{arith, eq-eqb, eqb}
 use Rattle.field.specs.Polynomial.{add}
 use Rattle.field.specs.Field.{product}
 use Rattle.field.specs.Question.{allBelow}

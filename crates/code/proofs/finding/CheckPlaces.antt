@@ -1,16 +1,8 @@
 -- One wrong check place beside erasures: where it is none of the n rows from k on, those rows come from the erased places alone, so what is
 -- left of them without these is 0. Assumes nothing.
-use mathlib.Core.Path.{_≡_, sym, ap, ap₂, _∙_, subst}
-use mathlib.Core.Logic.{_≢_}
-use mathlib.Core.Bool.{true, false}
-use mathlib.Core.List.{List, [], _∷_, _++_, map}
-use Prim.Native.Nat.{ℕ, _+_, _≤_, _<_}
-use native.Mathlib.Nat.{le-refl}
-use native.Mathlib.Decide.{decLt, ℕ-discrete}
-use native.Mathlib.Omega.{arith}
-use borrow.Author.Tests.{ne-eqb}
-use lib.ListN.{length, set, List·getD-eq-default}
-use lib.Seq.{getD-set-same, getD-set-other}
+use Rattle.field.proofs.Base.{_≡_, sym, ap, ap₂, _∙_, subst, _≢_, true, false, List, [], _∷_, _++_, map, ℕ, _+_, _≤_, _<_, le-refl, decLt, ℕ-discrete}
+use Rattle.field.proofs.Base.{arith, ne-eqb, length, set, getD-set-same, getD-set-other}
+use lib.ListN.{List·getD-eq-default}
 use Rattle.field.specs.Polynomial.{add}
 use Rattle.field.specs.Field.{order, product, power}
 use Rattle.field.specs.Question.{isWidth}

@@ -1,16 +1,8 @@
 -- Where the distance is 5, cubing is one to one: were there two symbols x and y with the same cube, then x², xy and y², each at the data place
 -- whose point it is, and their cube at p_2 would make a codeword with four symbols other than 0. Assumes nothing.
-use mathlib.Core.Path.{_≡_, refl, sym, ap, ap₂, _∙_}
-use mathlib.Core.Logic.{_≢_}
+use Rattle.field.proofs.Base.{_≡_, refl, sym, ap, ap₂, _∙_, _≢_, Bool, true, false, cond, List, [], _∷_, map, ℕ, zero, suc, _+_, _-_, _≤_, _<_}
+use Rattle.field.proofs.Base.{ℕ-discrete, arith, ne-eqb, lt-ltb, le-ltb, ltb, length}
 use mathlib.Core.HLevel.{dec→stable}
-use mathlib.Core.Bool.{Bool, true, false, cond}
-use mathlib.Core.List.{List, [], _∷_, map}
-use Prim.Native.Nat.{ℕ, zero, suc, _+_, _-_, _≤_, _<_}
-use native.Mathlib.Decide.{ℕ-discrete}
-use native.Mathlib.Omega.{arith}
-use borrow.Author.Tests.{ne-eqb, lt-ltb, le-ltb}
-use lib.Dec.{ltb}
-use lib.ListN.{length}
 use Rattle.field.specs.Polynomial.{add}
 use Rattle.field.specs.Field.{order, product, power, α}
 use Rattle.field.specs.Question.{allBelow}

@@ -1,8 +1,5 @@
 -- Two points with their values from four power sums: the coefficients of a quadratic that has the two points as roots. Assumes nothing.
-use mathlib.Core.Path.{_≡_, sym, ap, ap₂, _∙_}
-use mathlib.Core.Logic.{_≢_}
-use Prim.Native.Nat.{ℕ, suc, _<_}
-use native.Mathlib.Omega.{arith}
+use Rattle.field.proofs.Base.{_≡_, sym, ap, ap₂, _∙_, _≢_, ℕ, suc, _<_, arith}
 use Rattle.field.specs.Polynomial.{add}
 use Rattle.field.specs.Field.{order, product, power, inverse}
 use Rattle.field.proofs.Laws.{IsField}

@@ -1,12 +1,6 @@
 -- The search without erasures: the ways out of `correction_of` and of what calls it. Assumes nothing.
-use mathlib.Core.Path.{_≡_, refl, sym, ap, ap₂, _∙_, subst}
-use mathlib.Core.Bool.{Bool, true, false}
-use mathlib.Core.List.{List, [], _∷_}
-use Prim.Native.Nat.{ℕ, suc, _+_, _-_, _≤_, _<_}
-use native.Mathlib.Nat.{le-refl}
-use native.Mathlib.Numerals.{add-one}
-use native.Mathlib.Omega.{arith}
-use lib.ListN.{length, getD, take}
+use Rattle.field.proofs.Base.{_≡_, refl, sym, ap, ap₂, _∙_, subst, Bool, true, false, List, [], _∷_, ℕ, suc, _+_, _-_, _≤_, _<_, le-refl, add-one}
+use Rattle.field.proofs.Base.{arith, length, getD, take}
 use Rattle.field.specs.Polynomial.{add}
 use Rattle.field.specs.Field.{order, product, inverse}
 use Rattle.field.specs.Question.{isWidth, allBelow}

@@ -1,12 +1,7 @@
 -- One wrong data place beside erasures, from the sums outside the erasures: each erased data place is eliminated from the sums, and two of
 -- what is left have the ratio of the wrong place. Assumes nothing.
-use mathlib.Core.Path.{_≡_, sym, ap, ap₂, _∙_, subst}
-use mathlib.Core.Logic.{_≢_}
-use mathlib.Core.Bool.{true, false}
-use mathlib.Core.List.{List, [], _∷_}
-use Prim.Native.Nat.{ℕ, _+_, _-_, _≤_, _<_}
+use Rattle.field.proofs.Base.{_≡_, sym, ap, ap₂, _∙_, subst, _≢_, true, false, List, [], _∷_, ℕ, _+_, _-_, _≤_, _<_, arith}
 use native.Mathlib.Nat.{add-assoc, add-comm}
-use native.Mathlib.Omega.{arith}
 use Rattle.field.specs.Polynomial.{add}
 use Rattle.field.specs.Field.{order, product, power}
 use Rattle.field.specs.Question.{allBelow}

@@ -1,12 +1,7 @@
 -- A symbol times a column of a data place: row after row a product with the point, or at width 7 the exponent grows by that of the place.
 -- Assumes nothing.
-use mathlib.Core.Path.{_≡_, refl, sym, ap, ap₂, _∙_, subst}
-use mathlib.Core.Logic.{_≢_}
-use mathlib.Core.Bool.{true}
-use mathlib.Core.List.{List, [], _∷_}
-use Prim.Native.Nat.{ℕ, _+_, _-_, _*_, _%_, _≤_, _<_}
-use native.Mathlib.Nat.{mod-eq-of-lt, add-zero, zero-mul}
-use native.Mathlib.Omega.{arith}
+use Rattle.field.proofs.Base.{_≡_, refl, sym, ap, ap₂, _∙_, subst, _≢_, true, List, [], _∷_, ℕ, _+_, _-_, _*_, _%_, _≤_, _<_, mod-eq-of-lt, add-zero}
+use Rattle.field.proofs.Base.{zero-mul, arith}
 use Rattle.field.specs.Field.{order, product, power, α}
 use Rattle.field.specs.Question.{isWidth}
 use Rattle.field.specs.inner.Bytes.{multiplied}

@@ -1,7 +1,5 @@
 -- `code::is_codeword` meets its contract. Assumes nothing.
-use borrow.Author.Needs.{needs}
-use mathlib.Core.Path.{_≡_}
-use mathlib.Core.Bool.{Bool, true, false, cond}
+use Rattle.field.proofs.Base.{needs, _≡_, Bool, true, false, cond}
 use Rattle.field.specs.Question.{accepted}
 use Rattle.field.specs.declared.Verdict.the-variants.{Passed}
 use Rattle.code.specs.Call.{isCodewordOf}

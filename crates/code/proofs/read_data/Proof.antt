@@ -1,9 +1,5 @@
 -- `code::read_data` meets its contract. Assumes nothing.
-use borrow.Author.Needs.{needs}
-use mathlib.Core.Path.{_≡_, refl, ap, _∙_}
-use Prim.Native.Nat.{_+_}
-use native.Mathlib.Omega.{arith}
-use lib.ListN.{length, length-drop}
+use Rattle.field.proofs.Base.{needs, _≡_, refl, ap, _∙_, _+_, arith, length, length-drop}
 use Rattle.code.specs.Word.{checks}
 use Rattle.code.proofs.calls.Answers.{reads, reads-lengths}
 use Rattle.code.proofs.Loops.{part-drop}

@@ -1,7 +1,5 @@
 -- `code::restore_by_trials` meets its contract. Assumes nothing.
-use borrow.Author.Needs.{needs}
-use mathlib.Core.Path.{subst}
-use Prim.Native.Nat.{ℕ}
+use Rattle.field.proofs.Base.{needs, subst, ℕ}
 use Rattle.code.specs.Call.{RestoresWithin}
 use Rattle.code.proofs.restore_by_trials.Statement.{statement}
 use Rattle.code.proofs.restore_by_trials.Tie as tie

@@ -1,5 +1,5 @@
 -- `code::restore_by_trials_within` meets its contract. Assumes nothing.
-use borrow.Author.Needs.{needs}
+use Rattle.field.proofs.Base.{needs}
 use Rattle.code.proofs.restore_by_trials_within.Statement.{statement}
 use Rattle.code.proofs.restore_by_trials_within.Tie as tie
 

@@ -1,17 +1,10 @@
 -- A trial is a linear system: its entries, and the solver's answers in terms of the codewords that agree with the word outside the places
 -- of the trial. Assumes nothing.
-use mathlib.Core.Path.{_≡_, refl, sym, ap, _∙_, subst}
-use mathlib.Core.Logic.{_≢_}
-use mathlib.Core.Bool.{Bool, true, false, cond}
-use mathlib.Core.List.{List, [], _∷_, _++_, map}
-use Prim.Native.Nat.{ℕ, zero, suc, _+_, _-_, _≤_, _<_}
-use native.Mathlib.Nat.{not-suc-le-zero, le-of-suc-le-suc, le-refl}
-use native.Mathlib.Decide.{decLt, ℕ-discrete}
-use native.Mathlib.Omega.{arith}
-use borrow.Author.Tests.{ne-eqb, le-leb, lt-leb}
-use lib.Dec.{eqb, leb}
-use lib.ListN.{length, getD, set, take, length-set, length-map, length-append, List·getD-map, List·getD-append}
-use lib.Seq.{getD-take, length-take-le, getD-set-same, getD-set-other, getD-append-add}
+use Rattle.field.proofs.Base.{_≡_, refl, sym, ap, _∙_, subst, _≢_, Bool, true, false, cond, List, [], _∷_, _++_, map, ℕ, zero, suc, _+_, _-_, _≤_}
+use Rattle.field.proofs.Base.{_<_, not-suc-le-zero, le-of-suc-le-suc, le-refl, decLt, ℕ-discrete, arith, ne-eqb, le-leb, lt-leb, eqb, leb, length}
+use Rattle.field.proofs.Base.{getD, set, take, length-set, length-append, getD-take, length-take-le, getD-set-same, getD-set-other}
+use lib.ListN.{length-map, List·getD-map, List·getD-append}
+use lib.Seq.{getD-append-add}
 use Rattle.field.specs.Polynomial.{add}
 use Rattle.field.specs.Field.{order, product}
 use Rattle.field.specs.Question.{isWidth}

@@ -1,16 +1,8 @@
 -- A codeword is within r places of a word, outside the erasures, just if it agrees with the word outside the erasures and at most r extra
 -- places. Assumes nothing.
-use mathlib.Core.Path.{_≡_, refl, sym, ap, ap₂, _∙_, subst}
-use mathlib.Core.Logic.{_≢_}
-use mathlib.Core.Bool.{Bool, true, false, cond, _||_, true≢false}
-use mathlib.Core.List.{List, [], _∷_, _++_}
-use Prim.Native.Nat.{ℕ, zero, suc, _+_, _≤_, _<_, zero-le}
-use native.Mathlib.Nat.{le-refl, le-trans, not-suc-le-zero}
-use native.Mathlib.Decide.{ℕ-discrete}
-use native.Mathlib.Omega.{arith}
-use borrow.Author.Tests.{eq-eqb, ne-eqb, eqb-true}
-use lib.Dec.{eqb}
-use lib.ListN.{length}
+use Rattle.field.proofs.Base.{_≡_, refl, sym, ap, ap₂, _∙_, subst, _≢_, Bool, true, false, cond, _||_, true≢false, List, [], _∷_, _++_, ℕ, zero, suc}
+use Rattle.field.proofs.Base.{_+_, _≤_, _<_, zero-le, le-refl, not-suc-le-zero, ℕ-discrete, arith, eq-eqb, ne-eqb, eqb-true, eqb, length}
+use native.Mathlib.Nat.{le-trans}
 use Rattle.field.specs.Question.{allBelow}
 use Rattle.code.specs.Word.{places, at, Codeword}
 use Rattle.code.specs.Erasure.{member, distinct, total, differ}

@@ -1,14 +1,7 @@
 -- Restoring erasures: the codewords that agree with a word outside the places ls are the word filled there with the solutions of a linear
 -- system: the columns at ls, and on the right the syndromes of the rest. Assumes nothing.
-use mathlib.Core.Path.{_≡_, refl, sym, ap, ap₂, _∙_, subst}
-use mathlib.Core.Bool.{Bool, true, false, cond}
-use mathlib.Core.List.{List, [], _∷_, map}
-use Prim.Native.Nat.{ℕ, _≤_, _<_, zero-le}
-use native.Mathlib.Decide.{ℕ-discrete}
-use native.Mathlib.Omega.{arith}
-use borrow.Author.Tests.{ne-eqb}
-use lib.ListN.{length, set, length-set}
-use lib.Seq.{ext-getD, getD-set-same, getD-set-other}
+use Rattle.field.proofs.Base.{_≡_, refl, sym, ap, ap₂, _∙_, subst, Bool, true, false, cond, List, [], _∷_, map, ℕ, _≤_, _<_, zero-le, ℕ-discrete}
+use Rattle.field.proofs.Base.{arith, ne-eqb, length, set, length-set, ext-getD, getD-set-same, getD-set-other}
 use Rattle.field.specs.Polynomial.{add}
 use Rattle.field.specs.Field.{order}
 use Rattle.field.specs.Question.{allBelow}

@@ -1,17 +1,11 @@
 -- From a search to the restored word: the word filled, its syndromes without the erasures, the count of changes, and the restorer's answer.
 -- Assumes nothing.
-use mathlib.Core.Path.{_≡_, refl, sym, ap, ap₂, _∙_, subst}
-use mathlib.Core.Logic.{_≢_}
-use mathlib.Core.Bool.{Bool, true, false, cond, _||_, or-true}
-use mathlib.Core.List.{List, [], _∷_, _++_}
-use Prim.Native.Nat.{ℕ, zero, suc, _-_, _≤_, _<_, zero-le}
-use native.Mathlib.Nat.{le-refl, le-trans}
-use native.Mathlib.Decide.{decLt}
-use native.Mathlib.Omega.{arith}
-use borrow.Author.Tests.{eq-eqb}
-use lib.Dec.{eqb}
-use lib.ListN.{length, getD, set, take, drop, replicate, drop-of-length-le}
-use lib.Seq.{drop-cons, getD-take, take-set-lt, length-take-le}
+use Rattle.field.proofs.Base.{_≡_, refl, sym, ap, ap₂, _∙_, subst, _≢_, Bool, true, false, cond, _||_, List, [], _∷_, _++_, ℕ, zero, suc, _-_, _≤_}
+use Rattle.field.proofs.Base.{_<_, zero-le, le-refl, decLt, arith, eq-eqb, eqb, length, getD, set, take, drop, replicate, drop-of-length-le}
+use Rattle.field.proofs.Base.{drop-cons, getD-take, length-take-le}
+use mathlib.Core.Bool.{or-true}
+use native.Mathlib.Nat.{le-trans}
+use lib.Seq.{take-set-lt}
 use Rattle.field.specs.Field.{order}
 use Rattle.field.specs.Question.{accepted, after, isWidth, allBelow}
 use Rattle.field.specs.declared.Question.the-variants.{Correctable, Unique}

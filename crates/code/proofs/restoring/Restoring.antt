@@ -1,16 +1,10 @@
 -- The demands on the restorer: there are never two near codewords, what it accepts and refuses, that a refused word stays, and that neither
 -- the symbols at the erasures nor the order of the erasures matter. Assumes nothing.
-use mathlib.Core.Path.{_≡_, refl, sym, ap, ap₂, _∙_, subst}
-use mathlib.Core.Logic.{_↔_, _≢_, _⊎_, inl, inr}
-use mathlib.Core.Bool.{Bool, true, false, cond}
-use mathlib.Core.List.{List, [], _∷_}
-use Prim.Native.Nat.{ℕ, _+_, _%_, _≤_, _<_}
-use native.Mathlib.Nat.{le-refl, le-trans}
-use native.Mathlib.Decide.{decLt}
-use native.Mathlib.Omega.{arith}
-use borrow.Author.Tests.{le-leb}
-use lib.Dec.{eqb, leb}
-use lib.ListN.{length, List·getD-eq-default}
+use Rattle.field.proofs.Base.{_≡_, refl, sym, ap, ap₂, _∙_, subst, _≢_, _⊎_, inl, inr, Bool, true, false, cond, List, [], _∷_, ℕ, _+_, _%_, _≤_, _<_}
+use Rattle.field.proofs.Base.{le-refl, decLt, arith, le-leb, eqb, leb, length}
+use mathlib.Core.Logic.{_↔_}
+use native.Mathlib.Nat.{le-trans}
+use lib.ListN.{List·getD-eq-default}
 use Rattle.field.specs.Field.{order}
 use Rattle.field.specs.Question.{Outcome, accepted, refused, refusal, ask, after, isWidth, allBelow}
 use Rattle.field.specs.declared.Question.{Question}

@@ -1,12 +1,6 @@
 -- A codeword without erasures stays, and the numbers with which restoring a word is refused. Assumes nothing.
-use mathlib.Core.Path.{_≡_, refl, subst}
-use mathlib.Core.Bool.{Bool, true, false}
-use mathlib.Core.List.{List, [], _∷_}
-use Prim.Native.Nat.{ℕ, _≤_}
-use native.Mathlib.Omega.{arith}
-use borrow.Author.Tests.{eq-eqb}
-use lib.Dec.{eqb, leb, leb·zero}
-use lib.ListN.{length}
+use Rattle.field.proofs.Base.{_≡_, refl, subst, Bool, true, false, List, [], _∷_, ℕ, _≤_, arith, eq-eqb, eqb, leb, length}
+use lib.Dec.{leb·zero}
 use Rattle.field.specs.Field.{order}
 use Rattle.field.specs.Question.{Outcome, accepted, refused, refusal, ask, after, isWidth, allBelow}
 use Rattle.field.specs.declared.Question.{Question}

@@ -1,13 +1,8 @@
 -- Trials with extra places: a trial extended by a place is a trial, and a search with at most r extra places finds every codeword that is
 -- near. Assumes nothing.
-use mathlib.Core.Path.{_≡_, refl, sym, ap, ap₂, _∙_, subst}
-use mathlib.Core.Bool.{Bool, true, false, true≢false}
-use mathlib.Core.List.{List, [], _∷_, _++_, append-assoc}
-use Prim.Native.Nat.{ℕ, zero, suc, _+_, _-_, _≤_, _<_}
-use native.Mathlib.Nat.{le-refl, le-trans}
-use native.Mathlib.Omega.{arith}
-use lib.Dec.{eqb}
-use lib.ListN.{length, length-append}
+use Rattle.field.proofs.Base.{_≡_, refl, sym, ap, ap₂, _∙_, subst, Bool, true, false, true≢false, List, [], _∷_, _++_, append-assoc, ℕ, zero, suc}
+use Rattle.field.proofs.Base.{_+_, _-_, _≤_, _<_, le-refl, arith, eqb, length, length-append}
+use native.Mathlib.Nat.{le-trans}
 use Rattle.field.specs.Polynomial.{add}
 use Rattle.field.specs.Field.{order, product}
 use Rattle.field.specs.Question.{allBelow}

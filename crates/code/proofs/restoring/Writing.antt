@@ -1,15 +1,8 @@
 -- Writing a correction: its values are put into the word at its places, from the last to the first, and the changes outside the erasures are
 -- counted there alone. Assumes nothing.
-use mathlib.Core.Path.{_≡_, refl, sym, ap, ap₂, _∙_, subst}
-use mathlib.Core.Logic.{_≢_}
-use mathlib.Core.Bool.{true, cond}
-use mathlib.Core.List.{List, [], _∷_}
-use Prim.Native.Nat.{ℕ, zero, suc, _+_, _-_, _≤_, _<_}
-use native.Mathlib.Nat.{le-refl, not-suc-le-zero}
-use native.Mathlib.Decide.{ℕ-discrete}
-use native.Mathlib.Omega.{arith}
-use lib.ListN.{length, getD, set, take, drop, drop-of-length-le}
-use lib.Seq.{length-take-le, getD-set-same, getD-set-other}
+use Rattle.field.proofs.Base.{_≡_, refl, sym, ap, ap₂, _∙_, subst, _≢_, true, cond, List, [], _∷_, ℕ, zero, suc, _+_, _-_, _≤_, _<_, le-refl}
+use Rattle.field.proofs.Base.{not-suc-le-zero, ℕ-discrete, arith, length, getD, set, take, drop, drop-of-length-le, length-take-le, getD-set-same}
+use Rattle.field.proofs.Base.{getD-set-other}
 use Rattle.field.specs.Question.{allBelow}
 use Rattle.code.specs.Word.{at}
 use Rattle.code.specs.Erasure.{member, distinct, differ, total, changesBelow}

@@ -1,13 +1,8 @@
 -- Elimination keeps the solutions of a system, and at its end they can be read off. Assumes nothing.
-use mathlib.Core.Path.{_≡_, sym, _∙_, ap, ap₂, subst}
-use mathlib.Core.Logic.{_≢_}
-use mathlib.Core.List.{List, [], _∷_}
-use Prim.Native.Nat.{ℕ, zero, suc, _+_, _≤_, _<_}
-use native.Mathlib.Omega.{arith}
-use native.Mathlib.Decide.{ℕ-discrete, decLt}
-use native.Mathlib.Numerals.{add-one}
-use lib.ListN.{length, getD, set, take, replicate, length-set, length-map, length-replicate, getD-replicate}
-use lib.Seq.{getD-set-same, getD-set-other, getD-take, length-take-le, ext-getD}
+use Rattle.field.proofs.Base.{_≡_, sym, _∙_, ap, ap₂, subst, _≢_, List, [], _∷_, ℕ, zero, suc, _+_, _≤_, _<_, arith, ℕ-discrete, decLt, add-one}
+use Rattle.field.proofs.Base.{length, getD, set, take, replicate, length-set, length-replicate, getD-set-same, getD-set-other, getD-take}
+use Rattle.field.proofs.Base.{length-take-le, ext-getD}
+use lib.ListN.{length-map, getD-replicate}
 use borrow.Author.Count.{below-more}
 use Rattle.field.specs.Polynomial.{add}
 use Rattle.field.specs.Field.{order, product, inverse}

@@ -1,12 +1,7 @@
 -- Rows and columns: their entries, and the products of rows with a list of values. Assumes nothing.
-use mathlib.Core.Path.{_≡_, refl, sym, _∙_, ap, ap₂, subst}
-use mathlib.Core.Logic.{_≢_}
-use mathlib.Core.List.{List, [], _∷_}
-use Prim.Native.Nat.{ℕ, zero, suc, _≤_, _<_}
-use native.Mathlib.Nat.{le-of-suc-le-suc, not-suc-le-zero}
-use native.Mathlib.Omega.{arith}
-use lib.ListN.{length, getD, set, take, drop, replicate, length-map, List·getD-map, getD-replicate}
-use lib.Seq.{length-take-le, getD-take, getD-drop, ext-getD}
+use Rattle.field.proofs.Base.{_≡_, refl, sym, _∙_, ap, ap₂, subst, _≢_, List, [], _∷_, ℕ, zero, suc, _≤_, _<_, le-of-suc-le-suc, not-suc-le-zero}
+use Rattle.field.proofs.Base.{arith, length, getD, set, take, drop, replicate, length-take-le, getD-take, getD-drop, ext-getD}
+use lib.ListN.{length-map, List·getD-map, getD-replicate}
 use Rattle.field.specs.Polynomial.{add}
 use Rattle.field.specs.Field.{order, product}
 use Rattle.field.specs.inner.Operand.{Operand}

@@ -1,12 +1,6 @@
 -- The loops of the solver: what holds before each turn, and a law for each way on and out. Assumes nothing.
-use mathlib.Core.Path.{_≡_, _∙_, ap, subst}
-use mathlib.Core.Logic.{_≢_}
-use mathlib.Core.Bool.{true}
-use mathlib.Core.List.{List, []}
-use Prim.Native.Nat.{ℕ, _+_, _≤_, _<_}
-use native.Mathlib.Omega.{arith}
-use lib.ListN.{getD, set, take, length-set}
-use lib.Seq.{getD-set-same, getD-set-other}
+use Rattle.field.proofs.Base.{_≡_, _∙_, ap, subst, _≢_, true, List, [], ℕ, _+_, _≤_, _<_, arith, getD, set, take, length-set, getD-set-same}
+use Rattle.field.proofs.Base.{getD-set-other}
 use Rattle.field.specs.Field.{inverse}
 use Rattle.field.specs.Question.{isWidth}
 use Rattle.field.specs.inner.Operand.{Operand}

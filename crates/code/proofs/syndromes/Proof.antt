@@ -1,6 +1,5 @@
 -- `code::syndromes` meets its contract. Assumes nothing.
-use borrow.Author.Needs.{needs}
-use mathlib.Core.Path.{_≡_, sym, _∙_}
+use Rattle.field.proofs.Base.{needs, _≡_, sym, _∙_}
 use Rattle.field.specs.declared.Verdict.the-variants.{Passed}
 use Rattle.code.specs.Demands.{Passes}
 use Rattle.code.proofs.calls.Passing.{given}

@@ -1,5 +1,5 @@
 -- `code::word_length` meets its contract. Assumes nothing.
-use borrow.Author.Needs.{needs}
+use Rattle.field.proofs.Base.{needs}
 use Rattle.code.proofs.Lengths.{length-none, length-some}
 use Rattle.code.proofs.word_length.Statement.{statement}
 use Rattle.code.proofs.word_length.Tie as tie

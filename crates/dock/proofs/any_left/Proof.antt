@@ -1,5 +1,5 @@
 -- `dock::any_left` meets its contract. Assumes nothing.
-use borrow.Author.Needs.{needs}
+use Rattle.field.proofs.Base.{needs}
 use Rattle.dock.proofs.Spending.{own-left, common-left}
 use Rattle.dock.proofs.any_left.Statement.{statement}
 use Rattle.dock.proofs.any_left.Tie as tie

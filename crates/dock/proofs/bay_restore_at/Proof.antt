@@ -1,5 +1,5 @@
 -- `dock::bay_restore_at` meets its contract. Assumes nothing.
-use borrow.Author.Needs.{needs}
+use Rattle.field.proofs.Base.{needs}
 use Rattle.dock.proofs.Serving.{serves-no-bay, serves-short, serves-no, serves-settled}
 use Rattle.dock.proofs.bay_restore_at.Statement.{statement}
 use Rattle.dock.proofs.bay_restore_at.Tie as tie

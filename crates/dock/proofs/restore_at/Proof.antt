@@ -1,5 +1,5 @@
 -- `dock::restore_at` meets its contract. Assumes nothing.
-use borrow.Author.Needs.{needs}
+use Rattle.field.proofs.Base.{needs}
 use Rattle.dock.proofs.Serving.{at-longest, at-named}
 use Rattle.dock.proofs.restore_at.Statement.{statement}
 use Rattle.dock.proofs.restore_at.Tie as tie

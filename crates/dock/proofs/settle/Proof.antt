@@ -1,5 +1,5 @@
 -- `dock::settle` meets its contract. Assumes nothing.
-use borrow.Author.Needs.{needs}
+use Rattle.field.proofs.Base.{needs}
 use Rattle.dock.proofs.Spending.{any-told}
 use Rattle.dock.proofs.Serving.{settles-same, settles-spent, settles-denied}
 use Rattle.dock.proofs.settle.Statement.{statement}

@@ -1,5 +1,5 @@
 -- `dock::spend` meets its contract. Assumes nothing.
-use borrow.Author.Needs.{needs}
+use Rattle.field.proofs.Base.{needs}
 use Rattle.dock.proofs.Spending.{common-some, spent-own, spent-common}
 use Rattle.dock.proofs.spend.Statement.{statement}
 use Rattle.dock.proofs.spend.Tie as tie

@@ -1,5 +1,5 @@
 -- `exports::ask_bay` meets its contract. Assumes nothing.
-use borrow.Author.Needs.{needs}
+use Rattle.field.proofs.Base.{needs}
 use Rattle.exports.proofs.Counting.{asked-bay, asked-counts, asked-passed}
 use Rattle.exports.proofs.ask_bay.Statement.{statement}
 use Rattle.exports.proofs.ask_bay.Tie as tie

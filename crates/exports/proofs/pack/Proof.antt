@@ -1,6 +1,5 @@
 -- `exports::pack` meets its contract. Assumes nothing.
-use borrow.Author.Needs.{needs}
-use mathlib.Core.Path.{refl}
+use Rattle.field.proofs.Base.{needs, refl}
 use Rattle.field.specs.Answer.{outcome}
 use Rattle.field.specs.declared.Answer.the-variants.{Value, Refused}
 use Rattle.exports.proofs.Packing.{value-packed, refusal-packed}

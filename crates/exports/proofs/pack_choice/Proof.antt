@@ -1,6 +1,5 @@
 -- `exports::pack_choice` meets its contract. Assumes nothing.
-use borrow.Author.Needs.{needs}
-use mathlib.Core.Path.{refl}
+use Rattle.field.proofs.Base.{needs, refl}
 use Rattle.report.specs.Compare.{choice}
 use Rattle.report.specs.declared.compare.Choice.the-variants.{Refused}
 use Rattle.exports.proofs.Packing.{refusal-packed}

@@ -1,6 +1,5 @@
 -- `exports::pack_membership` meets its contract. Assumes nothing.
-use borrow.Author.Needs.{needs}
-use mathlib.Core.Path.{refl}
+use Rattle.field.proofs.Base.{needs, refl}
 use Rattle.code.specs.Call.{membership}
 use Rattle.code.specs.declared.Membership.the-variants.{Refused}
 use Rattle.exports.proofs.Packing.{refusal-packed}

@@ -1,6 +1,5 @@
 -- `exports::pack_repair` meets its contract. Assumes nothing.
-use borrow.Author.Needs.{needs}
-use mathlib.Core.Path.{refl}
+use Rattle.field.proofs.Base.{needs, refl}
 use Rattle.code.specs.Call.{repair}
 use Rattle.code.specs.declared.Repair.the-variants.{Restored, Refused}
 use Rattle.exports.proofs.Packing.{value-packed, refusal-packed}

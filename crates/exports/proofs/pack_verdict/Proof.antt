@@ -1,6 +1,5 @@
 -- `exports::pack_verdict` meets its contract. Assumes nothing.
-use borrow.Author.Needs.{needs}
-use mathlib.Core.Path.{refl}
+use Rattle.field.proofs.Base.{needs, refl}
 use Rattle.field.specs.declared.Verdict.the-variants.{Refused}
 use Rattle.code.specs.Call.{done}
 use Rattle.exports.proofs.Packing.{refusal-packed}

@@ -1,5 +1,5 @@
 -- `exports::read_counts` meets its contract. Assumes nothing.
-use borrow.Author.Needs.{needs}
+use Rattle.field.proofs.Base.{needs}
 use Rattle.exports.proofs.Counting.{counts-read}
 use Rattle.exports.proofs.read_counts.Statement.{statement}
 use Rattle.exports.proofs.read_counts.Tie as tie

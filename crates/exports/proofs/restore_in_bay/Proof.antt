@@ -1,5 +1,5 @@
 -- `exports::restore_in_bay` meets its contract. Assumes nothing.
-use borrow.Author.Needs.{needs}
+use Rattle.field.proofs.Base.{needs}
 use Rattle.exports.proofs.Counting.{five-counts, served-answer, served-counts, served-written}
 use Rattle.exports.proofs.Counting.{refused-answer, refused-counts, refused-written}
 use Rattle.exports.proofs.restore_in_bay.Statement.{statement}

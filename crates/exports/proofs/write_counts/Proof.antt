@@ -1,7 +1,5 @@
 -- `exports::write_counts` meets its contract. Assumes nothing.
-use borrow.Author.Needs.{needs}
-use native.Mathlib.Omega.{arith}
-use lib.ListN.{length-set}
+use Rattle.field.proofs.Base.{needs, arith, length-set}
 use Rattle.exports.proofs.Counting.{counts-written}
 use Rattle.exports.proofs.write_counts.Statement.{statement}
 use Rattle.exports.proofs.write_counts.Tie as tie

@@ -1,6 +1,5 @@
 -- `exports::xrs_card_to_new` meets its contract. Assumes nothing.
-use borrow.Author.Needs.{needs}
-use mathlib.Core.Path.{ap, _∙_}
+use Rattle.field.proofs.Base.{needs, ap, _∙_}
 use Rattle.exports.specs.Packed.{packed}
 use Rattle.exports.proofs.xrs_card_to_new.Statement.{statement}
 use Rattle.exports.proofs.xrs_card_to_new.Tie as tie

@@ -1,5 +1,5 @@
 -- `exports::xrs_charge` meets its contract. Assumes nothing.
-use borrow.Author.Needs.{needs}
+use Rattle.field.proofs.Base.{needs}
 use Rattle.exports.proofs.Counting.{charge-refused, charge-kept, charge-passed, charge-written}
 use Rattle.exports.proofs.xrs_charge.Statement.{statement}
 use Rattle.exports.proofs.xrs_charge.Tie as tie

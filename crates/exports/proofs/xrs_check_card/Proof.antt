@@ -1,5 +1,5 @@
 -- `exports::xrs_check_card` meets its contract. Assumes nothing.
-use borrow.Author.Needs.{needs}
+use Rattle.field.proofs.Base.{needs}
 use Rattle.exports.proofs.Packing.{check-all, check-some}
 use Rattle.exports.proofs.xrs_check_card.Statement.{statement}
 use Rattle.exports.proofs.xrs_check_card.Tie as tie

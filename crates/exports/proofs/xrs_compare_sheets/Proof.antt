@@ -1,6 +1,5 @@
 -- `exports::xrs_compare_sheets` meets its contract. Assumes nothing.
-use borrow.Author.Needs.{needs}
-use mathlib.Core.Path.{ap, _∙_}
+use Rattle.field.proofs.Base.{needs, ap, _∙_}
 use Rattle.exports.specs.Packed.{packed}
 use Rattle.exports.proofs.Packing.{totals-same}
 use Rattle.exports.proofs.xrs_compare_sheets.Statement.{statement}

@@ -1,6 +1,5 @@
 -- `exports::xrs_encode` meets its contract. Assumes nothing.
-use borrow.Author.Needs.{needs}
-use mathlib.Core.Path.{ap, _∙_}
+use Rattle.field.proofs.Base.{needs, ap, _∙_}
 use Rattle.exports.specs.Packed.{packed}
 use Rattle.exports.proofs.xrs_encode.Statement.{statement}
 use Rattle.exports.proofs.xrs_encode.Tie as tie

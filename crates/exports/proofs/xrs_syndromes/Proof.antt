@@ -1,6 +1,5 @@
 -- `exports::xrs_syndromes` meets its contract. Assumes nothing.
-use borrow.Author.Needs.{needs}
-use mathlib.Core.Path.{ap, ap₂, _∙_}
+use Rattle.field.proofs.Base.{needs, ap, ap₂, _∙_}
 use Rattle.exports.specs.Packed.{packed, packedBytes}
 use Rattle.exports.proofs.xrs_syndromes.Statement.{statement}
 use Rattle.exports.proofs.xrs_syndromes.Tie as tie

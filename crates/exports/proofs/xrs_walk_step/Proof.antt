@@ -1,6 +1,5 @@
 -- `exports::xrs_walk_step` meets its contract. Assumes nothing.
-use borrow.Author.Needs.{needs}
-use mathlib.Core.Path.{ap, _∙_}
+use Rattle.field.proofs.Base.{needs, ap, _∙_}
 use Rattle.walk.specs.declared.Walk.{Walk}
 use Rattle.exports.specs.Packed.{packed}
 use Rattle.exports.proofs.xrs_walk_step.Statement.{statement}

@@ -1,5 +1,5 @@
 -- `field::ask_symbols` meets its contract. Assumes nothing.
-use borrow.Author.Needs.{needs}
+use Rattle.field.proofs.Base.{needs}
 use Rattle.field.proofs.Ask.{operands-on, operands-stop}
 use Rattle.field.proofs.ask_symbols.Statement.{statement}
 use Rattle.field.proofs.ask_symbols.Tie as tie

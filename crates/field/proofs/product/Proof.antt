@@ -1,6 +1,5 @@
 -- `field::product` meets its contract. Assumes nothing.
-use borrow.Author.Needs.{needs}
-use mathlib.Core.Path.{ap, _∙_}
+use Rattle.field.proofs.Base.{needs, ap, _∙_}
 use Rattle.field.specs.Question.{accepted}
 use Rattle.field.proofs.Ask.{after-passed, after-refused, operand-first, operand-second}
 use Rattle.field.proofs.Bytes.{multiplied-product}

@@ -1,6 +1,5 @@
 -- `field::refusal_number` meets its contract. Assumes nothing.
-use borrow.Author.Needs.{needs}
-use mathlib.Core.Path.{sym, ap}
+use Rattle.field.proofs.Base.{needs, sym, ap}
 use Rattle.field.specs.Question.{refusal}
 use Rattle.field.proofs.refusal_number.Statement.{statement}
 use Rattle.field.proofs.refusal_number.Tie as tie

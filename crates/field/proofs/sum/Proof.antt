@@ -1,5 +1,5 @@
 -- `field::sum` meets its contract. Assumes nothing.
-use borrow.Author.Needs.{needs}
+use Rattle.field.proofs.Base.{needs}
 use Rattle.field.specs.Polynomial.{add}
 use Rattle.field.proofs.Ask.{after-passed, after-refused}
 use Rattle.field.proofs.sum.Statement.{statement}

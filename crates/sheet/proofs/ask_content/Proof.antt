@@ -1,8 +1,5 @@
 -- `sheet::ask_content` meets its contract. Assumes nothing.
-use borrow.Author.Needs.{needs}
-use mathlib.Core.Path.{_≡_, ap, _∙_}
-use native.Mathlib.Omega.{arith}
-use lib.ListN.{length}
+use Rattle.field.proofs.Base.{needs, _≡_, ap, _∙_, arith, length}
 use Rattle.code.specs.Word.{places}
 use Rattle.sheet.specs.Sheet.{sheetWidth}
 use Rattle.sheet.proofs.Asking.{content-no-width, content-no-date, content-pass, content-no-unused}

@@ -1,6 +1,5 @@
 -- `sheet::ask_read` meets its contract. Assumes nothing.
-use borrow.Author.Needs.{needs}
-use mathlib.Core.Path.{_≡_, sym, ap, _∙_}
+use Rattle.field.proofs.Base.{needs, _≡_, sym, ap, _∙_}
 use Rattle.code.specs.Call.{membership}
 use Rattle.code.specs.declared.Membership.the-variants.{Codeword, Other, Refused}
 use Rattle.sheet.proofs.Asking.{tested-long, read-no-width, read-no-length, read-refused, read-other, read-content}

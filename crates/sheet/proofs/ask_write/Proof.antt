@@ -1,5 +1,5 @@
 -- `sheet::ask_write` meets its contract. Assumes nothing.
-use borrow.Author.Needs.{needs}
+use Rattle.field.proofs.Base.{needs}
 use Rattle.sheet.proofs.Asking.{write-no-width, write-no-word, write-no-length, write-no-symbol, write-no-sheet, write-no-date, write-pass}
 use Rattle.sheet.proofs.ask_write.Statement.{statement}
 use Rattle.sheet.proofs.ask_write.Tie as tie

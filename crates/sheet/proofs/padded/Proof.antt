@@ -1,9 +1,5 @@
 -- `sheet::padded` meets its contract. Assumes nothing.
-use borrow.Author.Needs.{needs}
-use mathlib.Core.Path.{ap}
-use mathlib.Core.List.{List, _++_}
-use Prim.Native.Nat.{ℕ}
-use lib.ListN.{replicate}
+use Rattle.field.proofs.Base.{needs, ap, List, _++_, ℕ, replicate}
 use Rattle.sheet.specs.Sheet.{unusedSize}
 use Rattle.sheet.proofs.padded.Statement.{statement}
 use Rattle.sheet.proofs.padded.Tie as tie

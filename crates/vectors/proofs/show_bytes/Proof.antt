@@ -1,7 +1,5 @@
 -- `vectors::show_bytes` is safe and ends. Assumes nothing.
-use borrow.Author.Needs.{needs}
-use Prim.Native.Nat.{_-_}
-use lib.ListN.{length}
+use Rattle.field.proofs.Base.{needs, _-_, length}
 use Rattle.vectors.proofs.show_bytes.Statement.{statement}
 use Rattle.vectors.proofs.show_bytes.Tie as tie
 

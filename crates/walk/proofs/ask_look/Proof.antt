@@ -1,5 +1,5 @@
 -- `walk::ask_look` meets its contract. Assumes nothing.
-use borrow.Author.Needs.{needs}
+use Rattle.field.proofs.Base.{needs}
 use Rattle.walk.proofs.Looking.{asked-number, asked-row, asked-passed}
 use Rattle.walk.proofs.ask_look.Statement.{statement}
 use Rattle.walk.proofs.ask_look.Tie as tie

@@ -1,5 +1,5 @@
 -- `walk::ask_step` meets its contract. Assumes nothing.
-use borrow.Author.Needs.{needs}
+use Rattle.field.proofs.Base.{needs}
 use Rattle.walk.proofs.Walking.{asked-length, asked-number, asked-passed}
 use Rattle.walk.proofs.ask_step.Statement.{statement}
 use Rattle.walk.proofs.ask_step.Tie as tie

@@ -1,8 +1,5 @@
 -- `walk::look_into` meets its contract. Assumes nothing.
-use borrow.Author.Needs.{needs}
-use Prim.Native.Nat.{_-_, _*_, _<_}
-use native.Mathlib.Omega.{arith}
-use lib.ListN.{length}
+use Rattle.field.proofs.Base.{needs, _-_, _*_, _<_, arith, length}
 use Rattle.card.specs.Record.{recordSize}
 use Rattle.walk.proofs.Looking.{looked-low, looked-at, looked-row, looks-refused, looks-shown}
 use Rattle.walk.proofs.look_into.Statement.{statement}

@@ -1,6 +1,5 @@
 -- `walk::show` meets its contract. Assumes nothing.
-use borrow.Author.Needs.{needs}
-use native.Mathlib.Omega.{arith}
+use Rattle.field.proofs.Base.{needs, arith}
 use Rattle.card.proofs.Again.{copy-size}
 use Rattle.walk.proofs.Looking.{shows-no, shows-yes}
 use Rattle.walk.proofs.show.Statement.{statement}

@@ -1,6 +1,5 @@
 -- `card::cards::blank_in` meets its contract. Assumes nothing.
-use borrow.Author.Needs.{needs}
-use mathlib.Core.Path.{sym, _∙_}
+use Rattle.field.proofs.Base.{needs, sym, _∙_}
 use Rattle.card.proofs.Blank.{blank-no, blank-whole}
 use Rattle.card.proofs.cards.blank_in.Statement.{statement}
 use Rattle.card.proofs.cards.blank_in.Tie as tie

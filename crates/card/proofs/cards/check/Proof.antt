@@ -1,7 +1,5 @@
 -- `card::cards::check` meets its contract. Assumes nothing.
-use borrow.Author.Needs.{needs}
-use Prim.Native.Nat.{_-_}
-use lib.ListN.{length}
+use Rattle.field.proofs.Base.{needs, _-_, length}
 use Rattle.card.proofs.Checking.{Walked, walked-start, walked-on, checks-refused, checks-last, checks-end}
 use Rattle.card.proofs.cards.check.Statement.{statement}
 use Rattle.card.proofs.cards.check.Tie as tie

@@ -1,5 +1,5 @@
 -- `card::cards::is_fine` meets its contract. Assumes nothing.
-use borrow.Author.Needs.{needs}
+use Rattle.field.proofs.Base.{needs}
 use Rattle.card.proofs.Blank.{fine-blank, fine-record}
 use Rattle.card.proofs.cards.is_fine.Statement.{statement}
 use Rattle.card.proofs.cards.is_fine.Tie as tie

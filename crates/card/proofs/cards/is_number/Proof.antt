@@ -1,5 +1,5 @@
 -- `card::cards::is_number` meets its contract. Assumes nothing.
-use borrow.Author.Needs.{needs}
+use Rattle.field.proofs.Base.{needs}
 use Rattle.card.proofs.Numbering.{number-no, number-on}
 use Rattle.card.proofs.cards.is_number.Statement.{statement}
 use Rattle.card.proofs.cards.is_number.Tie as tie

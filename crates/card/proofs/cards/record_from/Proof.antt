@@ -1,7 +1,5 @@
 -- `card::cards::record_from` meets its contract. Assumes nothing.
-use borrow.Author.Needs.{needs}
-use mathlib.Core.Path.{refl}
-use native.Mathlib.Omega.{arith}
+use Rattle.field.proofs.Base.{needs, refl, arith}
 use Rattle.card.proofs.Checking.{last-piece, whole-piece}
 use Rattle.card.proofs.cards.record_from.Statement.{statement}
 use Rattle.card.proofs.cards.record_from.Tie as tie

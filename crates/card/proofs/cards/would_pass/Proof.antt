@@ -1,5 +1,5 @@
 -- `card::cards::would_pass` meets its contract. Assumes nothing.
-use borrow.Author.Needs.{needs}
+use Rattle.field.proofs.Base.{needs}
 use Rattle.card.proofs.Checking.{pass-yes, pass-no}
 use Rattle.card.proofs.cards.would_pass.Statement.{statement}
 use Rattle.card.proofs.cards.would_pass.Tie as tie

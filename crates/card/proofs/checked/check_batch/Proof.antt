@@ -1,8 +1,5 @@
 -- `card::checked::check_batch` meets its contract. Assumes nothing.
-use borrow.Author.Needs.{needs}
-use Prim.Native.Nat.{_≤_}
-use native.Mathlib.Omega.{arith}
-use lib.ListN.{length}
+use Rattle.field.proofs.Base.{needs, _≤_, arith, length}
 use Rattle.card.specs.Slots.{recordCount}
 use Rattle.card.proofs.Finding.{named-low, named-high, finds-none, finds-some}
 use Rattle.card.proofs.checked.check_batch.Statement.{statement}

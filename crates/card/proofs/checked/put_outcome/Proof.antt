@@ -1,5 +1,5 @@
 -- `card::checked::put_outcome` meets its contract. Assumes nothing.
-use borrow.Author.Needs.{needs}
+use Rattle.field.proofs.Base.{needs}
 use Rattle.card.proofs.Finding.{outcome-none, outcome-some}
 use Rattle.card.proofs.checked.put_outcome.Statement.{statement}
 use Rattle.card.proofs.checked.put_outcome.Tie as tie

@@ -1,9 +1,5 @@
 -- `card::conversion::are_slots` meets its contract. Assumes nothing.
-use borrow.Author.Needs.{needs}
-use mathlib.Core.Path.{ap, _∙_}
-use Prim.Native.Nat.{ℕ, _*_}
-use native.Mathlib.Omega.{arith}
-use lib.Dec.{eqb}
+use Rattle.field.proofs.Base.{needs, ap, _∙_, ℕ, _*_, arith, eqb}
 use Rattle.card.proofs.Slots.{slots-left, slots-other}
 use Rattle.card.proofs.conversion.are_slots.Statement.{statement}
 use Rattle.card.proofs.conversion.are_slots.Tie as tie

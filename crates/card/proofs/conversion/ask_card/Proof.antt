@@ -1,8 +1,5 @@
 -- `card::conversion::ask_card` meets its contract. Assumes nothing.
-use borrow.Author.Needs.{needs}
-use mathlib.Core.Path.{refl, ap, _∙_}
-use native.Mathlib.Omega.{arith}
-use lib.ListN.{length}
+use Rattle.field.proofs.Base.{needs, refl, ap, _∙_, arith, length}
 use Rattle.card.specs.declared.parts.Findings.{Findings}
 use Rattle.card.specs.Record.{sizeOf}
 use Rattle.card.proofs.Findings.{found-card}

@@ -1,6 +1,5 @@
 -- `card::conversion::card_to_new` meets its contract. Assumes nothing.
-use borrow.Author.Needs.{needs}
-use lib.ListN.{length}
+use Rattle.field.proofs.Base.{needs, length}
 use Rattle.card.proofs.Converting.{new-asked}
 use Rattle.card.proofs.conversion.card_to_new.Statement.{statement}
 use Rattle.card.proofs.conversion.card_to_new.Tie as tie

@@ -1,5 +1,5 @@
 -- `card::conversion::convert` meets its contract. Assumes nothing.
-use borrow.Author.Needs.{needs}
+use Rattle.field.proofs.Base.{needs}
 use Rattle.card.proofs.Converting.{converts-slots, converts, converts-refused}
 use Rattle.card.proofs.conversion.convert.Statement.{statement}
 use Rattle.card.proofs.conversion.convert.Tie as tie

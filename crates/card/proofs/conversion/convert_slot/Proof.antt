@@ -1,10 +1,5 @@
 -- `card::conversion::convert_slot` meets its contract. Assumes nothing.
-use borrow.Author.Needs.{needs}
-use mathlib.Core.Path.{_≡_, sym, _∙_}
-use Prim.Native.Nat.{_+_}
-use native.Mathlib.Omega.{arith}
-use lib.ListN.{length, take, drop}
-use lib.Seq.{length-take-le}
+use Rattle.field.proofs.Base.{needs, _≡_, sym, _∙_, _+_, arith, length, take, drop, length-take-le}
 use Rattle.code.proofs.Loops.{part-drop, two-parts}
 use Rattle.card.proofs.Converted.{header-part}
 use Rattle.card.proofs.conversion.convert_slot.Statement.{statement}

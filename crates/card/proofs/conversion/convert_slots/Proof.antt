@@ -1,10 +1,5 @@
 -- `card::conversion::convert_slots` meets its contract. Before turn i the first i slots are written. Assumes nothing.
-use borrow.Author.Needs.{needs}
-use mathlib.Core.Path.{_≡_, refl, ap, _∙_}
-use mathlib.Core.List.{_++_}
-use Prim.Native.Nat.{_+_, _-_, _*_, _≤_}
-use native.Mathlib.Omega.{arith}
-use lib.ListN.{length, drop}
+use Rattle.field.proofs.Base.{needs, _≡_, refl, ap, _∙_, _++_, _+_, _-_, _*_, _≤_, arith, length, drop}
 use Rattle.card.specs.Record.{sizeOf}
 use Rattle.card.specs.Conversion.{converted}
 use Rattle.card.specs.inner.Leading.{convertedSlots}

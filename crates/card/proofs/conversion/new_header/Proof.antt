@@ -1,9 +1,5 @@
 -- `card::conversion::new_header` meets its contract. Assumes nothing.
-use borrow.Author.Needs.{needs}
-use mathlib.Core.Path.{sym, ap}
-use mathlib.Core.List.{List, [], _∷_, _++_}
-use Prim.Native.Nat.{ℕ}
-use lib.Seq.{length-take-le}
+use Rattle.field.proofs.Base.{needs, sym, ap, List, [], _∷_, _++_, ℕ, length-take-le}
 use Rattle.card.proofs.conversion.new_header.Statement.{statement}
 use Rattle.card.proofs.conversion.new_header.Tie as tie
 

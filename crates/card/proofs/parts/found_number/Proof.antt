@@ -1,5 +1,5 @@
 -- `card::parts::found_number` meets its contract. Assumes nothing.
-use borrow.Author.Needs.{needs}
+use Rattle.field.proofs.Base.{needs}
 use Rattle.card.proofs.Findings.{number-rest, number-none}
 use Rattle.card.proofs.parts.found_number.Statement.{statement}
 use Rattle.card.proofs.parts.found_number.Tie as tie

@@ -1,6 +1,5 @@
 -- `card::parts::found_verdict` meets its contract. Assumes nothing.
-use borrow.Author.Needs.{needs}
-use mathlib.Core.Path.{_∙_}
+use Rattle.field.proofs.Base.{needs, _∙_}
 use Rattle.card.proofs.Findings.{verdict-rest, verdict-none}
 use Rattle.card.proofs.parts.found_verdict.Statement.{statement}
 use Rattle.card.proofs.parts.found_verdict.Tie as tie

@@ -1,10 +1,6 @@
 -- `card::parts::see_part` meets its contract. Before turn i the findings are those of the first i slots. Assumes nothing.
-use borrow.Author.Needs.{needs}
-use mathlib.Core.Path.{_≡_, ap, _∙_}
-use Prim.Native.Nat.{ℕ, _+_, _-_, _*_, _/_, _≤_}
+use Rattle.field.proofs.Base.{needs, _≡_, ap, _∙_, ℕ, _+_, _-_, _*_, _/_, _≤_, arith, length}
 use native.Mathlib.Nat.{div-le-self}
-use native.Mathlib.Omega.{arith}
-use lib.ListN.{length}
 use Rattle.card.specs.Findings.{slotFound}
 use Rattle.card.specs.declared.parts.Findings.{Findings}
 use Rattle.card.proofs.Slots.{slot-cut, slot-whole, slot-inside}

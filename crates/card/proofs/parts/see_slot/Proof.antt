@@ -1,5 +1,5 @@
 -- `card::parts::see_slot` meets its contract. Assumes nothing.
-use borrow.Author.Needs.{needs}
+use Rattle.field.proofs.Base.{needs}
 use Rattle.card.proofs.Findings.{found-fewer, found-kept}
 use Rattle.card.proofs.parts.see_slot.Statement.{statement}
 use Rattle.card.proofs.parts.see_slot.Tie as tie

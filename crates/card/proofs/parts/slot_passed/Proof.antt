@@ -1,5 +1,5 @@
 -- `card::parts::slot_passed` meets its contract. Assumes nothing.
-use borrow.Author.Needs.{needs}
+use Rattle.field.proofs.Base.{needs}
 use Rattle.card.proofs.Leading.{slot-blank, slot-record}
 use Rattle.card.proofs.parts.slot_passed.Statement.{statement}
 use Rattle.card.proofs.parts.slot_passed.Tie as tie

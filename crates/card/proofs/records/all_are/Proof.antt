@@ -1,8 +1,5 @@
 -- `card::records::all_are` meets its contract. Assumes nothing.
-use borrow.Author.Needs.{needs}
-use mathlib.Core.Path.{_≡_}
-use Prim.Native.Nat.{_-_, _≤_}
-use lib.ListN.{length, drop}
+use Rattle.field.proofs.Base.{needs, _≡_, _-_, _≤_, length, drop}
 use Rattle.card.specs.Record.{allAre}
 use Rattle.card.proofs.Layouts.{all-on, all-stop, all-end}
 use Rattle.card.proofs.records.all_are.Statement.{statement}

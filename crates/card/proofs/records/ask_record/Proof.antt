@@ -1,6 +1,5 @@
 -- `card::records::ask_record` meets its contract. Assumes nothing.
-use borrow.Author.Needs.{needs}
-use mathlib.Core.Path.{_∙_}
+use Rattle.field.proofs.Base.{needs, _∙_}
 use Rattle.card.specs.Record.{erasureBytes}
 use Rattle.card.proofs.Layouts.{length-no, record-asked}
 use Rattle.card.proofs.records.ask_record.Statement.{statement}

@@ -1,10 +1,5 @@
 -- `card::records::clear_header` meets its contract. Assumes nothing.
-use borrow.Author.Needs.{needs}
-use mathlib.Core.Path.{sym, ap}
-use mathlib.Core.List.{List, _++_}
-use Prim.Native.Nat.{ℕ}
-use lib.ListN.{drop}
-use lib.Seq.{length-take-le}
+use Rattle.field.proofs.Base.{needs, sym, ap, List, _++_, ℕ, drop, length-take-le}
 use Rattle.card.proofs.records.clear_header.Statement.{statement}
 use Rattle.card.proofs.records.clear_header.Tie as tie
 

@@ -1,5 +1,5 @@
 -- `card::records::erasure_row` meets its contract. Assumes nothing.
-use borrow.Author.Needs.{needs}
+use Rattle.field.proofs.Base.{needs}
 use Rattle.card.proofs.Layouts.{five-bytes}
 use Rattle.card.proofs.records.erasure_row.Statement.{statement}
 use Rattle.card.proofs.records.erasure_row.Tie as tie

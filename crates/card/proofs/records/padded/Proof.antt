@@ -1,5 +1,5 @@
 -- `card::records::padded` meets its contract. Assumes nothing.
-use borrow.Author.Needs.{needs}
+use Rattle.field.proofs.Base.{needs}
 use Rattle.card.proofs.Layouts.{padded-yes, padded-no}
 use Rattle.card.proofs.records.padded.Statement.{statement}
 use Rattle.card.proofs.records.padded.Tie as tie

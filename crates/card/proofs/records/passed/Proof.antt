@@ -1,6 +1,5 @@
 -- `card::records::passed` meets its contract. Assumes nothing.
-use borrow.Author.Needs.{needs}
-use native.Mathlib.Omega.{arith}
+use Rattle.field.proofs.Base.{needs, arith}
 use Rattle.code.proofs.Lengths.{length-most}
 use Rattle.card.specs.Record.{widthOf}
 use Rattle.card.proofs.Layouts.{record-fits, count-fits, passes-none, passes-one, passes-two, passes-three, passes-four}

@@ -1,9 +1,5 @@
 -- `card::records::restore_asked` meets its contract. Assumes nothing.
-use borrow.Author.Needs.{needs}
-use mathlib.Core.Path.{_≡_, sym}
-use native.Mathlib.Omega.{arith}
-use lib.ListN.{length}
-use lib.Seq.{length-take-le}
+use Rattle.field.proofs.Base.{needs, _≡_, sym, arith, length, length-take-le}
 use Rattle.code.proofs.Lengths.{length-most}
 use Rattle.card.specs.Record.{erasureBytes, widthOf, countOf}
 use Rattle.card.proofs.Layouts.{asked, word-fits, word-long}

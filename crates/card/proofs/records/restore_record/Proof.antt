@@ -1,5 +1,5 @@
 -- `card::records::restore_record` meets its contract. Assumes nothing.
-use borrow.Author.Needs.{needs}
+use Rattle.field.proofs.Base.{needs}
 use Rattle.card.proofs.Reaches.{restores-two}
 use Rattle.card.proofs.records.restore_record.Statement.{statement}
 use Rattle.card.proofs.records.restore_record.Tie as tie

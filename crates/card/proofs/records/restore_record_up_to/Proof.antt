@@ -1,7 +1,5 @@
 -- `card::records::restore_record_up_to` meets its contract. Assumes nothing.
-use borrow.Author.Needs.{needs}
-use mathlib.Core.Path.{_≡_, refl, sym, _∙_}
-use native.Mathlib.Omega.{arith}
+use Rattle.field.proofs.Base.{needs, _≡_, refl, sym, _∙_, arith}
 use Rattle.field.specs.declared.Verdict.the-variants.{Passed}
 use Rattle.card.specs.Record.{reachUpTo}
 use Rattle.card.proofs.Layouts.{asked}

@@ -1,6 +1,5 @@
 -- `card::records::restore_record_within` meets its contract. Assumes nothing.
-use borrow.Author.Needs.{needs}
-use mathlib.Core.Path.{_≡_, refl, sym, _∙_}
+use Rattle.field.proofs.Base.{needs, _≡_, refl, sym, _∙_}
 use Rattle.field.specs.declared.Verdict.the-variants.{Passed}
 use Rattle.card.proofs.Recording.{restores-refused}
 use Rattle.card.proofs.records.restore_record_within.Statement.{statement}

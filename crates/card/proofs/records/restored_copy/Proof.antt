@@ -1,5 +1,5 @@
 -- `card::records::restored_copy` meets its contract. Assumes nothing.
-use borrow.Author.Needs.{needs}
+use Rattle.field.proofs.Base.{needs}
 use Rattle.field.specs.declared.Question.the-variants.{Length}
 use Rattle.card.proofs.Recording.{short-refused, row-refused, copied-yes, copied-no}
 use Rattle.card.proofs.records.restored_copy.Statement.{statement}

@@ -1,5 +1,5 @@
 -- `card::records::verdict_of` meets its contract. Assumes nothing.
-use mathlib.Core.Path.{sym, ap}
+use Rattle.field.proofs.Base.{sym, ap}
 use Rattle.card.specs.Leading.{verdictAt}
 use Rattle.card.proofs.Layouts.{verdict-passed}
 use Rattle.card.proofs.records.verdict_of.Statement.{statement}

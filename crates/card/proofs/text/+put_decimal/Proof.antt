@@ -1,8 +1,7 @@
 -- `card::text::put_decimal` meets its contract: the digits of n are those of n / 10 and the last one. The measure is n. Assumes nothing.
 use borrow.Fn.Kinds.{In}
 use borrow.Fn.PlainCycle.{Measures, is, falls, and}
-use Prim.Native.Nat.{ℕ, _<_}
-use native.Mathlib.Omega.{arith}
+use Rattle.field.proofs.Base.{ℕ, _<_, arith}
 use Rattle.card.proofs.Writing.{writes-on, decimal-one, decimal-more, length-one, length-more}
 use Rattle.card.proofs.text.put_byte.Reads as put-byte
 use Rattle.card.proofs.text.put_decimal.Reads as reads

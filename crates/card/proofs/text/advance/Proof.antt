@@ -1,6 +1,5 @@
 -- `card::text::advance` meets its contract, case by case of the answer. Assumes nothing.
-use borrow.Author.Needs.{needs}
-use mathlib.Core.Path.{sym, ap}
+use Rattle.field.proofs.Base.{needs, sym, ap}
 use Rattle.code.specs.Call.{repair}
 use Rattle.code.specs.declared.Repair.{Repair}
 use Rattle.card.specs.Listing.{counted}

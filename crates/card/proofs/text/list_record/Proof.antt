@@ -1,6 +1,5 @@
 -- `card::text::list_record` meets its contract: its calls say what is written and counted. Assumes nothing.
-use borrow.Author.Needs.{needs}
-use mathlib.Core.Path.{_∙_, ap}
+use Rattle.field.proofs.Base.{needs, _∙_, ap}
 use Rattle.field.specs.Question.{Outcome}
 use Rattle.card.specs.Listing.{counted}
 use Rattle.card.specs.inner.Room.{further}

@@ -1,10 +1,6 @@
 -- `card::text::list_records` meets its contract. Before turn i the lines of the first i slots are written, and the listing has come to the
 -- next one. Assumes nothing.
-use borrow.Author.Needs.{needs}
-use mathlib.Core.Path.{_≡_, _∙_}
-use Prim.Native.Nat.{_-_, _^_, _≤_}
-use native.Mathlib.Omega.{arith}
-use lib.ListN.{length}
+use Rattle.field.proofs.Base.{needs, _≡_, _∙_, _-_, _^_, _≤_, arith, length}
 use Rattle.card.specs.Record.{recordOf}
 use Rattle.card.specs.Slots.{recordCount}
 use Rattle.card.specs.Batch.{ListsSlots}

@@ -1,5 +1,5 @@
 -- `card::text::list_slot` meets its contract. Assumes nothing.
-use borrow.Author.Needs.{needs}
+use Rattle.field.proofs.Base.{needs}
 use Rattle.card.proofs.Lines.{lists-blank, lists-record}
 use Rattle.card.proofs.text.list_slot.Statement.{statement}
 use Rattle.card.proofs.text.list_slot.Tie as tie

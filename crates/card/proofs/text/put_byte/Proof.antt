@@ -1,5 +1,5 @@
 -- `card::text::put_byte` meets its contract. Assumes nothing.
-use borrow.Author.Needs.{needs}
+use Rattle.field.proofs.Base.{needs}
 use Rattle.card.proofs.Writing.{writes-byte}
 use Rattle.card.proofs.text.put_byte.Statement.{statement}
 use Rattle.card.proofs.text.put_byte.Tie as tie

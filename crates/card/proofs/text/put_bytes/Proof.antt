@@ -1,9 +1,5 @@
 -- `card::text::put_bytes` meets its contract. Before turn i the first i bytes are written. Assumes nothing.
-use borrow.Author.Needs.{needs}
-use mathlib.Core.Path.{_≡_, refl}
-use native.Mathlib.Omega.{arith}
-use Prim.Native.Nat.{_+_, _-_, _≤_}
-use lib.ListN.{length, take}
+use Rattle.field.proofs.Base.{needs, _≡_, refl, arith, _+_, _-_, _≤_, length, take}
 use Rattle.card.specs.Placed.{Writes}
 use Rattle.card.proofs.Writing.{writes-none, writes-more, writes-all}
 use Rattle.card.proofs.text.put_bytes.Statement.{statement}

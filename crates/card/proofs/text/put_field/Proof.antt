@@ -1,6 +1,5 @@
 -- `card::text::put_field` meets its contract: a number has at most 20 digits. Assumes nothing.
-use borrow.Author.Needs.{needs}
-use native.Mathlib.Omega.{arith}
+use Rattle.field.proofs.Base.{needs, arith}
 use Rattle.card.proofs.Writing.{writes-on, length-decimal}
 use Rattle.card.proofs.text.put_field.Statement.{statement}
 use Rattle.card.proofs.text.put_field.Tie as tie

@@ -1,6 +1,5 @@
 -- `card::text::put_line` meets its contract: the four fields stand one behind the other. Assumes nothing.
-use borrow.Author.Needs.{needs}
-use mathlib.Core.List.{append-assoc}
+use Rattle.field.proofs.Base.{needs, append-assoc}
 use Rattle.card.proofs.Writing.{writes-on}
 use Rattle.card.proofs.text.put_line.Statement.{statement}
 use Rattle.card.proofs.text.put_line.Tie as tie

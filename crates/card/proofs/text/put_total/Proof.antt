@@ -1,6 +1,5 @@
 -- `card::text::put_total` meets its contract: the word and three fields stand one behind the other. Assumes nothing.
-use borrow.Author.Needs.{needs}
-use mathlib.Core.List.{append-assoc}
+use Rattle.field.proofs.Base.{needs, append-assoc}
 use Rattle.card.proofs.Writing.{writes-on}
 use Rattle.card.proofs.text.put_total.Statement.{statement}
 use Rattle.card.proofs.text.put_total.Tie as tie

@@ -1,6 +1,5 @@
 -- `card::text::refusal_of` meets its contract. Assumes nothing.
-use borrow.Author.Needs.{needs}
-use mathlib.Core.Path.{sym, ap, _∙_}
+use Rattle.field.proofs.Base.{needs, sym, ap, _∙_}
 use Rattle.code.specs.Call.{repair}
 use Rattle.code.specs.declared.Repair.{Repair}
 use Rattle.card.specs.Listing.{refusalOf}

@@ -1,6 +1,5 @@
 -- `card::words::put_refusal` meets its contract: two fields, the words and the end of the line stand one behind the other. Assumes nothing.
-use borrow.Author.Needs.{needs}
-use mathlib.Core.List.{append-assoc}
+use Rattle.field.proofs.Base.{needs, append-assoc}
 use Rattle.card.proofs.Writing.{writes-on}
 use Rattle.card.proofs.words.put_refusal.Statement.{statement}
 use Rattle.card.proofs.words.put_refusal.Tie as tie

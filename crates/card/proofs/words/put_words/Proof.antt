@@ -1,6 +1,5 @@
 -- `card::words::put_words` meets its contract. Assumes nothing.
-use borrow.Author.Needs.{needs}
-use mathlib.Core.Path.{refl}
+use Rattle.field.proofs.Base.{needs, refl}
 use lib.Dec.{lit≤}
 use Rattle.card.specs.Words.{words}
 use Rattle.card.proofs.Wording.{worded}

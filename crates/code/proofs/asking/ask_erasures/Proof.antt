@@ -1,5 +1,5 @@
 -- `code::asking::ask_erasures` meets its contract. Assumes nothing.
-use borrow.Author.Needs.{needs}
+use Rattle.field.proofs.Base.{needs}
 use Rattle.code.proofs.calls.Answers.{count-no, place-no, distinct-no, symbol-no, erasures-pass}
 use Rattle.code.proofs.asking.ask_erasures.Statement.{statement}
 use Rattle.code.proofs.asking.ask_erasures.Tie as tie

@@ -1,5 +1,5 @@
 -- `code::asking::ask_is_codeword` meets its contract. Assumes nothing.
-use borrow.Author.Needs.{needs}
+use Rattle.field.proofs.Base.{needs}
 use Rattle.code.specs.Call.{isCodewordAsked}
 use Rattle.code.proofs.calls.Answers.{word-stop, test-on}
 use Rattle.code.proofs.asking.ask_is_codeword.Statement.{statement}

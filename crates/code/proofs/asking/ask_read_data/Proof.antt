@@ -1,7 +1,5 @@
 -- `code::asking::ask_read_data` meets its contract. Assumes nothing.
-use borrow.Author.Needs.{needs}
-use mathlib.Core.Path.{_≡_}
-use mathlib.Core.Bool.{Bool, true, false}
+use Rattle.field.proofs.Base.{needs, _≡_, Bool, true, false}
 use Rattle.field.specs.Question.{ask}
 use Rattle.field.specs.declared.Question.the-variants.{Syndrome}
 use Rattle.field.specs.declared.Verdict.the-variants.{Passed}

@@ -1,7 +1,5 @@
 -- `code::asking::ask_restore` meets its contract. Assumes nothing.
-use borrow.Author.Needs.{needs}
-use mathlib.Core.Path.{_≡_}
-use native.Mathlib.Omega.{arith}
+use Rattle.field.proofs.Base.{needs, _≡_, arith}
 use Rattle.field.specs.declared.Verdict.the-variants.{Passed}
 use Rattle.field.proofs.Widths.{order-small}
 use Rattle.code.specs.Call.{restoreAsked}

@@ -1,6 +1,5 @@
 -- `code::asking::ask_slices` meets its contract. Assumes nothing.
-use borrow.Author.Needs.{needs}
-use native.Mathlib.Omega.{arith}
+use Rattle.field.proofs.Base.{needs, arith}
 use Rattle.code.proofs.calls.Answers.{word-long, word-stop, slices-on, slices-no}
 use Rattle.code.proofs.asking.ask_slices.Statement.{statement}
 use Rattle.code.proofs.asking.ask_slices.Tie as tie

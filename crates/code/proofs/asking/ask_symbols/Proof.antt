@@ -1,5 +1,5 @@
 -- `code::asking::ask_symbols` meets its contract. Assumes nothing.
-use borrow.Author.Needs.{needs}
+use Rattle.field.proofs.Base.{needs}
 use Rattle.code.proofs.calls.Answers.{symbols-pass, symbols-no}
 use Rattle.code.proofs.asking.ask_symbols.Statement.{statement}
 use Rattle.code.proofs.asking.ask_symbols.Tie as tie

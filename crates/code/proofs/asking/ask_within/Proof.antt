@@ -1,7 +1,5 @@
 -- `code::asking::ask_within` meets its contract. Assumes nothing.
-use borrow.Author.Needs.{needs}
-use mathlib.Core.Path.{_≡_, sym, _∙_}
-use native.Mathlib.Omega.{arith}
+use Rattle.field.proofs.Base.{needs, _≡_, sym, _∙_, arith}
 use Rattle.field.specs.declared.Verdict.the-variants.{Passed}
 use Rattle.code.specs.Demands.{Passes}
 use Rattle.code.proofs.calls.Passing.{within-stop, passes-within, longer-refused}

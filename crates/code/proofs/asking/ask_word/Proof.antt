@@ -1,5 +1,5 @@
 -- `code::asking::ask_word` meets its contract. Assumes nothing.
-use borrow.Author.Needs.{needs}
+use Rattle.field.proofs.Base.{needs}
 use Rattle.code.proofs.calls.Answers.{word-no-width, word-pass, word-no-length}
 use Rattle.code.proofs.asking.ask_word.Statement.{statement}
 use Rattle.code.proofs.asking.ask_word.Tie as tie

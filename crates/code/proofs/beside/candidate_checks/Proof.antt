@@ -1,9 +1,5 @@
 -- `code::beside::candidate_checks` meets its contract. Assumes nothing.
-use borrow.Author.Needs.{needs}
-use mathlib.Core.Path.{_≡_, refl, sym, subst}
-use mathlib.Core.List.{List, [], _∷_}
-use Prim.Native.Nat.{ℕ}
-use lib.ListN.{length}
+use Rattle.field.proofs.Base.{needs, _≡_, refl, sym, subst, List, [], _∷_, ℕ, length}
 use Rattle.code.specs.declared.trial.Trial.{Trial}
 use Rattle.code.specs.Word.{at}
 use Rattle.code.specs.inner.Matrix.{unknowns}

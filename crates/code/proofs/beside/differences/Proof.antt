@@ -1,7 +1,5 @@
 -- `code::beside::differences` meets its contract. Assumes nothing.
-use borrow.Author.Needs.{needs}
-use mathlib.Core.Path.{_≡_}
-use lib.ListN.{length}
+use Rattle.field.proofs.Base.{needs, _≡_, length}
 use Rattle.field.proofs.Widths.{field-of}
 use Rattle.code.proofs.finding.CheckPlaces.{differences-row}
 use Rattle.code.proofs.beside.differences.Statement.{statement}

@@ -1,7 +1,5 @@
 -- `code::beside::eliminated` meets its contract. Assumes nothing.
-use borrow.Author.Needs.{needs}
-use mathlib.Core.Path.{ap, _∙_}
-use Prim.Native.Nat.{ℕ}
+use Rattle.field.proofs.Base.{needs, ap, _∙_, ℕ}
 use Rattle.field.specs.Polynomial.{add}
 use Rattle.field.specs.Field.{product}
 use Rattle.field.proofs.Widths.{field-of}

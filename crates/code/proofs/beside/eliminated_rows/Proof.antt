@@ -1,8 +1,5 @@
 -- `code::beside::eliminated_rows` meets its contract. Assumes nothing.
-use borrow.Author.Needs.{needs}
-use mathlib.Core.Path.{_≡_}
-use native.Mathlib.Omega.{arith}
-use lib.ListN.{length}
+use Rattle.field.proofs.Base.{needs, _≡_, arith, length}
 use Rattle.code.specs.inner.Matrix.{unknowns}
 use Rattle.code.specs.inner.Correction.{placesOf}
 use Rattle.code.proofs.Places.{held-length, first-place, first-places}

@@ -1,9 +1,5 @@
 -- `code::beside::erasures_excluded` meets its contract. Assumes nothing.
-use borrow.Author.Needs.{needs}
-use borrow.Author.Tests.{not-true}
-use mathlib.Core.Path.{sym, _∙_}
-use mathlib.Core.Bool.{false≢true}
-use native.Mathlib.Omega.{arith}
+use Rattle.field.proofs.Base.{needs, not-true, sym, _∙_, false≢true, arith}
 use Rattle.field.proofs.Widths.{field-of}
 use Rattle.code.specs.inner.Correction.{placesOf}
 use Rattle.code.proofs.finding.CheckPlaces.{none-alone}

@@ -1,7 +1,5 @@
 -- `code::beside::find_beside` meets its contract. Assumes nothing.
-use borrow.Author.Needs.{needs}
-use Prim.Native.Nat.{zero-le}
-use native.Mathlib.Nat.{le-refl}
+use Rattle.field.proofs.Base.{needs, zero-le, le-refl}
 use Rattle.field.proofs.Widths.{field-of}
 use Rattle.code.specs.Word.{at}
 use Rattle.code.specs.inner.Correction.{Ready, placesOf}

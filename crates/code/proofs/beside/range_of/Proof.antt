@@ -1,9 +1,5 @@
 -- `code::beside::range_of` meets its contract. Assumes nothing.
-use borrow.Author.Needs.{needs}
-use mathlib.Core.Path.{_≡_}
-use mathlib.Core.List.{List}
-use Prim.Native.Nat.{ℕ, _+_, _-_, _≤_}
-use native.Mathlib.Omega.{arith}
+use Rattle.field.proofs.Base.{needs, _≡_, List, ℕ, _+_, _-_, _≤_, arith}
 use Rattle.code.specs.Word.{at}
 use Rattle.code.specs.inner.Beside.{NoneOutside, Tell}
 use Rattle.code.proofs.beside.range_of.Statement.{statement}

@@ -1,6 +1,5 @@
 -- `code::beside::rows_beside` meets its contract. Assumes nothing.
-use borrow.Author.Needs.{needs}
-use mathlib.Core.Path.{refl}
+use Rattle.field.proofs.Base.{needs, refl}
 use Rattle.code.proofs.beside.rows_beside.Statement.{statement}
 use Rattle.code.proofs.beside.rows_beside.Tie as tie
 

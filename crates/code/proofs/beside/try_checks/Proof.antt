@@ -1,7 +1,5 @@
 -- `code::beside::try_checks` meets its contract. Assumes nothing.
-use borrow.Author.Needs.{needs}
-use Prim.Native.Nat.{_-_}
-use native.Mathlib.Nat.{le-refl}
+use Rattle.field.proofs.Base.{needs, _-_, le-refl}
 use Rattle.code.specs.inner.Correction.{Ready, placesOf, NoneBeside}
 use Rattle.code.proofs.Loops.{Sought, sought-start, sought-on}
 use Rattle.code.proofs.restoring.Trying.{searched-none, searched-nothing, searched-found}

@@ -1,11 +1,5 @@
 -- `code::beside::try_data` meets its contract. Assumes nothing.
-use borrow.Author.Needs.{needs}
-use mathlib.Core.Path.{_≡_, sym, subst}
-use mathlib.Core.Bool.{true}
-use mathlib.Core.List.{List, [], _∷_}
-use Prim.Native.Nat.{ℕ}
-use native.Mathlib.Omega.{arith}
-use lib.ListN.{length}
+use Rattle.field.proofs.Base.{needs, _≡_, sym, subst, true, List, [], _∷_, ℕ, arith, length}
 use Rattle.field.specs.Question.{allBelow}
 use Rattle.code.specs.Word.{checks}
 use Rattle.code.specs.inner.Matrix.{unknowns}

@@ -1,7 +1,5 @@
 -- `code::beside::try_data_beside_data_and_check` meets its contract. Assumes nothing.
-use borrow.Author.Needs.{needs}
-use Prim.Native.Nat.{_+_}
-use native.Mathlib.Omega.{arith}
+use Rattle.field.proofs.Base.{needs, _+_, arith}
 use Rattle.code.specs.inner.Correction.{placesOf}
 use Rattle.code.proofs.restoring.Trying.{sums-lt}
 use Rattle.code.proofs.finding.BesideWays.{eliminated-data}

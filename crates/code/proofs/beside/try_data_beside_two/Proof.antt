@@ -1,9 +1,5 @@
 -- `code::beside::try_data_beside_two` meets its contract. Assumes nothing.
-use borrow.Author.Needs.{needs}
-use mathlib.Core.Path.{_≡_, refl, sym, subst}
-use mathlib.Core.Bool.{true}
-use mathlib.Core.List.{List, [], _∷_}
-use Prim.Native.Nat.{ℕ}
+use Rattle.field.proofs.Base.{needs, _≡_, refl, sym, subst, true, List, [], _∷_, ℕ}
 use Rattle.field.specs.Question.{allBelow}
 use Rattle.code.specs.Word.{checks}
 use Rattle.code.specs.inner.Correction.{placesOf}

@@ -1,8 +1,5 @@
 -- `code::beside::try_place` meets its contract. Assumes nothing.
-use borrow.Author.Needs.{needs}
-use mathlib.Core.Path.{refl, sym, _∙_}
-use native.Mathlib.Nat.{le-refl}
-use native.Mathlib.Omega.{arith}
+use Rattle.field.proofs.Base.{needs, refl, sym, _∙_, le-refl, arith}
 use Rattle.code.specs.inner.Correction.{NoneAt}
 use Rattle.code.proofs.restoring.Trying.{searched-outside, searched-listed, searched-last, searched-place}
 use Rattle.code.proofs.beside.try_place.Statement.{statement}

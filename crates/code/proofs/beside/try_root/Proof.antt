@@ -1,7 +1,5 @@
 -- `code::beside::try_root` meets its contract. Assumes nothing.
-use borrow.Author.Needs.{needs}
-use mathlib.Core.Path.{ap}
-use native.Mathlib.Omega.{arith}
+use Rattle.field.proofs.Base.{needs, ap, arith}
 use Rattle.code.specs.inner.Correction.{placesOf}
 use Rattle.code.proofs.finding.BesideWays.{root-out, root-place}
 use Rattle.code.proofs.beside.try_root.Statement.{statement}

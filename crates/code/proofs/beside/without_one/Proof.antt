@@ -1,7 +1,5 @@
 -- `code::beside::without_one` meets its contract. Assumes nothing.
-use borrow.Author.Needs.{needs}
-use mathlib.Core.Path.{refl}
-use native.Mathlib.Omega.{arith}
+use Rattle.field.proofs.Base.{needs, refl, arith}
 use Rattle.code.proofs.restoring.Trying.{sums-lt}
 use Rattle.code.proofs.beside.without_one.Statement.{statement}
 use Rattle.code.proofs.beside.without_one.Tie as tie

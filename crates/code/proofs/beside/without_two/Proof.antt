@@ -1,9 +1,5 @@
 -- `code::beside::without_two` meets its contract. Assumes nothing.
-use borrow.Author.Needs.{needs}
-use mathlib.Core.Path.{ap, _∙_}
-use mathlib.Core.List.{List}
-use Prim.Native.Nat.{ℕ}
-use native.Mathlib.Omega.{arith}
+use Rattle.field.proofs.Base.{needs, ap, _∙_, List, ℕ, arith}
 use Rattle.code.specs.Word.{five, at}
 use Rattle.code.specs.inner.Locate.{point}
 use Rattle.code.specs.inner.Beside.{eliminate}

@@ -1,9 +1,5 @@
 -- `code::block::all_below` meets its contract: what the blocks have in common with 256 - q is gathered. Assumes nothing.
-use borrow.Author.Needs.{needs}
-use mathlib.Core.Bool.{false≢true}
-use Prim.Native.Nat.{_-_, _≤_, _<_}
-use lib.ListN.{length}
-use borrow.Author.Tests.{eqb-true}
+use Rattle.field.proofs.Base.{needs, false≢true, _-_, _≤_, _<_, length, eqb-true}
 use Rattle.code.proofs.Blocks.{Gathered, gathered-start, gathered-on, gathered-end}
 use Rattle.code.proofs.block.all_below.Statement.{statement}
 use Rattle.code.proofs.block.all_below.Tie as tie

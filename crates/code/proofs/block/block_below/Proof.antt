@@ -1,8 +1,5 @@
 -- `code::block::block_below` meets its contract. Assumes nothing.
-use borrow.Author.Needs.{needs}
-use native.Mathlib.Omega.{arith}
-use mathlib.Core.Bool.{false≢true}
-use borrow.Author.Tests.{eqb-true}
+use Rattle.field.proofs.Base.{needs, arith, false≢true, eqb-true}
 use Rattle.code.proofs.Blocks.{block-below}
 use Rattle.code.proofs.block.block_below.Statement.{statement}
 use Rattle.code.proofs.block.block_below.Tie as tie

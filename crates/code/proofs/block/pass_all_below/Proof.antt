@@ -1,7 +1,5 @@
 -- `code::block::pass_all_below` meets its contract. Assumes nothing.
-use borrow.Author.Needs.{needs}
-use Prim.Native.Nat.{_<_}
-use lib.ListN.{length}
+use Rattle.field.proofs.Base.{needs, _<_, length}
 use Rattle.field.specs.Sum.{at}
 use Rattle.code.proofs.Blocks.{pass-all}
 use Rattle.code.proofs.block.pass_all_below.Statement.{statement}

@@ -1,9 +1,6 @@
 -- `code::block::pass_below` meets its contract. Assumes nothing.
-use borrow.Author.Needs.{needs}
-use native.Mathlib.Omega.{arith}
-use Prim.Native.Nat.{_-_, _<_}
+use Rattle.field.proofs.Base.{needs, arith, _-_, _<_, length}
 use Rattle.code.proofs.Blocks.{pass-block}
-use lib.ListN.{length}
 use Rattle.field.specs.Sum.{at}
 use Rattle.code.specs.inner.Block.{Run}
 use Rattle.code.proofs.block.pass_below.Statement.{statement}

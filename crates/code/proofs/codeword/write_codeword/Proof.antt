@@ -1,11 +1,5 @@
 -- `code::codeword::write_codeword` meets its contract. Assumes nothing.
-use borrow.Author.Needs.{needs}
-use mathlib.Core.Path.{_≡_, sym, ap, _∙_}
-use mathlib.Core.List.{List, _++_}
-use Prim.Native.Nat.{ℕ}
-use native.Mathlib.Omega.{arith}
-use lib.ListN.{length}
-use lib.Seq.{length-take-le}
+use Rattle.field.proofs.Base.{needs, _≡_, sym, ap, _∙_, List, _++_, ℕ, arith, length, length-take-le}
 use Rattle.field.proofs.Evaluation.{sums-own}
 use Rattle.code.specs.Word.{five, weighted, at}
 use Rattle.code.proofs.Loops.{two-parts}

@@ -1,6 +1,5 @@
 -- `code::codeword::zero_syndromes` meets its contract. Assumes nothing.
-use borrow.Author.Needs.{needs}
-use mathlib.Core.Path.{ap, _∙_}
+use Rattle.field.proofs.Base.{needs, ap, _∙_}
 use Rattle.code.specs.Call.{allZero, zeroSyndromes}
 use Rattle.code.proofs.codeword.zero_syndromes.Statement.{statement}
 use Rattle.code.proofs.codeword.zero_syndromes.Tie as tie

@@ -1,9 +1,5 @@
 -- `code::correction::apply_correction` meets its contract: the values from i on are written, and the changes counted. Assumes nothing.
-use borrow.Author.Needs.{needs}
-use mathlib.Core.Path.{_≡_}
-use native.Mathlib.Omega.{arith}
-use Prim.Native.Nat.{_-_, _≤_, _<_}
-use lib.ListN.{length}
+use Rattle.field.proofs.Base.{needs, _≡_, arith, _-_, _≤_, _<_, length}
 use Rattle.code.specs.inner.Place.{numbers}
 use Rattle.code.proofs.Places.{numbers-length, held-length}
 use Rattle.code.proofs.restoring.Writing.{Written, written-start, written-size, written-below, written-fits, written-on, written-end}

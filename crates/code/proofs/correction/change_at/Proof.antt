@@ -1,5 +1,5 @@
 -- `code::correction::change_at` meets its contract. Assumes nothing.
-use borrow.Author.Needs.{needs}
+use Rattle.field.proofs.Base.{needs}
 use Rattle.code.specs.Erasure.{member}
 use Rattle.code.proofs.restoring.Repairing.{change-same, change-erased, change-here}
 use Rattle.code.proofs.correction.change_at.Statement.{statement}

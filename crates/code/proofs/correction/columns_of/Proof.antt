@@ -1,9 +1,5 @@
 -- `code::correction::columns_of` meets its contract: the first j columns are filled in. Assumes nothing.
-use borrow.Author.Needs.{needs}
-use mathlib.Core.Path.{_≡_, ap, _∙_, subst}
-use Prim.Native.Nat.{ℕ, _-_, _≤_}
-use native.Mathlib.Omega.{arith}
-use lib.ListN.{length, take}
+use Rattle.field.proofs.Base.{needs, _≡_, ap, _∙_, subst, ℕ, _-_, _≤_, arith, length, take}
 use Rattle.code.specs.Word.{five}
 use Rattle.code.specs.inner.Place.{numbers, column}
 use Rattle.code.specs.inner.Matrix.{unknowns}

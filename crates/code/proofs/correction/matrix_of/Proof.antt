@@ -1,11 +1,5 @@
 -- `code::correction::matrix_of` meets its contract. Assumes nothing.
-use borrow.Author.Needs.{needs}
-use mathlib.Core.Path.{_≡_, refl, _∙_}
-use mathlib.Core.List.{List}
-use Prim.Native.Nat.{ℕ, _≤_}
-use native.Mathlib.Omega.{arith}
-use lib.ListN.{length, take}
-use lib.Seq.{length-take-le}
+use Rattle.field.proofs.Base.{needs, _≡_, refl, _∙_, List, ℕ, _≤_, arith, length, take, length-take-le}
 use Rattle.code.specs.Word.{at}
 use Rattle.code.specs.inner.Place.{numbers}
 use Rattle.code.specs.inner.Matrix.{unknowns}

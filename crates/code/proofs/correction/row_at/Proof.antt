@@ -1,9 +1,5 @@
 -- `code::correction::row_at` meets its contract. Assumes nothing.
-use borrow.Author.Needs.{needs}
-use mathlib.Core.Path.{_≡_, ap}
-use mathlib.Core.List.{List, [], _∷_, _++_}
-use Prim.Native.Nat.{ℕ}
-use lib.ListN.{length}
+use Rattle.field.proofs.Base.{needs, _≡_, ap, List, [], _∷_, _++_, ℕ, length}
 use Rattle.code.specs.inner.Matrix.{unknowns}
 use Rattle.code.proofs.solving.RowLaws.{column-entries}
 use Rattle.code.proofs.correction.row_at.Statement.{statement}

@@ -1,5 +1,5 @@
 -- `code::correction::solve_trial` meets its contract. Assumes nothing.
-use borrow.Author.Needs.{needs}
+use Rattle.field.proofs.Base.{needs}
 use Rattle.code.proofs.restoring.Correcting.{trial-solved}
 use Rattle.code.proofs.correction.solve_trial.Statement.{statement}
 use Rattle.code.proofs.correction.solve_trial.Tie as tie

@@ -1,7 +1,5 @@
 -- `code::errors::coefficient` meets its contract. Assumes nothing.
-use borrow.Author.Needs.{needs}
-use mathlib.Core.Path.{ap₂, _∙_}
-use Prim.Native.Nat.{ℕ, _<_}
+use Rattle.field.proofs.Base.{needs, ap₂, _∙_, ℕ, _<_}
 use Rattle.field.specs.Polynomial.{add}
 use Rattle.field.specs.inner.Operand.{Operand}
 use Rattle.field.proofs.Bytes.{xor-add, multiplied-product}

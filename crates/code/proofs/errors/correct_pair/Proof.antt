@@ -1,8 +1,7 @@
 -- `code::errors::correct_pair` meets its contract. Assumes nothing.
-use borrow.Author.Needs.{needs}
+use Rattle.field.proofs.Base.{needs, _≤_, _<_}
 use Rattle.code.specs.inner.Correction.{Ready}
 use Rattle.code.specs.Word.{checks, places, at}
-use Prim.Native.Nat.{_≤_, _<_}
 use Rattle.code.specs.inner.Locate.{PairValues}
 use Rattle.code.proofs.restoring.Trying.{sums-lt}
 use Rattle.code.proofs.finding.PlainWays.{pair-found, pair-out}

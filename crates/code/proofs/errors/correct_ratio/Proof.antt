@@ -1,8 +1,5 @@
 -- `code::errors::correct_ratio` meets its contract. Assumes nothing.
-use borrow.Author.Needs.{needs}
-use mathlib.Core.Path.{ap, sym, subst}
-use Prim.Native.Nat.{ℕ, _<_}
-use native.Mathlib.Omega.{arith}
+use Rattle.field.proofs.Base.{needs, ap, sym, subst, ℕ, _<_, arith}
 use Rattle.field.specs.Field.{order}
 use Rattle.field.proofs.Widths.{field-of}
 use Rattle.code.proofs.restoring.Trying.{sums-lt}

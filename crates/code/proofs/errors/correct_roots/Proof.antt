@@ -1,8 +1,5 @@
 -- `code::errors::correct_roots` meets its contract. Assumes nothing.
-use borrow.Author.Needs.{needs}
-use mathlib.Core.Path.{_≡_, sym, ap, _∙_}
-use Prim.Native.Nat.{ℕ}
-use native.Mathlib.Omega.{arith}
+use Rattle.field.proofs.Base.{needs, _≡_, sym, ap, _∙_, ℕ, arith}
 use Rattle.code.specs.Word.{items, at}
 use Rattle.code.specs.inner.Correction.{Ready}
 use Rattle.code.proofs.restoring.Trying.{sums-lt}

@@ -1,6 +1,5 @@
 -- `code::errors::correction_of` meets its contract. Assumes nothing.
-use borrow.Author.Needs.{needs}
-use mathlib.Core.Path.{refl, ap₂, _∙_}
+use Rattle.field.proofs.Base.{needs, refl, ap₂, _∙_}
 use Rattle.field.specs.Polynomial.{add}
 use Rattle.field.proofs.Bytes.{xor-add}
 use Rattle.code.proofs.finding.PlainWays.{correction-adds}

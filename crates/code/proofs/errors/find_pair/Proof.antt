@@ -1,6 +1,5 @@
 -- `code::errors::find_pair` meets its contract. Assumes nothing.
-use borrow.Author.Needs.{needs}
-use native.Mathlib.Nat.{le-refl}
+use Rattle.field.proofs.Base.{needs, le-refl}
 use Rattle.code.proofs.restoring.Trying.{searched-nothing, searched-found, searched-last}
 use Rattle.code.proofs.finding.PlainWays.{plain-none}
 use Rattle.code.proofs.errors.find_pair.Statement.{statement}

@@ -1,6 +1,5 @@
 -- `code::errors::nonzeros` meets its contract. Assumes nothing.
-use borrow.Author.Needs.{needs}
-use native.Mathlib.Omega.{arith}
+use Rattle.field.proofs.Base.{needs, arith}
 use Rattle.code.specs.inner.Locate.{full}
 use Rattle.code.proofs.finding.Finding.{lists-none}
 use Rattle.code.proofs.errors.nonzeros.Statement.{statement}

@@ -1,7 +1,5 @@
 -- `code::errors::pair_values` meets its contract. Assumes nothing.
-use borrow.Author.Needs.{needs}
-use Prim.Native.Nat.{ℕ, _<_}
-use native.Mathlib.Omega.{arith}
+use Rattle.field.proofs.Base.{needs, ℕ, _<_, arith}
 use Rattle.field.specs.inner.Operand.{Operand}
 use Rattle.field.proofs.Widths.{field-of}
 use Rattle.field.proofs.Ask.{operand-of}

@@ -1,6 +1,5 @@
 -- `code::errors::second_value` meets its contract. Assumes nothing.
-use borrow.Author.Needs.{needs}
-use mathlib.Core.Path.{ap, ap₂, _∙_}
+use Rattle.field.proofs.Base.{needs, ap, ap₂, _∙_}
 use Rattle.field.specs.Polynomial.{add}
 use Rattle.field.specs.Field.{product, inverse}
 use Rattle.field.proofs.Widths.{field-of}

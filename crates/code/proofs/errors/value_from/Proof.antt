@@ -1,6 +1,5 @@
 -- `code::errors::value_from` meets its contract. Assumes nothing.
-use borrow.Author.Needs.{needs}
-use mathlib.Core.Path.{ap, _∙_}
+use Rattle.field.proofs.Base.{needs, ap, _∙_}
 use Rattle.field.specs.Field.{product, inverse}
 use Rattle.field.proofs.Widths.{field-of}
 use Rattle.field.proofs.Ask.{operand-of}

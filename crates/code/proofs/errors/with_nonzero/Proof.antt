@@ -1,5 +1,5 @@
 -- `code::errors::with_nonzero` meets its contract. Assumes nothing.
-use borrow.Author.Needs.{needs}
+use Rattle.field.proofs.Base.{needs}
 use Rattle.code.proofs.finding.Finding.{lists-same, lists-more}
 use Rattle.code.proofs.errors.with_nonzero.Statement.{statement}
 use Rattle.code.proofs.errors.with_nonzero.Tie as tie

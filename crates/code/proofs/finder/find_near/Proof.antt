@@ -1,10 +1,5 @@
 -- `code::finder::find_near` meets its contract. Assumes nothing.
-use borrow.Author.Needs.{needs}
-use mathlib.Core.Path.{_≡_, sym, ap, subst}
-use mathlib.Core.List.{List, []}
-use Prim.Native.Nat.{ℕ}
-use native.Mathlib.Omega.{arith}
-use lib.ListN.{take}
+use Rattle.field.proofs.Base.{needs, _≡_, sym, ap, subst, List, [], ℕ, arith, take}
 use Rattle.code.specs.inner.Place.{numbers}
 use Rattle.code.specs.inner.Correction.{placesOf, Searched, NoneWithin}
 use Rattle.code.proofs.distance.DistanceLaw.{distance-of}

@@ -1,10 +1,6 @@
 -- `code::place::column` meets its contract. Assumes nothing.
-use borrow.Author.Needs.{needs}
-use mathlib.Core.Path.{sym, ap, _∙_}
-use Prim.Native.Nat.{ℕ, _≤_}
-use native.Mathlib.Omega.{arith}
+use Rattle.field.proofs.Base.{needs, sym, ap, _∙_, ℕ, _≤_, arith, lit<}
 use native.Mathlib.Nat.{mul-le-mul, lt-of-le-of-lt}
-use lib.Dec.{lit<}
 use Rattle.field.specs.Field.{power, α}
 use Rattle.field.proofs.Widths.{field-of}
 use Rattle.field.proofs.Bytes.{raised-power}

@@ -1,8 +1,5 @@
 -- `code::place::point` meets its contract. Assumes nothing.
-use borrow.Author.Needs.{needs}
-use mathlib.Core.Path.{_≡_, sym, ap, _∙_}
-use Prim.Native.Nat.{ℕ, _-_, _*_}
-use native.Mathlib.Omega.{arith}
+use Rattle.field.proofs.Base.{needs, _≡_, sym, ap, _∙_, ℕ, _-_, _*_, arith}
 use Rattle.field.specs.Field.{power, α}
 use Rattle.field.specs.declared.Exponent.{Exponent}
 use Rattle.code.specs.inner.Place.{column}

@@ -1,5 +1,5 @@
 -- `code::place::point_times` meets its contract. Assumes nothing.
-use borrow.Author.Needs.{needs}
+use Rattle.field.proofs.Base.{needs}
 use Rattle.code.proofs.finding.Times.{point-five}
 use Rattle.code.proofs.place.point_times.Statement.{statement}
 use Rattle.code.proofs.place.point_times.Tie as tie

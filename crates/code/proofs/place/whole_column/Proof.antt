@@ -1,8 +1,5 @@
 -- `code::place::whole_column` meets its contract. Assumes nothing.
-use borrow.Author.Needs.{needs}
-use mathlib.Core.Path.{sym, ap, _∙_}
-use Prim.Native.Nat.{ℕ}
-use native.Mathlib.Omega.{arith}
+use Rattle.field.proofs.Base.{needs, sym, ap, _∙_, ℕ, arith}
 use Rattle.field.specs.declared.Exponent.{Exponent}
 use Rattle.field.proofs.Widths.{field-of}
 use Rattle.field.proofs.Evaluation.{five-of}

@@ -1,8 +1,5 @@
 -- `code::question::all_different` meets its contract. Assumes nothing.
-use borrow.Author.Needs.{needs}
-use mathlib.Core.Path.{_≡_}
-use Prim.Native.Nat.{_-_, _≤_}
-use lib.ListN.{length, drop}
+use Rattle.field.proofs.Base.{needs, _≡_, _-_, _≤_, length, drop}
 use Rattle.code.specs.Erasure.{distinct}
 use Rattle.code.proofs.Questions.{distinct-on, distinct-stop, distinct-end}
 use Rattle.code.proofs.question.all_different.Statement.{statement}

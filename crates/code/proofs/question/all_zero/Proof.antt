@@ -1,6 +1,5 @@
 -- `code::question::all_zero` meets its contract. Assumes nothing.
-use borrow.Author.Needs.{needs}
-use mathlib.Core.Path.{_∙_}
+use Rattle.field.proofs.Base.{needs, _∙_}
 use Rattle.code.proofs.Questions.{allZero-below}
 use Rattle.code.proofs.question.all_zero.Statement.{statement}
 use Rattle.code.proofs.question.all_zero.Tie as tie

@@ -1,10 +1,7 @@
 -- `code::question::below` meets its contract. Assumes nothing.
-use borrow.Author.Needs.{needs}
-use Prim.Native.Nat.{_-_}
-use mathlib.Core.Path.{_≡_, refl}
+use Rattle.field.proofs.Base.{needs, _-_, _≡_, refl, length, drop}
 use Rattle.field.specs.Question.{allBelow}
 use Rattle.code.proofs.Questions.{allBelow-on, allBelow-run, allBelow-stop, allBelow-end}
-use lib.ListN.{length, drop}
 use Rattle.code.proofs.question.below.Statement.{statement}
 use Rattle.code.proofs.question.below.Tie as tie
 

@@ -1,8 +1,5 @@
 -- `code::question::contains` meets its contract. Assumes nothing.
-use borrow.Author.Needs.{needs}
-use mathlib.Core.Path.{_≡_}
-use Prim.Native.Nat.{_-_, _≤_}
-use lib.ListN.{length, drop}
+use Rattle.field.proofs.Base.{needs, _≡_, _-_, _≤_, length, drop}
 use Rattle.code.specs.Erasure.{member}
 use Rattle.code.proofs.Questions.{member-on, member-stop, member-end}
 use Rattle.code.proofs.question.contains.Statement.{statement}

@@ -1,11 +1,7 @@
 -- `code::question::symbols_below` meets its contract. Assumes nothing.
-use borrow.Author.Needs.{needs}
-use Prim.Native.Nat.{ℕ, _+_, _-_, _≤_}
-use mathlib.Core.Path.{_≡_, refl}
-use mathlib.Core.Logic.{⊎-elim}
+use Rattle.field.proofs.Base.{needs, ℕ, _+_, _-_, _≤_, _≡_, refl, ⊎-elim, length, drop}
 use Rattle.code.specs.Erasure.{symbolsFrom}
 use Rattle.code.proofs.Questions.{symbols-on, symbols-run, symbols-erased, symbols-stop, symbols-end}
-use lib.ListN.{length, drop}
 use Rattle.code.proofs.question.symbols_below.Statement.{statement}
 use Rattle.code.proofs.question.symbols_below.Tie as tie
 

@@ -1,11 +1,5 @@
 -- `code::restorer::correct_word` meets its contract. Assumes nothing.
-use borrow.Author.Needs.{needs}
-use mathlib.Core.Path.{_≡_, refl, sym, _∙_, subst}
-use mathlib.Core.Bool.{true}
-use mathlib.Core.List.{List}
-use Prim.Native.Nat.{ℕ, _≤_}
-use lib.ListN.{length}
-use native.Mathlib.Omega.{arith}
+use Rattle.field.proofs.Base.{needs, _≡_, refl, sym, _∙_, subst, true, List, ℕ, _≤_, length, arith}
 use Rattle.field.specs.Question.{allBelow}
 use Rattle.code.specs.declared.solver.Solutions.the-variants.{None, One, Several}
 use Rattle.code.specs.Near.{radius}

@@ -1,6 +1,5 @@
 -- `code::restorer::find_correction` meets its contract. Assumes nothing.
-use borrow.Author.Needs.{needs}
-use native.Mathlib.Nat.{le-refl}
+use Rattle.field.proofs.Base.{needs, le-refl}
 use Rattle.code.specs.inner.Correction.{placesOf}
 use Rattle.code.proofs.restoring.Trying.{searched-last, none-within}
 use Rattle.code.proofs.restorer.find_correction.Statement.{statement}

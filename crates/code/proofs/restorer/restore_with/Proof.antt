@@ -1,6 +1,5 @@
 -- `code::restorer::restore_with` meets its contract. Assumes nothing.
-use borrow.Author.Needs.{needs}
-use mathlib.Core.Path.{_≡_, refl, sym, _∙_}
+use Rattle.field.proofs.Base.{needs, _≡_, refl, sym, _∙_}
 use Rattle.field.specs.declared.Verdict.the-variants.{Passed}
 use Rattle.code.proofs.restoring.Repairing.{restores-refused}
 use Rattle.code.proofs.restorer.restore_with.Statement.{statement}

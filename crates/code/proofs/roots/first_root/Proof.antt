@@ -1,6 +1,5 @@
 -- `code::roots::first_root` meets its contract. Assumes nothing.
-use borrow.Author.Needs.{needs}
-use native.Mathlib.Omega.{arith}
+use Rattle.field.proofs.Base.{needs, arith}
 use Rattle.field.proofs.Bytes.{ratio-own}
 use Rattle.code.proofs.finding.Scanning.{ratio-scanned}
 use Rattle.code.proofs.roots.first_root.Statement.{statement}

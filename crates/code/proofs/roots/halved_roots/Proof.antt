@@ -1,5 +1,5 @@
 -- `code::roots::halved_roots` meets its contract. Assumes nothing.
-use borrow.Author.Needs.{needs}
+use Rattle.field.proofs.Base.{needs}
 use Rattle.field.proofs.Bytes.{xor-add, ratio-own}
 use Rattle.code.proofs.finding.Quadratic.{halved-roots}
 use Rattle.code.proofs.roots.halved_roots.Statement.{statement}

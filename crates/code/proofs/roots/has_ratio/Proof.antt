@@ -1,6 +1,5 @@
 -- `code::roots::has_ratio` meets its contract. Assumes nothing.
-use borrow.Author.Needs.{needs}
-use mathlib.Core.Bool.{false≢true}
+use Rattle.field.proofs.Base.{needs, false≢true}
 use Rattle.code.proofs.roots.has_ratio.Statement.{statement}
 use Rattle.code.proofs.roots.has_ratio.Tie as tie
 

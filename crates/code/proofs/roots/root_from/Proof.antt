@@ -1,9 +1,5 @@
 -- `code::roots::root_from` meets its contract. Assumes nothing.
-use borrow.Author.Needs.{needs}
-use mathlib.Core.Path.{_≡_, sym, _∙_}
-use mathlib.Core.Bool.{true}
-use Prim.Native.Nat.{ℕ, _-_, _≤_}
-use native.Mathlib.Omega.{arith}
+use Rattle.field.proofs.Base.{needs, _≡_, sym, _∙_, true, ℕ, _-_, _≤_, arith}
 use Rattle.field.specs.Question.{isWidth}
 use Rattle.field.proofs.Bytes.{xor-add}
 use Rattle.code.specs.inner.Scan.{Carried}

@@ -1,6 +1,5 @@
 -- `code::roots::scanned_roots` meets its contract. Assumes nothing.
-use borrow.Author.Needs.{needs}
-use native.Mathlib.Omega.{arith}
+use Rattle.field.proofs.Base.{needs, arith}
 use Rattle.field.proofs.Widths.{field-of}
 use Rattle.code.proofs.finding.Scanning.{carried-on}
 use Rattle.code.proofs.finding.Finding.{carried-start}

@@ -1,8 +1,5 @@
 -- `code::roots::two_roots` meets its contract. Assumes nothing.
-use borrow.Author.Needs.{needs}
-use mathlib.Core.Path.{_≡_, ap, _∙_, subst}
-use Prim.Native.Nat.{ℕ, _<_}
-use native.Mathlib.Omega.{arith}
+use Rattle.field.proofs.Base.{needs, _≡_, ap, _∙_, subst, ℕ, _<_, arith}
 use Rattle.field.specs.Field.{order}
 use Rattle.code.specs.Word.{items}
 use Rattle.code.specs.inner.Scan.{Factored}

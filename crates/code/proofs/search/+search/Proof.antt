@@ -1,16 +1,8 @@
 -- `code::search::search` meets its contract: where the trial itself fails, nothing is there with any of the further places passed. The
 -- measure is the number of extra places left. Assumes nothing.
-use borrow.Author.Needs.{needs}
+use Rattle.field.proofs.Base.{needs, _≡_, refl, sym, ap, _∙_, ⊎-elim, false, not, _∷_, ℕ, suc, _+_, _-_, _<_, zero-le, arith, not-true, length}
 use borrow.Fn.Kinds.{In}
 use borrow.Fn.PlainCycle.{Measures, is, falls, and}
-use mathlib.Core.Path.{_≡_, refl, sym, ap, _∙_}
-use mathlib.Core.Logic.{⊎-elim}
-use mathlib.Core.Bool.{false, not}
-use mathlib.Core.List.{_∷_}
-use Prim.Native.Nat.{ℕ, suc, _+_, _-_, _<_, zero-le}
-use native.Mathlib.Omega.{arith}
-use borrow.Author.Tests.{not-true}
-use lib.ListN.{length}
 use Rattle.code.specs.Erasure.{member}
 use Rattle.code.specs.inner.Correction.{Ready, placesOf, NoneFrom, Searched}
 use Rattle.code.proofs.Loops.{Sought, sought-start, sought-on}

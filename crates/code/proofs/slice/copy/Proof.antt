@@ -1,9 +1,5 @@
 -- `code::slice::copy` meets its contract. Assumes nothing.
-use borrow.Author.Needs.{needs}
-use mathlib.Core.Path.{_≡_, refl}
-use mathlib.Core.List.{_++_}
-use Prim.Native.Nat.{_-_}
-use lib.ListN.{length, take, drop, length-set}
+use Rattle.field.proofs.Base.{needs, _≡_, refl, _++_, _-_, length, take, drop, length-set}
 use Rattle.code.proofs.Loops.{copy-on, copy-end}
 use Rattle.code.proofs.slice.copy.Statement.{statement}
 use Rattle.code.proofs.slice.copy.Tie as tie

@@ -1,7 +1,5 @@
 -- `code::solver::add_product` meets its contract. Assumes nothing.
-use borrow.Author.Needs.{needs}
-use mathlib.Core.Path.{sym, ap, _∙_}
-use Prim.Native.Nat.{ℕ}
+use Rattle.field.proofs.Base.{needs, sym, ap, _∙_, ℕ}
 use Rattle.field.specs.Polynomial.{add}
 use Rattle.field.specs.Field.{product}
 use Rattle.field.proofs.Widths.{field-of}

@@ -1,9 +1,5 @@
 -- `code::solver::add_products` meets its contract. The loop fills the row. Assumes nothing.
-use borrow.Author.Needs.{needs}
-use native.Mathlib.Omega.{arith}
-use Prim.Native.Nat.{ℕ, _-_}
-use mathlib.Core.Path.{_≡_, sym, _∙_}
-use lib.ListN.{length, getD}
+use Rattle.field.proofs.Base.{needs, arith, ℕ, _-_, _≡_, sym, _∙_, length, getD}
 use Rattle.field.specs.Polynomial.{add}
 use Rattle.field.specs.Field.{product}
 use Rattle.field.specs.inner.Operand.{Operand}

@@ -1,9 +1,7 @@
 -- `code::solver::add_row` meets its contract. Assumes nothing.
-use borrow.Author.Needs.{needs}
+use Rattle.field.proofs.Base.{needs, _≡_, sym, ap, _∙_, ℕ}
 use borrow.Kind.Array.{eInt, good-length}
 use mir.Syntax.{w8}
-use mathlib.Core.Path.{_≡_, sym, ap, _∙_}
-use Prim.Native.Nat.{ℕ}
 use Rattle.field.proofs.Scaling.{multiple-row}
 use Rattle.code.specs.Word.{at}
 use Rattle.code.specs.inner.Matrix.{rowAdd}

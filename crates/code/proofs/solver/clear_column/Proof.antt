@@ -1,8 +1,6 @@
 -- `code::solver::clear_column` meets its contract. The loop clears row after row, and the row of the pivot is put in last. Assumes nothing.
-use borrow.Author.Needs.{needs}
+use Rattle.field.proofs.Base.{needs, arith, _-_}
 use Rattle.field.proofs.Scaling.{multiples-own}
-use native.Mathlib.Omega.{arith}
-use Prim.Native.Nat.{_-_}
 use Rattle.code.specs.inner.Matrix.{rows}
 use Rattle.code.proofs.Loops.{filled-start}
 use Rattle.code.proofs.solving.SolverSteps.{Clearing, clearing-on, clearing-end}

@@ -1,7 +1,5 @@
 -- `code::solver::find_pivot` meets its contract. The rows that the loop has passed have 0 in the column. Assumes nothing.
-use borrow.Author.Needs.{needs}
-use native.Mathlib.Omega.{arith}
-use Prim.Native.Nat.{_-_}
+use Rattle.field.proofs.Base.{needs, arith, _-_}
 use Rattle.code.specs.inner.Matrix.{rows}
 use Rattle.code.proofs.solving.SolverSteps.{Seeking, seeking-start, seeking-on, seeking-found, seeking-end}
 use Rattle.code.proofs.solver.find_pivot.Statement.{statement}

@@ -1,9 +1,5 @@
 -- `code::solver::first_column` meets its contract. The loop fills the list. Assumes nothing.
-use borrow.Author.Needs.{needs}
-use native.Mathlib.Omega.{arith}
-use Prim.Native.Nat.{ℕ, _-_}
-use mathlib.Core.Path.{_≡_, refl}
-use lib.ListN.{length}
+use Rattle.field.proofs.Base.{needs, arith, ℕ, _-_, _≡_, refl, length}
 use Rattle.code.specs.inner.Matrix.{unknowns, entry, rows}
 use Rattle.code.proofs.solving.RowLaws.{length-column, getD-column}
 use Rattle.code.proofs.Loops.{Filled, filled-start, filled-on, filled-end}

@@ -1,8 +1,7 @@
 -- `code::solver::scale_row` meets its contract. Assumes nothing.
-use borrow.Author.Needs.{needs}
+use Rattle.field.proofs.Base.{needs, _∙_}
 use borrow.Kind.Array.{eInt, good-length}
 use mir.Syntax.{w8}
-use mathlib.Core.Path.{_∙_}
 use Rattle.field.proofs.Widths.{field-of}
 use Rattle.code.proofs.solving.RowLaws.{zero-rowAdd}
 use Rattle.code.proofs.solver.scale_row.Statement.{statement}

@@ -1,9 +1,6 @@
 -- `code::solver::solve` meets its contract. Each turn of the loop is a step of the elimination, and each way out is an answer.
 -- Assumes nothing.
-use borrow.Author.Needs.{needs}
-use native.Mathlib.Omega.{arith}
-use mathlib.Core.Logic.{⊎-elim}
-use Prim.Native.Nat.{_-_}
+use Rattle.field.proofs.Base.{needs, arith, ⊎-elim, _-_}
 use Rattle.code.proofs.solving.SolverSteps.{Solving, solving-start, solving-on, solving-past, solved-one, solved-none, solved-several}
 use Rattle.code.proofs.solver.solve.Statement.{statement}
 use Rattle.code.proofs.solver.solve.Tie as tie

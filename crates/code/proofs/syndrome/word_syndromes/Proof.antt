@@ -1,8 +1,5 @@
 -- `code::syndrome::word_syndromes` meets its contract. Assumes nothing.
-use borrow.Author.Needs.{needs}
-use mathlib.Core.Path.{_≡_, _∙_}
-use Prim.Native.Nat.{ℕ, _<_}
-use lib.Dec.{lit<}
+use Rattle.field.proofs.Base.{needs, _≡_, _∙_, ℕ, _<_, lit<}
 use Rattle.field.specs.Polynomial.{add}
 use Rattle.field.proofs.Bytes.{xor-add}
 use Rattle.field.proofs.Evaluation.{five-of, sums-own}

@@ -1,7 +1,5 @@
 -- `code::trial::column_times` meets its contract. Assumes nothing.
-use borrow.Author.Needs.{needs}
-use mathlib.Core.Path.{_≡_, sym, ap, _∙_, subst}
-use Prim.Native.Nat.{ℕ, _<_}
+use Rattle.field.proofs.Base.{needs, _≡_, sym, ap, _∙_, subst, ℕ, _<_}
 use Rattle.field.specs.Field.{order, product}
 use Rattle.code.specs.Word.{five}
 use Rattle.code.specs.inner.Place.{column}

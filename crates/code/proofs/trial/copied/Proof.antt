@@ -1,8 +1,5 @@
 -- `code::trial::copied` meets its contract. Assumes nothing.
-use borrow.Author.Needs.{needs}
-use mathlib.Core.Path.{refl, sym}
-use lib.ListN.{length, replicate}
-use lib.Seq.{length-take-le}
+use Rattle.field.proofs.Base.{needs, refl, sym, length, replicate, length-take-le}
 use Rattle.code.proofs.Loops.{front-copied}
 use Rattle.code.proofs.trial.copied.Statement.{statement}
 use Rattle.code.proofs.trial.copied.Tie as tie

@@ -1,5 +1,5 @@
 -- `code::trial::entries_times` meets its contract. Assumes nothing.
-use borrow.Author.Needs.{needs}
+use Rattle.field.proofs.Base.{needs}
 use Rattle.field.specs.Field.{product}
 use Rattle.field.proofs.Evaluation.{five-of}
 use Rattle.code.specs.inner.Place.{column}

@@ -1,10 +1,5 @@
 -- `code::trial::erasure_trial` meets its contract. Assumes nothing.
-use borrow.Author.Needs.{needs}
-use mathlib.Core.Path.{_≡_, refl, sym, ap, _∙_, subst}
-use mathlib.Core.Bool.{true}
-use mathlib.Core.List.{List}
-use Prim.Native.Nat.{ℕ}
-use lib.ListN.{length}
+use Rattle.field.proofs.Base.{needs, _≡_, refl, sym, ap, _∙_, subst, true, List, ℕ, length}
 use Rattle.field.specs.Question.{allBelow}
 use Rattle.code.specs.inner.Correction.{Lent}
 use Rattle.code.proofs.restoring.Repairing.{plain-sums}

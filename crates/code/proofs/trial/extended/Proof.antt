@@ -1,6 +1,5 @@
 -- `code::trial::extended` meets its contract. Assumes nothing.
-use borrow.Author.Needs.{needs}
-use mathlib.Core.Path.{refl}
+use Rattle.field.proofs.Base.{needs, refl}
 use Rattle.code.proofs.restoring.Trying.{extended-symbol, extended-ready}
 use Rattle.code.proofs.trial.extended.Statement.{statement}
 use Rattle.code.proofs.trial.extended.Tie as tie

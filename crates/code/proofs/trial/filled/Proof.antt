@@ -1,9 +1,5 @@
 -- `code::trial::filled` meets its contract. Assumes nothing.
-use borrow.Author.Needs.{needs}
-use mathlib.Core.Path.{_≡_, refl}
-use Prim.Native.Nat.{_≤_}
-use native.Mathlib.Omega.{arith}
-use lib.ListN.{length, take, length-set}
+use Rattle.field.proofs.Base.{needs, _≡_, refl, _≤_, arith, length, take, length-set}
 use Rattle.code.specs.inner.Place.{numbers}
 use Rattle.code.specs.inner.Matrix.{unknowns}
 use Rattle.code.proofs.Places.{numbers-length}

@@ -1,8 +1,5 @@
 -- `code::trial::is_clean` meets its contract. Assumes nothing.
-use borrow.Author.Needs.{needs}
-use mathlib.Core.Path.{sym, _∙_}
-use mathlib.Core.Bool.{false≢true}
-use native.Mathlib.Omega.{arith}
+use Rattle.field.proofs.Base.{needs, sym, _∙_, false≢true, arith}
 use Rattle.code.proofs.trial.is_clean.Statement.{statement}
 use Rattle.code.proofs.trial.is_clean.Tie as tie
 

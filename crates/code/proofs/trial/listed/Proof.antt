@@ -1,10 +1,5 @@
 -- `code::trial::listed` meets its contract. Assumes nothing.
-use borrow.Author.Needs.{needs}
-use mathlib.Core.Path.{_≡_}
-use Prim.Native.Nat.{_-_, _≤_}
-use native.Mathlib.Omega.{arith}
-use lib.ListN.{length, take, drop}
-use lib.Seq.{length-take-le}
+use Rattle.field.proofs.Base.{needs, _≡_, _-_, _≤_, arith, length, take, drop, length-take-le}
 use Rattle.code.specs.Erasure.{member}
 use Rattle.code.specs.inner.Place.{numbers}
 use Rattle.code.specs.inner.Matrix.{unknowns}

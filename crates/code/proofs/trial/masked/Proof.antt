@@ -1,9 +1,5 @@
 -- `code::trial::masked` meets its contract. Assumes nothing.
-use borrow.Author.Needs.{needs}
-use mathlib.Core.Path.{_≡_, ap, _∙_}
-use mathlib.Core.List.{List}
-use Prim.Native.Nat.{ℕ, _<_}
-use lib.Dec.{lit<}
+use Rattle.field.proofs.Base.{needs, _≡_, ap, _∙_, List, ℕ, _<_, lit<}
 use Rattle.field.specs.Polynomial.{add}
 use Rattle.field.specs.Field.{product}
 use Rattle.field.proofs.Bytes.{xor-add}

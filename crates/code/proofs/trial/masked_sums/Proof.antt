@@ -1,11 +1,5 @@
 -- `code::trial::masked_sums` meets its contract. Assumes nothing.
-use borrow.Author.Needs.{needs}
-use mathlib.Core.Path.{_≡_, sym, _∙_}
-use mathlib.Core.List.{List, [], _∷_}
-use Prim.Native.Nat.{ℕ}
-use native.Mathlib.Omega.{arith}
-use lib.ListN.{length, take}
-use lib.Seq.{length-take-le}
+use Rattle.field.proofs.Base.{needs, _≡_, sym, _∙_, List, [], _∷_, ℕ, arith, length, take, length-take-le}
 use Rattle.code.specs.inner.Place.{numbers}
 use Rattle.code.proofs.Places.{numbers-length}
 use Rattle.code.proofs.restoring.Repairing.{filled-word, filled-size, masked-sums, zero-values}

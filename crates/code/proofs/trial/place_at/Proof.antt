@@ -1,5 +1,5 @@
 -- `code::trial::place_at` meets its contract. Assumes nothing.
-use borrow.Author.Needs.{needs}
+use Rattle.field.proofs.Base.{needs}
 use Rattle.code.proofs.Places.{numbers-at}
 use Rattle.code.proofs.trial.place_at.Statement.{statement}
 use Rattle.code.proofs.trial.place_at.Tie as tie

@@ -1,7 +1,5 @@
 -- `code::trial::powers_times` meets its contract. Assumes nothing.
-use borrow.Author.Needs.{needs}
-use mathlib.Core.Path.{ap, _∙_}
-use native.Mathlib.Omega.{arith}
+use Rattle.field.proofs.Base.{needs, ap, _∙_, arith}
 use Rattle.field.specs.declared.Exponent.{Exponent}
 use Rattle.field.proofs.Bytes.{ratio-own}
 use Rattle.code.proofs.finding.Times.{powers-times}

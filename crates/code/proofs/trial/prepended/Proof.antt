@@ -1,10 +1,5 @@
 -- `code::trial::prepended` meets its contract. Assumes nothing.
-use borrow.Author.Needs.{needs}
-use mathlib.Core.Path.{_≡_, refl, sym, ap, _∙_}
-use mathlib.Core.List.{_∷_}
-use Prim.Native.Nat.{ℕ, _+_, _-_, _≤_}
-use native.Mathlib.Omega.{arith}
-use lib.ListN.{length, take, getD, length-set}
+use Rattle.field.proofs.Base.{needs, _≡_, refl, sym, ap, _∙_, _∷_, ℕ, _+_, _-_, _≤_, arith, length, take, getD, length-set}
 use Rattle.code.specs.inner.Place.{numbers}
 use Rattle.code.specs.inner.Matrix.{unknowns}
 use Rattle.code.proofs.Places.{prepended-on}

@@ -1,11 +1,5 @@
 -- `code::trial::row_of_places` meets its contract. Assumes nothing.
-use borrow.Author.Needs.{needs}
-use mathlib.Core.Path.{_≡_, refl, sym, ap, _∙_}
-use Prim.Native.Nat.{ℕ, _-_, _≤_}
-use native.Mathlib.Nat.{le-refl}
-use native.Mathlib.Omega.{arith}
-use lib.ListN.{length, take, length-set}
-use lib.Seq.{take-all}
+use Rattle.field.proofs.Base.{needs, _≡_, refl, sym, ap, _∙_, ℕ, _-_, _≤_, le-refl, arith, length, take, length-set, take-all}
 use Rattle.code.specs.inner.Place.{numbers}
 use Rattle.code.specs.inner.Matrix.{unknowns}
 use Rattle.code.proofs.Places.{made-on}

@@ -1,7 +1,5 @@
 -- `csv::columns::put_clock` meets its contract: hours and minutes stand one behind the other. Assumes nothing.
-use borrow.Author.Needs.{needs}
-use mathlib.Core.List.{append-assoc}
-use native.Mathlib.Omega.{arith}
+use Rattle.field.proofs.Base.{needs, append-assoc, arith}
 use Rattle.card.proofs.Writing.{writes-on}
 use Rattle.report.specs.Quarter.{clockText}
 use Rattle.csv.proofs.columns.put_clock.Statement.{statement}

@@ -1,6 +1,5 @@
 -- `csv::columns::put_column` meets its contract. Assumes nothing.
-use borrow.Author.Needs.{needs}
-use native.Mathlib.Omega.{arith}
+use Rattle.field.proofs.Base.{needs, arith}
 use Rattle.card.proofs.Writing.{writes-on}
 use Rattle.csv.proofs.columns.put_column.Statement.{statement}
 use Rattle.csv.proofs.columns.put_column.Tie as tie

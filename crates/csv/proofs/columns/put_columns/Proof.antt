@@ -1,9 +1,5 @@
 -- `csv::columns::put_columns` meets its contract. Before turn i the first i counts are written. Assumes nothing.
-use borrow.Author.Needs.{needs}
-use mathlib.Core.Path.{_≡_, refl}
-use Prim.Native.Nat.{_+_, _-_, _*_, _≤_}
-use native.Mathlib.Omega.{arith}
-use lib.ListN.{length, take}
+use Rattle.field.proofs.Base.{needs, _≡_, refl, _+_, _-_, _*_, _≤_, arith, length, take}
 use Rattle.card.specs.Placed.{Writes}
 use Rattle.sheet.specs.Sheet.{quarters}
 use Rattle.csv.specs.Text.{countColumns}

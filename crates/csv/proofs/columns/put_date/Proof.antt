@@ -1,7 +1,5 @@
 -- `csv::columns::put_date` meets its contract: year, month and day stand one behind the other. Assumes nothing.
-use borrow.Author.Needs.{needs}
-use mathlib.Core.List.{append-assoc}
-use native.Mathlib.Omega.{arith}
+use Rattle.field.proofs.Base.{needs, append-assoc, arith}
 use Rattle.card.proofs.Writing.{writes-on}
 use Rattle.report.specs.Table.{dateText}
 use Rattle.csv.proofs.Digits.{month-most, day-most}

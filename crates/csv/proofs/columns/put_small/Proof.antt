@@ -1,6 +1,5 @@
 -- `csv::columns::put_small` meets its contract: one, two or three digits. Assumes nothing.
-use borrow.Author.Needs.{needs}
-use native.Mathlib.Omega.{arith}
+use Rattle.field.proofs.Base.{needs, arith}
 use Rattle.csv.proofs.Overwriting.{digits-written, digits-room}
 use Rattle.csv.proofs.columns.put_small.Statement.{statement}
 use Rattle.csv.proofs.columns.put_small.Tie as tie

@@ -1,6 +1,5 @@
 -- `csv::columns::put_year` meets its contract. Assumes nothing.
-use borrow.Author.Needs.{needs}
-use native.Mathlib.Omega.{arith}
+use Rattle.field.proofs.Base.{needs, arith}
 use Rattle.card.proofs.Writing.{writes-on}
 use Rattle.csv.proofs.Digits.{year-digits}
 use Rattle.csv.proofs.columns.put_year.Statement.{statement}

@@ -1,9 +1,5 @@
 -- `csv::fields::all_digits` meets its contract. Before turn i all bytes were digits. Assumes nothing.
-use borrow.Author.Needs.{needs}
-use mathlib.Core.Path.{_≡_, refl}
-use Prim.Native.Nat.{_-_, _≤_}
-use native.Mathlib.Omega.{arith}
-use lib.ListN.{length, drop}
+use Rattle.field.proofs.Base.{needs, _≡_, refl, _-_, _≤_, arith, length, drop}
 use Rattle.csv.specs.Reading.{allDigits}
 use Rattle.csv.proofs.Values.{digits-stop, digits-on, digits-end}
 use Rattle.csv.proofs.fields.all_digits.Statement.{statement}

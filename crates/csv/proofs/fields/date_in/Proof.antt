@@ -1,8 +1,5 @@
 -- `csv::fields::date_in` meets its contract. Assumes nothing.
-use borrow.Author.Needs.{needs}
-use mathlib.Core.Path.{_∙_, ap, ap₂}
-use Prim.Native.Nat.{ℕ}
-use native.Mathlib.Omega.{arith}
+use Rattle.field.proofs.Base.{needs, _∙_, ap, ap₂, ℕ, arith}
 use Rattle.csv.specs.Reading.{yearIn, dateFrom}
 use Rattle.csv.proofs.Values.{date-shapeless, date-shaped, date-long}
 use Rattle.csv.proofs.fields.date_in.Statement.{statement}

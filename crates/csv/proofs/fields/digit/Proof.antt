@@ -1,7 +1,5 @@
 -- `csv::fields::digit` meets its contract. Assumes nothing.
-use borrow.Author.Needs.{needs}
-use mathlib.Core.Path.{refl}
-use native.Mathlib.Omega.{arith}
+use Rattle.field.proofs.Base.{needs, refl, arith}
 use Rattle.csv.proofs.Values.{digit-least, digit-most}
 use Rattle.csv.proofs.fields.digit.Statement.{statement}
 use Rattle.csv.proofs.fields.digit.Tie as tie

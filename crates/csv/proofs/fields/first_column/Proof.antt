@@ -1,9 +1,5 @@
 -- `csv::fields::first_column` meets its contract. Assumes nothing.
-use mathlib.Core.Path.{sym, ap, _∙_}
-use Prim.Native.Nat.{ℕ}
-use native.Mathlib.Omega.{arith}
-use lib.ListN.{take}
-use lib.Seq.{length-take-le}
+use Rattle.field.proofs.Base.{sym, ap, _∙_, ℕ, arith, take, length-take-le}
 use Rattle.csv.proofs.Cutting.{first-short, first-taken}
 use Rattle.csv.proofs.fields.first_column.Statement.{statement}
 use Rattle.csv.proofs.fields.first_column.Tie as tie

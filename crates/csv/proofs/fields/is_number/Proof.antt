@@ -1,5 +1,5 @@
 -- `csv::fields::is_number` meets its contract. Assumes nothing.
-use borrow.Author.Needs.{needs}
+use Rattle.field.proofs.Base.{needs}
 use Rattle.csv.proofs.Values.{number-empty, number-long, number-digits}
 use Rattle.csv.proofs.fields.is_number.Statement.{statement}
 use Rattle.csv.proofs.fields.is_number.Tie as tie

@@ -1,9 +1,5 @@
 -- `csv::fields::other_columns` meets its contract. Assumes nothing.
-use borrow.Author.Needs.{needs}
-use mathlib.Core.Path.{ap, _∙_}
-use Prim.Native.Nat.{ℕ, _+_}
-use native.Mathlib.Omega.{arith}
-use lib.ListN.{drop}
+use Rattle.field.proofs.Base.{needs, ap, _∙_, ℕ, _+_, arith, drop}
 use Rattle.csv.proofs.Cutting.{rest-all, first-short, others-dropped, others-none}
 use Rattle.csv.proofs.fields.other_columns.Statement.{statement}
 use Rattle.csv.proofs.fields.other_columns.Tie as tie

@@ -1,7 +1,5 @@
 -- `csv::fields::symbol_in` meets its contract. Assumes nothing.
-use borrow.Author.Needs.{needs}
-use borrow.Author.Tests.{not-false}
-use mathlib.Core.Path.{_∙_, sym}
+use Rattle.field.proofs.Base.{needs, not-false, _∙_, sym}
 use Rattle.csv.proofs.Values.{symbol-none, symbol-value, symbol-large}
 use Rattle.csv.proofs.fields.symbol_in.Statement.{statement}
 use Rattle.csv.proofs.fields.symbol_in.Tie as tie

@@ -1,8 +1,5 @@
 -- `csv::fields::trimmed` meets its contract. Assumes nothing.
-use borrow.Author.Needs.{needs}
-use mathlib.Core.Path.{sym}
-use native.Mathlib.Omega.{arith}
-use lib.Seq.{length-take-le}
+use Rattle.field.proofs.Base.{needs, sym, arith, length-take-le}
 use Rattle.csv.proofs.Cutting.{trimmed-none, trimmed-return, trimmed-plain}
 use Rattle.csv.proofs.fields.trimmed.Statement.{statement}
 use Rattle.csv.proofs.fields.trimmed.Tie as tie

@@ -1,6 +1,5 @@
 -- `csv::fields::two_at` meets its contract. Assumes nothing.
-use borrow.Author.Needs.{needs}
-use native.Mathlib.Omega.{arith}
+use Rattle.field.proofs.Base.{needs, arith}
 use Rattle.csv.proofs.Values.{DigitsAt, digits-both, two-first, two-second, two-both}
 use Rattle.csv.proofs.fields.two_at.Statement.{statement}
 use Rattle.csv.proofs.fields.two_at.Tie as tie

@@ -1,6 +1,5 @@
 -- `csv::fields::value_of` meets its contract: one, two or three digits. Assumes nothing.
-use borrow.Author.Needs.{needs}
-use native.Mathlib.Omega.{arith}
+use Rattle.field.proofs.Base.{needs, arith}
 use Rattle.csv.proofs.Values.{number-some, number-few, number-at, value-one, value-two, value-three}
 use Rattle.csv.proofs.fields.value_of.Statement.{statement}
 use Rattle.csv.proofs.fields.value_of.Tie as tie

@@ -1,5 +1,5 @@
 -- `csv::fields::year_in` meets its contract. Assumes nothing.
-use borrow.Author.Needs.{needs}
+use Rattle.field.proofs.Base.{needs}
 use Rattle.csv.proofs.Values.{year-both, year-none}
 use Rattle.csv.proofs.fields.year_in.Statement.{statement}
 use Rattle.csv.proofs.fields.year_in.Tie as tie

@@ -1,5 +1,5 @@
 -- `csv::headers::header_in` meets its contract. Assumes nothing.
-use borrow.Author.Needs.{needs}
+use Rattle.field.proofs.Base.{needs}
 use Rattle.csv.proofs.ReadLines.{header-full, header-short, header-other}
 use Rattle.csv.proofs.headers.header_in.Statement.{statement}
 use Rattle.csv.proofs.headers.header_in.Tie as tie

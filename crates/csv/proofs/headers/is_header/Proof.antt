@@ -1,7 +1,5 @@
 -- `csv::headers::is_header` meets its contract. Assumes nothing.
-use borrow.Author.Needs.{needs}
-use mathlib.Core.Path.{sym}
-use lib.Seq.{length-take-le}
+use Rattle.field.proofs.Base.{needs, sym, length-take-le}
 use Rattle.card.proofs.Writing.{writes-fits}
 use Rattle.code.proofs.Same.{compared}
 use Rattle.report.proofs.Quarters.{text-taken}

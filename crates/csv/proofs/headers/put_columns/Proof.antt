@@ -1,6 +1,5 @@
 -- `csv::headers::put_columns` meets its contract: the times stand behind the names. Assumes nothing.
-use borrow.Author.Needs.{needs}
-use native.Mathlib.Omega.{arith}
+use Rattle.field.proofs.Base.{needs, arith}
 use Rattle.card.proofs.Writing.{writes-on}
 use Rattle.csv.specs.Text.{headerWith}
 use Rattle.csv.proofs.headers.put_columns.Statement.{statement}

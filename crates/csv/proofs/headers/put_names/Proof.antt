@@ -1,6 +1,5 @@
 -- `csv::headers::put_names` meets its contract. Assumes nothing.
-use borrow.Author.Needs.{needs}
-use native.Mathlib.Omega.{arith}
+use Rattle.field.proofs.Base.{needs, arith}
 use Rattle.csv.proofs.headers.put_names.Statement.{statement}
 use Rattle.csv.proofs.headers.put_names.Tie as tie
 

@@ -1,6 +1,5 @@
 -- `csv::lines::list_record` meets its contract. Assumes nothing.
-use borrow.Author.Needs.{needs}
-use native.Mathlib.Omega.{arith}
+use Rattle.field.proofs.Base.{needs, arith}
 use Rattle.report.specs.Day.{dayOf}
 use Rattle.report.proofs.Days.{told-sheet, told-refused, is-sheet}
 use Rattle.csv.proofs.SheetLines.{lists-sheet, lists-other}

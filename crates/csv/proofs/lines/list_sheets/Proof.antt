@@ -1,10 +1,6 @@
 -- `csv::lines::list_sheets` meets its contract. Before turn i the lines of the first i slots are written, and these are counted. Assumes
 -- nothing.
-use borrow.Author.Needs.{needs}
-use mathlib.Core.Path.{_≡_, _∙_}
-use Prim.Native.Nat.{_-_, _*_, _^_, _≤_}
-use native.Mathlib.Omega.{arith}
-use lib.ListN.{length}
+use Rattle.field.proofs.Base.{needs, _≡_, _∙_, _-_, _*_, _^_, _≤_, arith, length}
 use Rattle.card.specs.Slots.{recordCount}
 use Rattle.csv.specs.Batch.{ListsSheets, longestSheet}
 use Rattle.csv.proofs.SheetLines.{toldFirst, lists-none, lists-more, lists-end, told-counts, counts-within}

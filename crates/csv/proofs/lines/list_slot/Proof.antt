@@ -1,6 +1,5 @@
 -- `csv::lines::list_slot` meets its contract. Assumes nothing.
-use borrow.Author.Needs.{needs}
-use native.Mathlib.Omega.{arith}
+use Rattle.field.proofs.Base.{needs, arith}
 use Rattle.csv.proofs.SheetLines.{lists-blank, lists-record}
 use Rattle.csv.proofs.lines.list_slot.Statement.{statement}
 use Rattle.csv.proofs.lines.list_slot.Tie as tie

@@ -1,6 +1,5 @@
 -- `csv::lines::put_counts` meets its contract: words and numbers stand one behind the other. Assumes nothing.
-use borrow.Author.Needs.{needs}
-use mathlib.Core.List.{append-assoc}
+use Rattle.field.proofs.Base.{needs, append-assoc}
 use Rattle.card.proofs.Writing.{writes-on}
 use Rattle.csv.proofs.lines.put_counts.Statement.{statement}
 use Rattle.csv.proofs.lines.put_counts.Tie as tie

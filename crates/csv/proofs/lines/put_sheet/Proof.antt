@@ -1,7 +1,5 @@
 -- `csv::lines::put_sheet` meets its contract: the columns stand one behind the other. Assumes nothing.
-use borrow.Author.Needs.{needs}
-use mathlib.Core.List.{append-assoc}
-use native.Mathlib.Omega.{arith}
+use Rattle.field.proofs.Base.{needs, append-assoc, arith}
 use Rattle.card.proofs.Writing.{writes-on}
 use Rattle.csv.specs.Text.{sheetColumns}
 use Rattle.csv.proofs.lines.put_sheet.Statement.{statement}

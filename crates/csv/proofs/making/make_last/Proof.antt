@@ -1,5 +1,5 @@
 -- `csv::making::make_last` meets its contract. Assumes nothing.
-use borrow.Author.Needs.{needs}
+use Rattle.field.proofs.Base.{needs}
 use Rattle.csv.proofs.TextParts.{last-none, last-taken}
 use Rattle.csv.proofs.making.make_last.Statement.{statement}
 use Rattle.csv.proofs.making.make_last.Tie as tie

@@ -1,12 +1,6 @@
 -- `csv::making::make_records` meets its contract. Before each turn the lines of the first bytes were taken, and none was refused. Assumes
 -- nothing.
-use borrow.Author.Needs.{needs}
-use borrow.Author.Tests.{not-true, not-false}
-use mathlib.Core.Path.{_≡_, refl, sym, _∙_}
-use mathlib.Core.Bool.{true, false}
-use Prim.Native.Nat.{_-_}
-use native.Mathlib.Omega.{arith}
-use lib.ListN.{length}
+use Rattle.field.proofs.Base.{needs, not-true, not-false, _≡_, refl, sym, _∙_, true, false, _-_, arith, length}
 use Rattle.csv.specs.Making.{isFine}
 use Rattle.csv.proofs.LineEnds.{line-last, line-none}
 use Rattle.csv.proofs.TextParts.{Making, making-start, making-long, making-stop, making-end, making-room, making-more}

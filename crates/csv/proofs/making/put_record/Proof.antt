@@ -1,6 +1,5 @@
 -- `csv::making::put_record` meets its contract. Assumes nothing.
-use borrow.Author.Needs.{needs}
-use mathlib.Core.Path.{_∙_}
+use Rattle.field.proofs.Base.{needs, _∙_}
 use Rattle.csv.proofs.SheetRecords.{made-sheet}
 use Rattle.csv.proofs.Taking.{written-as}
 use Rattle.csv.proofs.making.put_record.Statement.{statement}

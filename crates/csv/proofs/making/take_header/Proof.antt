@@ -1,6 +1,5 @@
 -- `csv::making::take_header` meets its contract. Assumes nothing.
-use borrow.Author.Needs.{needs}
-use mathlib.Core.Path.{_≡_, sym, ap, _∙_}
+use Rattle.field.proofs.Base.{needs, _≡_, sym, ap, _∙_}
 use Rattle.csv.specs.declared.Header.the-variants.{Full, Short, Other}
 use Rattle.csv.specs.Making.{headerRead}
 use Rattle.csv.proofs.making.take_header.Statement.{statement}

@@ -1,6 +1,5 @@
 -- `csv::making::take_sheet` meets its contract. Assumes nothing.
-use borrow.Author.Needs.{needs}
-use mathlib.Core.Path.{_≡_, sym}
+use Rattle.field.proofs.Base.{needs, _≡_, sym}
 use Rattle.csv.specs.declared.Answer.the-variants.{Sheet}
 use Rattle.csv.specs.Reading.{readLine}
 use Rattle.csv.proofs.LineSheets.{told-symbols}

@@ -1,5 +1,5 @@
 -- `csv::reader::read_changed` meets its contract. Assumes nothing.
-use borrow.Author.Needs.{needs}
+use Rattle.field.proofs.Base.{needs}
 use Rattle.csv.proofs.ReadLines.{changed-without, changed-none, changed-number}
 use Rattle.csv.proofs.reader.read_changed.Statement.{statement}
 use Rattle.csv.proofs.reader.read_changed.Tie as tie

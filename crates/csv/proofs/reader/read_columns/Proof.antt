@@ -1,5 +1,5 @@
 -- `csv::reader::read_columns` meets its contract. Assumes nothing.
-use borrow.Author.Needs.{needs}
+use Rattle.field.proofs.Base.{needs}
 use Rattle.csv.proofs.ReadLines.{slot-without, slot-wrong, slot-number}
 use Rattle.csv.proofs.reader.read_columns.Statement.{statement}
 use Rattle.csv.proofs.reader.read_columns.Tie as tie

@@ -1,10 +1,5 @@
 -- `csv::reader::read_count` meets its contract. Assumes nothing.
-use borrow.Author.Needs.{needs}
-use mathlib.Core.Path.{_∙_, ap}
-use mathlib.Core.List.{List}
-use Prim.Native.Nat.{ℕ}
-use native.Mathlib.Omega.{arith}
-use lib.ListN.{length}
+use Rattle.field.proofs.Base.{needs, _∙_, ap, List, ℕ, arith, length}
 use Rattle.csv.specs.declared.Fault.the-variants.{Count}
 use Rattle.csv.specs.Reading.{firstColumn, symbolIn}
 use Rattle.csv.proofs.Cutting.{rest-all, column-fits, next-behind, next-none}

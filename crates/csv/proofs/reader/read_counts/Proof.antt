@@ -1,10 +1,6 @@
 -- `csv::reader::read_counts` meets its contract. Before turn i the first i counts are read, and the next column begins at the place `at`.
 -- Assumes nothing.
-use borrow.Author.Needs.{needs}
-use mathlib.Core.Path.{_≡_, refl, _∙_}
-use Prim.Native.Nat.{_-_, _≤_}
-use native.Mathlib.Omega.{arith}
-use lib.ListN.{length, drop, length-set}
+use Rattle.field.proofs.Base.{needs, _≡_, refl, _∙_, _-_, _≤_, arith, length, drop, length-set}
 use Rattle.sheet.specs.Sheet.{quarters, sheetSize}
 use Rattle.csv.proofs.ReadLines.{Counted, counted-none, counted-on, counted-bad, counted-end, day-behind, day-long, behind-stays}
 use Rattle.csv.proofs.reader.read_counts.Statement.{statement}

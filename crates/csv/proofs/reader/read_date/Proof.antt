@@ -1,5 +1,5 @@
 -- `csv::reader::read_date` meets its contract. Assumes nothing.
-use borrow.Author.Needs.{needs}
+use Rattle.field.proofs.Base.{needs}
 use Rattle.csv.proofs.ReadLines.{date-exists, date-wrong}
 use Rattle.csv.proofs.reader.read_date.Statement.{statement}
 use Rattle.csv.proofs.reader.read_date.Tie as tie

@@ -1,5 +1,5 @@
 -- `csv::reader::read_line` meets its contract. Assumes nothing.
-use borrow.Author.Needs.{needs}
+use Rattle.field.proofs.Base.{needs}
 use Rattle.csv.proofs.ReadLines.{line-wrong, line-read}
 use Rattle.csv.proofs.reader.read_line.Statement.{statement}
 use Rattle.csv.proofs.reader.read_line.Tie as tie

@@ -1,5 +1,5 @@
 -- `csv::reader::read_pump` meets its contract. Assumes nothing.
-use borrow.Author.Needs.{needs}
+use Rattle.field.proofs.Base.{needs}
 use Rattle.csv.proofs.ReadLines.{pump-value, pump-wrong}
 use Rattle.csv.proofs.reader.read_pump.Statement.{statement}
 use Rattle.csv.proofs.reader.read_pump.Tie as tie

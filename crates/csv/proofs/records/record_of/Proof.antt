@@ -1,9 +1,5 @@
 -- `csv::records::record_of` meets its contract. Assumes nothing.
-use borrow.Author.Needs.{needs}
-use mathlib.Core.Path.{refl}
-use mathlib.Core.List.{[]}
-use native.Mathlib.Omega.{arith}
-use lib.ListN.{length-append}
+use Rattle.field.proofs.Base.{needs, refl, [], arith, length-append}
 use Rattle.csv.proofs.SheetRecords.{word-kept, record-made}
 use Rattle.csv.proofs.records.record_of.Statement.{statement}
 use Rattle.csv.proofs.records.record_of.Tie as tie

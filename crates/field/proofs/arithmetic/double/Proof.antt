@@ -1,5 +1,5 @@
 -- `field::arithmetic::double` meets its contract. Assumes nothing.
-use borrow.Author.Needs.{needs}
+use Rattle.field.proofs.Base.{needs}
 use Rattle.field.proofs.Steps.{double-low, double-high}
 use Rattle.field.specs.Polynomial.{add}
 use Rattle.field.proofs.arithmetic.double.Statement.{statement}

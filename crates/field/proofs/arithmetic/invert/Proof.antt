@@ -1,8 +1,5 @@
 -- `field::arithmetic::invert` meets its contract. Assumes nothing.
-use borrow.Author.Needs.{needs}
-use mathlib.Core.Path.{refl, sym, ap, _∙_}
-use Prim.Native.Nat.{ℕ, _-_, _%_}
-use native.Mathlib.Omega.{arith}
+use Rattle.field.proofs.Base.{needs, refl, sym, ap, _∙_, ℕ, _-_, _%_, arith}
 use Rattle.field.specs.Field.{order, power, inverse}
 use Rattle.field.specs.inner.Bytes.{Small}
 use Rattle.field.proofs.Bytes.{width-own, width-large, small-width, raised-at, inverted-at, operand-low, unit-own}

@@ -1,8 +1,5 @@
 -- `field::arithmetic::multiply7` meets its contract: the exponents of two symbols make that of their product. Assumes nothing.
-use borrow.Author.Needs.{needs}
-use mathlib.Core.Path.{sym, ap, _∙_}
-use Prim.Native.Nat.{ℕ, _%_}
-use native.Mathlib.Omega.{arith}
+use Rattle.field.proofs.Base.{needs, sym, ap, _∙_, ℕ, _%_, arith}
 use Rattle.field.specs.Field.{product}
 use Rattle.field.proofs.Ring.{product-zero-l, product-zero-r}
 use Rattle.field.proofs.Bytes.{unit-own}

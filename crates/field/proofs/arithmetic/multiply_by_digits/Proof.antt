@@ -1,10 +1,6 @@
 -- `field::arithmetic::multiply_by_digits` meets its contract: what is added so far and the product of the rest make the product. Assumes nothing.
-use borrow.Author.Needs.{needs}
-use mathlib.Core.Path.{_≡_, sym, ap, _∙_, subst}
-use mathlib.Core.Logic.{⊎-elim}
-use Prim.Native.Nat.{ℕ, _/_, _%_, _<_}
+use Rattle.field.proofs.Base.{needs, _≡_, sym, ap, _∙_, subst, ⊎-elim, ℕ, _/_, _%_, _<_, arith}
 use native.Mathlib.Nat.{mod-lt}
-use native.Mathlib.Omega.{arith}
 use lib.Pow.{pow-pos}
 use Rattle.field.specs.Polynomial.{add}
 use Rattle.field.specs.Field.{order, double, product}

@@ -1,7 +1,7 @@
 -- `field::arithmetic::order_of` meets its contract. Assumes nothing.
 use Rattle.field.proofs.Ask.{order-none}
 use Rattle.field.specs.inner.Operand.{orderOf}
-use mathlib.Core.Path.{sym, ap}
+use Rattle.field.proofs.Base.{sym, ap}
 use Rattle.field.proofs.arithmetic.order_of.Statement.{statement}
 use Rattle.field.proofs.arithmetic.order_of.Tie as tie
 

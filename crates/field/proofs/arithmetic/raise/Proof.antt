@@ -1,8 +1,5 @@
 -- `field::arithmetic::raise` meets its contract. Assumes nothing.
-use borrow.Author.Needs.{needs}
-use native.Mathlib.Omega.{arith}
-use mathlib.Core.Path.{sym, ap, _∙_, subst}
-use Prim.Native.Nat.{ℕ, _%_}
+use Rattle.field.proofs.Base.{needs, arith, sym, ap, _∙_, subst, ℕ, _%_}
 use Rattle.field.specs.Field.{power}
 use Rattle.field.specs.inner.Operand.{Operand}
 use Rattle.field.specs.inner.Bytes.{Small}

@@ -1,10 +1,6 @@
 -- `field::arithmetic::raise7` meets its contract: an exponent of α counts modulo 127. Assumes nothing.
-use borrow.Author.Needs.{needs}
-use mathlib.Core.Path.{sym, ap, _∙_}
-use Prim.Native.Nat.{ℕ, _%_, _≤_}
-use native.Mathlib.Omega.{arith}
+use Rattle.field.proofs.Base.{needs, sym, ap, _∙_, ℕ, _%_, _≤_, arith, lit<}
 use native.Mathlib.Nat.{mul-le-mul, lt-of-le-of-lt}
-use lib.Dec.{lit<}
 use Rattle.field.specs.Field.{power}
 use Rattle.field.proofs.Powers.{power-zero}
 use Rattle.field.proofs.Bytes.{unit-own}

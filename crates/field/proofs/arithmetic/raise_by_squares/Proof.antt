@@ -1,9 +1,5 @@
 -- `field::arithmetic::raise_by_squares` meets its contract: the product so far, times the power of the rest, is the power. Assumes nothing.
-use borrow.Author.Needs.{needs}
-use mathlib.Core.Path.{_≡_, ap, _∙_}
-use mathlib.Core.Logic.{⊎-elim}
-use Prim.Native.Nat.{ℕ, _/_}
-use native.Mathlib.Omega.{arith}
+use Rattle.field.proofs.Base.{needs, _≡_, ap, _∙_, ⊎-elim, ℕ, _/_, arith}
 use Rattle.field.specs.Field.{product, power}
 use Rattle.field.specs.inner.Operand.{Operand}
 use Rattle.field.proofs.Widths.{field-of}

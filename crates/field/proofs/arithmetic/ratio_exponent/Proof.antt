@@ -1,6 +1,5 @@
 -- `field::arithmetic::ratio_exponent` meets its contract. Assumes nothing.
-use borrow.Author.Needs.{needs}
-use native.Mathlib.Omega.{arith}
+use Rattle.field.proofs.Base.{needs, arith}
 use Rattle.field.proofs.Widths.{fieldAt, Width.seven}
 use Rattle.field.proofs.Steps.{ratio-exponents}
 use Rattle.field.proofs.arithmetic.ratio_exponent.Statement.{statement}

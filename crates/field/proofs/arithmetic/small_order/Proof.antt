@@ -1,5 +1,5 @@
 -- `field::arithmetic::small_order` meets its contract. Assumes nothing.
-use mathlib.Core.Path.{sym, ap}
+use Rattle.field.proofs.Base.{sym, ap}
 use lib.Dec.{lit≤}
 use Rattle.field.specs.Field.{order}
 use Rattle.field.proofs.Bytes.{small-five}

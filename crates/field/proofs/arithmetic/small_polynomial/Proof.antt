@@ -1,5 +1,5 @@
 -- `field::arithmetic::small_polynomial` meets its contract. Assumes nothing.
-use mathlib.Core.Path.{sym, ap}
+use Rattle.field.proofs.Base.{sym, ap}
 use Rattle.field.specs.Field.{polynomial}
 use Rattle.field.proofs.Bytes.{small-five}
 use Rattle.field.proofs.arithmetic.small_polynomial.Statement.{statement}

@@ -1,6 +1,5 @@
 -- `field::folds::by_folds` meets its contract. Assumes nothing.
-use borrow.Author.Needs.{needs}
-use Prim.Native.Nat.{_%_}
+use Rattle.field.proofs.Base.{needs, _%_}
 use Rattle.field.specs.Sum.{weighted, at}
 use Rattle.field.specs.inner.Folds.{Seventh, Eighth}
 use Rattle.field.proofs.Evaluation.{five-of}

@@ -1,10 +1,6 @@
 -- `field::folds::by_sevenths` meets its contract. The invariant: for each value that takes sums to sums, and each d at which the relation holds,
 -- the weighted sum over the first k numbers is that over the sixteen at the start. Assumes nothing.
-use borrow.Author.Needs.{needs}
-use mathlib.Core.Path.{_≡_, refl, sym, ap, _∙_}
-use Prim.Native.Nat.{ℕ, suc, _-_, _≤_}
-use native.Mathlib.Omega.{arith}
-use lib.ListN.{length}
+use Rattle.field.proofs.Base.{needs, _≡_, refl, sym, ap, _∙_, ℕ, suc, _-_, _≤_, arith, length}
 use Rattle.field.specs.Polynomial.{add}
 use Rattle.field.specs.inner.Folds.{Additive, Seventh, valueTotal}
 use Rattle.field.proofs.Relations.{fold-seventh, keep-seven}

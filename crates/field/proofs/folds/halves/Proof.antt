@@ -1,9 +1,5 @@
 -- `field::folds::halves` meets its contract: the first i numbers are cut. Assumes nothing.
-use borrow.Author.Needs.{needs}
-use mathlib.Core.Path.{_≡_}
-use Prim.Native.Nat.{ℕ, _+_, _-_, _*_, _/_, _%_, _≤_, _<_}
-use native.Mathlib.Omega.{arith}
-use lib.ListN.{length}
+use Rattle.field.proofs.Base.{needs, _≡_, ℕ, _+_, _-_, _*_, _/_, _%_, _≤_, _<_, arith, length}
 use Rattle.field.specs.Sum.{at}
 use Rattle.field.proofs.Filling.{cut-more}
 use Rattle.field.proofs.Values.{total-halves}

@@ -1,5 +1,5 @@
 -- `field::folds::pack` meets its contract. Assumes nothing.
-use borrow.Author.Needs.{needs}
+use Rattle.field.proofs.Base.{needs}
 use Rattle.field.specs.inner.Lanes.{lanes}
 use Rattle.field.proofs.folds.pack.Statement.{statement}
 use Rattle.field.proofs.folds.pack.Tie as tie

@@ -1,5 +1,5 @@
 -- `field::folds::sevenths` meets its contract. Assumes nothing.
-use borrow.Author.Needs.{needs}
+use Rattle.field.proofs.Base.{needs}
 use Rattle.field.specs.inner.Folds.{Seventh}
 use Rattle.field.proofs.Values.{chain}
 use Rattle.field.proofs.folds.sevenths.Statement.{statement}

@@ -1,5 +1,5 @@
 -- `field::folds::sum1` meets its contract. Assumes nothing.
-use borrow.Author.Needs.{needs}
+use Rattle.field.proofs.Base.{needs}
 use Rattle.field.specs.Polynomial.{add}
 use Rattle.field.proofs.Folding.{folded}
 use Rattle.field.proofs.folds.sum1.Statement.{statement}

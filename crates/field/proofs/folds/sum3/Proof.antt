@@ -1,5 +1,5 @@
 -- `field::folds::sum3` meets its contract. Assumes nothing.
-use borrow.Author.Needs.{needs}
+use Rattle.field.proofs.Base.{needs}
 use Rattle.field.specs.Polynomial.{add}
 use Rattle.field.specs.Field.{α}
 use Rattle.field.proofs.Lanewise.{F}

@@ -1,10 +1,5 @@
 -- `field::folds::words` meets its contract: the first i numbers hold their symbols, and so does the last. Assumes nothing.
-use borrow.Author.Needs.{needs}
-use mathlib.Core.Path.{_≡_, sym, subst}
-use Prim.Native.Nat.{ℕ, _-_, _*_, _≤_, _<_}
-use native.Mathlib.Omega.{arith}
-use lib.ListN.{length}
-use lib.Seq.{getD-set-other}
+use Rattle.field.proofs.Base.{needs, _≡_, sym, subst, ℕ, _-_, _*_, _≤_, _<_, arith, length, getD-set-other}
 use Rattle.field.specs.Sum.{at}
 use Rattle.field.specs.inner.Lanes.{Block}
 use Rattle.field.proofs.Filling.{set-more, last-number, all-sixteen}

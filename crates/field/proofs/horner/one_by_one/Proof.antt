@@ -1,9 +1,5 @@
 -- `field::horner::one_by_one` meets its contract: the sums over the symbols from i on, by Horner's rule. Assumes nothing.
-use borrow.Author.Needs.{needs}
-use mathlib.Core.Path.{_≡_}
-use Prim.Native.Nat.{_≤_}
-use native.Mathlib.Omega.{arith}
-use lib.ListN.{length, drop}
+use Rattle.field.proofs.Base.{needs, _≡_, _≤_, arith, length, drop}
 use Rattle.field.specs.Sum.{five}
 use Rattle.field.proofs.Evaluation.{evaluate, pass-start, pass-small, pass-on, pass-end}
 use Rattle.field.proofs.horner.one_by_one.Statement.{statement}

@@ -1,8 +1,5 @@
 -- `field::horner::step` meets its contract. Assumes nothing.
-use borrow.Author.Needs.{needs}
-use mathlib.Core.Path.{ap₂, _∙_}
-use Prim.Native.Nat.{ℕ}
-use lib.Dec.{lit<}
+use Rattle.field.proofs.Base.{needs, ap₂, _∙_, ℕ, lit<}
 use Rattle.field.specs.Polynomial.{add}
 use Rattle.field.specs.Field.{product, power, α}
 use Rattle.field.proofs.Bytes.{xor-add, shifted-symbol}

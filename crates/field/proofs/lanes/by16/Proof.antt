@@ -1,5 +1,5 @@
 -- `field::lanes::by16` meets its contract. Assumes nothing.
-use borrow.Author.Needs.{needs}
+use Rattle.field.proofs.Base.{needs}
 use Rattle.field.specs.Polynomial.{add}
 use Rattle.field.proofs.Folding.{times-sum, power-16}
 use Rattle.field.proofs.lanes.by16.Statement.{statement}

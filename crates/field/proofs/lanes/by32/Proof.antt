@@ -1,5 +1,5 @@
 -- `field::lanes::by32` meets its contract. Assumes nothing.
-use borrow.Author.Needs.{needs}
+use Rattle.field.proofs.Base.{needs}
 use Rattle.field.specs.Polynomial.{add}
 use Rattle.field.proofs.Folding.{times-sum, power-32}
 use Rattle.field.proofs.lanes.by32.Statement.{statement}

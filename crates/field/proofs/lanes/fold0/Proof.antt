@@ -1,5 +1,5 @@
 -- `field::lanes::fold0` meets its contract. Assumes nothing.
-use Prim.Native.Nat.{ℕ, _/_}
+use Rattle.field.proofs.Base.{ℕ, _/_}
 use Rattle.field.specs.Polynomial.{add}
 use Rattle.field.proofs.Folding.{folded, times-none}
 use Rattle.field.proofs.lanes.fold0.Statement.{statement}

@@ -1,6 +1,5 @@
 -- `field::lanes::shift` meets its contract. Assumes nothing.
-use borrow.Author.Needs.{needs}
-use native.Mathlib.Omega.{arith}
+use Rattle.field.proofs.Base.{needs, arith}
 use lib.Pow.{shr-le}
 use Rattle.field.specs.Polynomial.{add}
 use Rattle.field.proofs.Lanewise.{shift-times}

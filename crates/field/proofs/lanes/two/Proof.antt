@@ -1,6 +1,5 @@
 -- `field::lanes::two` meets its contract. Assumes nothing.
-use borrow.Author.Needs.{needs}
-use Prim.Native.Nat.{_+_}
+use Rattle.field.proofs.Base.{needs, _+_}
 use Rattle.field.proofs.Blocks.{block-one, block-join}
 use Rattle.field.proofs.lanes.two.Statement.{statement}
 use Rattle.field.proofs.lanes.two.Tie as tie

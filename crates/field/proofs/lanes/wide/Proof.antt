@@ -1,7 +1,5 @@
 -- `field::lanes::wide` meets its contract. Assumes nothing.
-use borrow.Author.Needs.{needs}
-use mathlib.Core.Path.{refl}
-use native.Mathlib.Omega.{arith}
+use Rattle.field.proofs.Base.{needs, refl, arith}
 use Rattle.field.proofs.lanes.wide.Statement.{statement}
 use Rattle.field.proofs.lanes.wide.Tie as tie
 

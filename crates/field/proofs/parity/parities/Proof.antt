@@ -1,6 +1,5 @@
 -- `field::parity::parities` meets its contract. Assumes nothing.
-use borrow.Author.Needs.{needs}
-use mathlib.Core.Path.{_∙_}
+use Rattle.field.proofs.Base.{needs, _∙_}
 use Rattle.field.proofs.Evaluation.{sums-seven}
 use Rattle.field.proofs.parity.parities.Statement.{statement}
 use Rattle.field.proofs.parity.parities.Tie as tie

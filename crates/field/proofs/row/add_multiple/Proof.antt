@@ -1,7 +1,5 @@
 -- `field::row::add_multiple` meets its contract. Assumes nothing.
-use borrow.Author.Needs.{needs}
-use mathlib.Core.Path.{ap, ap₂, _∙_}
-use Prim.Native.Nat.{ℕ}
+use Rattle.field.proofs.Base.{needs, ap, ap₂, _∙_, ℕ}
 use Rattle.field.specs.Polynomial.{add}
 use Rattle.field.specs.Sum.{at}
 use Rattle.field.specs.inner.Lanes.{lane}

@@ -1,8 +1,6 @@
 -- `field::row::multiples` meets its contract. Assumes nothing.
-use borrow.Author.Needs.{needs}
-use Prim.Native.Nat.{_%_}
+use Rattle.field.proofs.Base.{needs, _%_, arith}
 use native.Mathlib.Nat.{mod-lt}
-use native.Mathlib.Omega.{arith}
 use Rattle.field.specs.Sum.{at}
 use Rattle.field.proofs.Scaling.{multiples-of}
 use Rattle.field.proofs.row.multiples.Statement.{statement}

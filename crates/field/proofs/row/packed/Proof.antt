@@ -1,5 +1,5 @@
 -- `field::row::packed` meets its contract. Assumes nothing.
-use borrow.Author.Needs.{needs}
+use Rattle.field.proofs.Base.{needs}
 use Rattle.field.specs.inner.Lanes.{lanes}
 use Rattle.field.proofs.Packing.{below-eight}
 use Rattle.field.proofs.row.packed.Statement.{statement}

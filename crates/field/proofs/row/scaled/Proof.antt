@@ -1,5 +1,5 @@
 -- `field::row::scaled` meets its contract. Assumes nothing.
-use borrow.Author.Needs.{needs}
+use Rattle.field.proofs.Base.{needs}
 use Rattle.field.specs.Polynomial.{add}
 use Rattle.field.proofs.Scaling.{named-of}
 use Rattle.field.proofs.row.scaled.Statement.{statement}

@@ -1,8 +1,5 @@
 -- `field::row::symbols` meets its contract. Assumes nothing.
-use borrow.Author.Needs.{needs}
-use mathlib.Core.Path.{ap, _∙_}
-use Prim.Native.Nat.{ℕ, _*_}
-use native.Mathlib.Omega.{arith}
+use Rattle.field.proofs.Base.{needs, ap, _∙_, ℕ, _*_, arith}
 use lib.Bits.{bitAnd}
 use Rattle.field.specs.Sum.{at}
 use Rattle.field.proofs.Lanewise.{ones, lanes-cut}

@@ -1,8 +1,5 @@
 -- `field::row::unpacked` meets its contract. Assumes nothing.
-use borrow.Author.Needs.{needs}
-use mathlib.Core.Path.{_≡_, _∙_}
-use Prim.Native.Nat.{ℕ, _/_, _%_}
-use native.Mathlib.Omega.{arith}
+use Rattle.field.proofs.Base.{needs, _≡_, _∙_, ℕ, _/_, _%_, arith}
 use Rattle.field.specs.inner.Lanes.{lane}
 use Rattle.field.proofs.Packing.{eight-of}
 use Rattle.field.proofs.row.unpacked.Statement.{statement}

@@ -1,7 +1,5 @@
 -- `field::row::when` meets its contract. Assumes nothing.
-use mathlib.Core.Path.{_≡_, sym, ap, _∙_}
-use Prim.Native.Nat.{ℕ, _*_, _%_}
-use native.Mathlib.Omega.{arith}
+use Rattle.field.proofs.Base.{_≡_, sym, ap, _∙_, ℕ, _*_, _%_, arith}
 use Rattle.field.proofs.row.when.Statement.{statement}
 use Rattle.field.proofs.row.when.Tie as tie
 

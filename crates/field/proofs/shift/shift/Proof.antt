@@ -1,6 +1,5 @@
 -- `field::shift::shift` meets its contract. Assumes nothing.
-use borrow.Author.Needs.{needs}
-use mathlib.Core.Path.{refl, sym, _∙_}
+use Rattle.field.proofs.Base.{needs, refl, sym, _∙_}
 use Rattle.field.specs.Field.{polynomial}
 use Rattle.field.proofs.Bytes.{width-is, width-other, operand-low, shifted-at}
 use Rattle.field.proofs.shift.shift.Statement.{statement}

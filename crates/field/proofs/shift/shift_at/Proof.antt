@@ -1,8 +1,5 @@
 -- `field::shift::shift_at` meets its contract. Assumes nothing.
-use borrow.Author.Needs.{needs}
-use native.Mathlib.Omega.{arith}
-use Prim.Native.Nat.{ℕ, _<_}
-use mathlib.Core.Path.{subst, sym}
+use Rattle.field.proofs.Base.{needs, arith, ℕ, _<_, subst, sym}
 use Rattle.field.specs.Field.{order, power, α}
 use Rattle.field.proofs.Widths.{field-of}
 use Rattle.field.proofs.Shifts.{product-twice}

@@ -1,5 +1,5 @@
 -- `field::shift::wrap` meets its contract. Assumes nothing.
-use borrow.Author.Needs.{needs}
+use Rattle.field.proofs.Base.{needs}
 use Rattle.field.specs.Polynomial.{add}
 use Rattle.field.proofs.Shifts.{wrapped-product}
 use Rattle.field.proofs.shift.wrap.Statement.{statement}

@@ -1,12 +1,7 @@
 -- `field::table::eight_logarithms` meets its contract: the table's rule is one test that antt computes over its entries. Assumes nothing.
-use mathlib.Core.Path.{_≡_, sym, ap, _∙_, subst}
-use mathlib.Core.Logic.{_≢_}
-use mathlib.Core.Bool.{Bool, _&&_}
-use mathlib.Core.List.{List, [], _∷_}
-use Prim.Native.Nat.{ℕ, suc, _+_, _*_, _/_, _%_, _^_, _≤_, _<_}
-use native.Mathlib.Omega.{arith}
-use lib.Dec.{T, eqb, ltb, eqb→eq, ltb→lt, lit<}
-use lib.ListN.{getD}
+use Rattle.field.proofs.Base.{_≡_, sym, ap, _∙_, subst, _≢_, Bool, _&&_, List, [], _∷_, ℕ, suc, _+_, _*_, _/_, _%_, _^_, _≤_, _<_, arith, T}
+use Rattle.field.proofs.Base.{eqb, ltb, eqb→eq, lit<, getD}
+use lib.Dec.{ltb→lt}
 use Rattle.field.specs.inner.Operand.{arithmetic}
 use Rattle.field.specs.inner.Bytes.{unitFor, Logarithms}
 use Rattle.field.proofs.Check.{and-left, and-right, all, all-at}

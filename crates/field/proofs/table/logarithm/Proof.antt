@@ -1,8 +1,5 @@
 -- `field::table::logarithm` meets its contract: it reads the entry of its symbol. Assumes nothing.
-use borrow.Author.Needs.{needs}
-use mathlib.Core.Path.{_≡_, ap, _∙_}
-use Prim.Native.Nat.{ℕ, _+_, _*_, _/_, _%_}
-use native.Mathlib.Omega.{arith}
+use Rattle.field.proofs.Base.{needs, _≡_, ap, _∙_, ℕ, _+_, _*_, _/_, _%_, arith}
 use Rattle.field.specs.inner.Bytes.{unitFor}
 use Rattle.field.proofs.Bytes.{unit-low}
 use Rattle.field.proofs.table.logarithm.Statement.{statement}

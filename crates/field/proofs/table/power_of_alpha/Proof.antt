@@ -1,5 +1,5 @@
 -- `field::table::power_of_alpha` meets its contract. Assumes nothing.
-use borrow.Author.Needs.{needs}
+use Rattle.field.proofs.Base.{needs}
 use Rattle.field.proofs.PowerTable.{powers, powers-at}
 use Rattle.field.proofs.table.power_of_alpha.Statement.{statement}
 use Rattle.field.proofs.table.power_of_alpha.Tie as tie

@@ -1,5 +1,5 @@
 -- `field::table::powers_from` meets its contract: an exponent of α counts modulo 127. Assumes nothing.
-use borrow.Author.Needs.{needs}
+use Rattle.field.proofs.Base.{needs}
 use Rattle.field.proofs.PowerTable.{powers, powers-from}
 use Rattle.field.proofs.table.powers_from.Statement.{statement}
 use Rattle.field.proofs.table.powers_from.Tie as tie

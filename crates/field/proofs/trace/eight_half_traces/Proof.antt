@@ -1,12 +1,6 @@
 -- `field::trace::eight_half_traces` meets its contract: the table's rule is one test that antt computes over the symbols. Assumes nothing.
-use mathlib.Core.Path.{_≡_, sym, ap, _∙_, subst}
-use mathlib.Core.Logic.{_≢_}
-use mathlib.Core.Bool.{Bool}
-use mathlib.Core.List.{List, [], _∷_}
-use Prim.Native.Nat.{ℕ, suc, _+_, _*_, _/_, _%_, _^_, _≤_, _<_}
-use native.Mathlib.Omega.{arith}
-use lib.Dec.{T, eqb, eqb→eq}
-use lib.ListN.{getD}
+use Rattle.field.proofs.Base.{_≡_, sym, ap, _∙_, subst, _≢_, Bool, List, [], _∷_, ℕ, suc, _+_, _*_, _/_, _%_, _^_, _≤_, _<_, arith, T, eqb}
+use Rattle.field.proofs.Base.{eqb→eq, getD}
 use Rattle.field.specs.inner.Operand.{arithmetic}
 use Rattle.field.specs.inner.HalfTrace.{HalfTraces}
 use Rattle.field.proofs.Check.{all, all-at}

@@ -1,5 +1,5 @@
 -- `programs::arguments::ask` meets its contract. Assumes nothing.
-use borrow.Author.Needs.{needs}
+use Rattle.field.proofs.Base.{needs}
 use Rattle.programs.proofs.Batches.{some-front}
 use Rattle.programs.proofs.arguments.ask.Statement.{statement}
 use Rattle.programs.proofs.arguments.ask.Tie as tie

@@ -1,5 +1,5 @@
 -- `programs::arguments::asked_of` meets its contract. Assumes nothing.
-use borrow.Author.Needs.{needs}
+use Rattle.field.proofs.Base.{needs}
 use Rattle.programs.specs.Arguments.{askedOf}
 use Rattle.programs.proofs.Choosing.{said-yes, said-no, placed-yes, placed-no}
 use Rattle.programs.proofs.Roles.{asked-wrong, asked-right}

@@ -1,5 +1,5 @@
 -- `programs::arguments::dangling_at` meets its contract. Assumes nothing.
-use borrow.Author.Needs.{needs}
+use Rattle.field.proofs.Base.{needs}
 use Rattle.programs.proofs.Choosing.{equal-yes, equal-no}
 use Rattle.programs.proofs.arguments.dangling_at.Statement.{statement}
 use Rattle.programs.proofs.arguments.dangling_at.Tie as tie

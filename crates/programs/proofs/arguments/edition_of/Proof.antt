@@ -1,5 +1,5 @@
 -- `programs::arguments::edition_of` meets its contract. Assumes nothing.
-use borrow.Author.Needs.{needs}
+use Rattle.field.proofs.Base.{needs}
 use Rattle.programs.proofs.Choosing.{said-yes, said-no}
 use Rattle.programs.specs.Arguments.{editionOf}
 use Rattle.programs.proofs.arguments.edition_of.Statement.{statement}

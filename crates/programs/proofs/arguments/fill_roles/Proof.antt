@@ -1,8 +1,5 @@
 -- `programs::arguments::fill_roles` meets its contract. Assumes nothing.
-use borrow.Author.Needs.{needs}
-use Prim.Native.Nat.{_-_, _≤_}
-use mathlib.Core.Path.{_≡_}
-use lib.ListN.{length}
+use Rattle.field.proofs.Base.{needs, _-_, _≤_, _≡_, length}
 use Rattle.programs.proofs.arguments.fill_roles.Statement.{statement}
 use Rattle.programs.proofs.arguments.fill_roles.Tie as tie
 

@@ -1,5 +1,5 @@
 -- `programs::arguments::first_place` meets its contract. Assumes nothing.
-use borrow.Author.Needs.{needs}
+use Rattle.field.proofs.Base.{needs}
 use Rattle.programs.proofs.Roles.{first-some}
 use Rattle.programs.proofs.arguments.first_place.Statement.{statement}
 use Rattle.programs.proofs.arguments.first_place.Tie as tie

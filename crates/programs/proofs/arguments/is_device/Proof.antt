@@ -1,7 +1,5 @@
 -- `programs::arguments::is_device` meets its contract. Assumes nothing.
-use borrow.Author.Needs.{needs}
-use mathlib.Core.Path.{sym}
-use lib.Seq.{length-take-le}
+use Rattle.field.proofs.Base.{needs, sym, length-take-le}
 use Rattle.programs.proofs.Roles.{device-short}
 use Rattle.programs.proofs.arguments.is_device.Statement.{statement}
 use Rattle.programs.proofs.arguments.is_device.Tie as tie

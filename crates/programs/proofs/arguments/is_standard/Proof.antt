@@ -1,5 +1,5 @@
 -- `programs::arguments::is_standard` meets its contract. Assumes nothing.
-use borrow.Author.Needs.{needs}
+use Rattle.field.proofs.Base.{needs}
 use Rattle.programs.proofs.Roles.{standard-named}
 use Rattle.programs.proofs.arguments.is_standard.Statement.{statement}
 use Rattle.programs.proofs.arguments.is_standard.Tie as tie

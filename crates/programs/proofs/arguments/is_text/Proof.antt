@@ -1,6 +1,5 @@
 -- `programs::arguments::is_text` meets its contract. Assumes nothing.
-use borrow.Author.Needs.{needs}
-use mathlib.Core.Path.{refl}
+use Rattle.field.proofs.Base.{needs, refl}
 use Rattle.code.proofs.Same.{compared}
 use Rattle.programs.proofs.arguments.is_text.Statement.{statement}
 use Rattle.programs.proofs.arguments.is_text.Tie as tie

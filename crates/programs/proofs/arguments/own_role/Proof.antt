@@ -1,5 +1,5 @@
 -- `programs::arguments::own_role` meets its contract. Assumes nothing.
-use borrow.Author.Needs.{needs}
+use Rattle.field.proofs.Base.{needs}
 use Rattle.programs.proofs.Roles.{plain-short, plain-hyphen, plain-other}
 use Rattle.programs.proofs.Choosing.{said-yes, said-no}
 use Rattle.programs.specs.Arguments.{ownRole}

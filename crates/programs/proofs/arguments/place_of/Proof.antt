@@ -1,10 +1,5 @@
 -- `programs::arguments::place_of` meets its contract. Assumes nothing.
-use borrow.Author.Needs.{needs}
-use native.Mathlib.Omega.{arith}
-use Prim.Native.Nat.{_-_, _≤_}
-use mathlib.Core.Logic.{⊎-elim}
-use mathlib.Core.Path.{_≡_, refl, _∙_}
-use lib.ListN.{length, drop}
+use Rattle.field.proofs.Base.{needs, arith, _-_, _≤_, ⊎-elim, _≡_, refl, _∙_, length, drop}
 use Rattle.programs.specs.Arguments.{argumentFrom, argumentAt}
 use Rattle.programs.proofs.Roles.{place-found, place-counted, place-passed, place-none}
 use Rattle.programs.proofs.arguments.place_of.Statement.{statement}

@@ -1,5 +1,5 @@
 -- `programs::arguments::reach_in` meets its contract. Assumes nothing.
-use borrow.Author.Needs.{needs}
+use Rattle.field.proofs.Base.{needs}
 use Rattle.programs.proofs.Choosing.{said-yes, said-no}
 use Rattle.programs.specs.Arguments.{reachIn}
 use Rattle.programs.proofs.arguments.reach_in.Statement.{statement}

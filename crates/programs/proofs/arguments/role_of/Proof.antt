@@ -1,5 +1,5 @@
 -- `programs::arguments::role_of` meets its contract. Assumes nothing.
-use borrow.Author.Needs.{needs}
+use Rattle.field.proofs.Base.{needs}
 use Rattle.programs.proofs.Choosing.{equal-yes, equal-no}
 use Rattle.programs.specs.Arguments.{roleOf}
 use Rattle.programs.proofs.arguments.role_of.Statement.{statement}

@@ -1,9 +1,5 @@
 -- `programs::arguments::too_few` meets its contract. Assumes nothing.
-use borrow.Author.Needs.{needs}
-use Prim.Native.Nat.{ℕ}
-use mathlib.Core.Path.{ap}
-use lib.Dec.{eqb}
-use borrow.Author.Tests.{lt-ltb, le-ltb}
+use Rattle.field.proofs.Base.{needs, ℕ, ap, eqb, lt-ltb, le-ltb}
 use Rattle.programs.proofs.arguments.too_few.Statement.{statement}
 use Rattle.programs.proofs.arguments.too_few.Tie as tie
 

@@ -1,5 +1,5 @@
 -- `programs::arguments::untaken_at` meets its contract. Assumes nothing.
-use borrow.Author.Needs.{needs}
+use Rattle.field.proofs.Base.{needs}
 use Rattle.programs.proofs.arguments.untaken_at.Statement.{statement}
 use Rattle.programs.proofs.arguments.untaken_at.Tie as tie
 

@@ -1,5 +1,5 @@
 -- `programs::arguments::window_of` meets its contract. Assumes nothing.
-use borrow.Author.Needs.{needs}
+use Rattle.field.proofs.Base.{needs}
 use Rattle.programs.proofs.Roles.{window-is, window-not}
 use Rattle.programs.proofs.arguments.window_of.Statement.{statement}
 use Rattle.programs.proofs.arguments.window_of.Tie as tie

@@ -1,5 +1,5 @@
 -- `programs::arguments::wrong_place` meets its contract. Assumes nothing.
-use borrow.Author.Needs.{needs}
+use Rattle.field.proofs.Base.{needs}
 use Rattle.programs.specs.Arguments.{wrongPlace}
 use Rattle.programs.proofs.arguments.wrong_place.Statement.{statement}
 use Rattle.programs.proofs.arguments.wrong_place.Tie as tie

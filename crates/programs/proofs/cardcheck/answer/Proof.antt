@@ -1,8 +1,5 @@
 -- `programs::cardcheck::answer` meets its contract. Assumes nothing.
-use borrow.Author.Needs.{needs}
-use mathlib.Core.Path.{sym, ap, _∙_, subst}
-use mathlib.Core.Logic.{inl, inr}
-use native.Mathlib.Omega.{arith}
+use Rattle.field.proofs.Base.{needs, sym, ap, _∙_, subst, inl, inr, arith}
 use Rattle.card.specs.Checked.{okLine}
 use Rattle.programs.specs.declared.output.Output.{Output}
 use Rattle.programs.specs.Check.{LineOf}

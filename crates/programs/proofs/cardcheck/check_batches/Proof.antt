@@ -1,10 +1,5 @@
 -- `programs::cardcheck::check_batches` meets its contract. Assumes nothing.
-use borrow.Author.Needs.{needs}
-use mathlib.Core.Path.{_≡_, refl, ap, _∙_}
-use mathlib.Core.Bool.{true}
-use Prim.Native.Nat.{_-_, _≤_}
-use native.Mathlib.Omega.{arith}
-use lib.ListN.{length}
+use Rattle.field.proofs.Base.{needs, _≡_, refl, ap, _∙_, true, _-_, _≤_, arith, length}
 use Rattle.card.specs.Batch.{mostBatches}
 use Rattle.programs.specs.declared.input.Input.{Input}
 use Rattle.programs.proofs.Batches.{denied-no}

@@ -1,7 +1,5 @@
 -- `programs::cardcheck::check_next` meets its contract. Assumes nothing.
-use borrow.Author.Needs.{needs}
-use mathlib.Core.Path.{refl}
-use native.Mathlib.Omega.{arith}
+use Rattle.field.proofs.Base.{needs, refl, arith}
 use Rattle.programs.proofs.Batches.{front-size}
 use Rattle.programs.proofs.Checking.{searches-batch}
 use Rattle.programs.proofs.cardcheck.check_next.Statement.{statement}

@@ -1,5 +1,5 @@
 -- `programs::cardcheck::status_of` meets its contract. Assumes nothing.
-use borrow.Author.Needs.{needs}
+use Rattle.field.proofs.Base.{needs}
 use Rattle.programs.proofs.Batches.{denied-yes, denied-no}
 use Rattle.programs.proofs.Checking.{check-unwell, check-refused, check-ended}
 use Rattle.programs.proofs.cardcheck.status_of.Statement.{statement}

@@ -1,6 +1,5 @@
 -- `programs::cardcheck::with_status` meets its contract. Assumes nothing.
-use borrow.Author.Needs.{needs}
-use mathlib.Core.Path.{ap}
+use Rattle.field.proofs.Base.{needs, ap}
 use Rattle.programs.specs.declared.status.Status.{Status}
 use Rattle.programs.proofs.cardcheck.with_status.Statement.{statement}
 use Rattle.programs.proofs.cardcheck.with_status.Tie as tie

@@ -1,6 +1,5 @@
 -- `programs::cardcompare::answer` meets its contract. Assumes nothing.
-use borrow.Author.Needs.{needs}
-use mathlib.Core.Path.{ap}
+use Rattle.field.proofs.Base.{needs, ap}
 use Rattle.programs.specs.declared.output.Output.{Output}
 use Rattle.programs.proofs.Comparing.{both-fine, found-slot, compares-unread, compares-cards}
 use Rattle.programs.proofs.Batches.{denied-yes, denied-no}

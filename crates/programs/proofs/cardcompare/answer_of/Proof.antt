@@ -1,5 +1,5 @@
 -- `programs::cardcompare::answer_of` meets its contract. Assumes nothing.
-use borrow.Author.Needs.{needs}
+use Rattle.field.proofs.Base.{needs}
 use Rattle.programs.proofs.Comparing.{answer-none, answer-read}
 use Rattle.programs.proofs.cardcompare.answer_of.Statement.{statement}
 use Rattle.programs.proofs.cardcompare.answer_of.Tie as tie

@@ -1,6 +1,5 @@
 -- `programs::cardcompare::refusal_in` meets its contract. Assumes nothing.
-use borrow.Author.Needs.{needs}
-use mathlib.Core.Path.{sym, ap}
+use Rattle.field.proofs.Base.{needs, sym, ap}
 use Rattle.report.specs.Compare.{choice}
 use Rattle.report.specs.declared.compare.Choice.{Choice}
 use Rattle.programs.specs.Compare.{sheetsSaid}

@@ -1,5 +1,5 @@
 -- `programs::cardcompare::refusal_of` meets its contract. Assumes nothing.
-use borrow.Author.Needs.{needs}
+use Rattle.field.proofs.Base.{needs}
 use Rattle.report.specs.Compare.{choice}
 use Rattle.programs.proofs.Comparing.{names-controller, names-cupboard, names-sheets}
 use Rattle.programs.proofs.cardcompare.refusal_of.Statement.{statement}

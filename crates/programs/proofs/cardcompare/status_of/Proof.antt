@@ -1,5 +1,5 @@
 -- `programs::cardcompare::status_of` meets its contract. Assumes nothing.
-use borrow.Author.Needs.{needs}
+use Rattle.field.proofs.Base.{needs}
 use Rattle.programs.proofs.Comparing.{ends-failed, ends-refused, ends-equal, ends-different}
 use Rattle.programs.proofs.Batches.{denied-yes, denied-no}
 use Rattle.programs.proofs.cardcompare.status_of.Statement.{statement}

@@ -1,6 +1,5 @@
 -- `programs::cardcompare::write_accepted` meets its contract. Assumes nothing.
-use borrow.Author.Needs.{needs}
-use mathlib.Core.Path.{ap}
+use Rattle.field.proofs.Base.{needs, ap}
 use Rattle.programs.specs.declared.output.Output.{Output}
 use Rattle.programs.proofs.Comparing.{writes-refused, accepted-slots}
 use Rattle.programs.proofs.cardcompare.write_accepted.Statement.{statement}

@@ -1,8 +1,5 @@
 -- `programs::cardcompare::write_comparison` meets its contract. Assumes nothing.
-use borrow.Author.Needs.{needs}
-use mathlib.Core.Path.{sym, ap}
-use native.Mathlib.Omega.{arith}
-use lib.Seq.{length-take-le}
+use Rattle.field.proofs.Base.{needs, sym, ap, arith, length-take-le}
 use Rattle.card.proofs.Writing.{writes-fits}
 use Rattle.programs.specs.declared.output.Output.{Output}
 use Rattle.programs.proofs.Comparing.{writes-accepted}

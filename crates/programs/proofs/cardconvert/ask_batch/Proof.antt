@@ -1,6 +1,5 @@
 -- `programs::cardconvert::ask_batch` meets its contract. Assumes nothing.
-use borrow.Author.Needs.{needs}
-use mathlib.Core.Path.{refl}
+use Rattle.field.proofs.Base.{needs, refl}
 use Rattle.programs.proofs.cardconvert.ask_batch.Statement.{statement}
 use Rattle.programs.proofs.cardconvert.ask_batch.Tie as tie
 

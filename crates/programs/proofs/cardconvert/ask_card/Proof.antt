@@ -1,9 +1,5 @@
 -- `programs::cardconvert::ask_card` meets its contract. Before turn i the questions have come over i whole batches. Assumes nothing.
-use borrow.Author.Needs.{needs}
-use mathlib.Core.Path.{_≡_, ap}
-use mathlib.Core.Bool.{true}
-use Prim.Native.Nat.{_-_, _*_, _≤_}
-use native.Mathlib.Omega.{arith}
+use Rattle.field.proofs.Base.{needs, _≡_, ap, true, _-_, _*_, _≤_, arith}
 use Rattle.card.specs.Batch.{mostBatches}
 use Rattle.card.specs.Findings.{nothingFound, partFound}
 use Rattle.programs.specs.declared.input.Input.{Input}

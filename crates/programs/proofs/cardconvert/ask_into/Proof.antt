@@ -1,10 +1,5 @@
 -- `programs::cardconvert::ask_into` meets its contract. Assumes nothing.
-use borrow.Author.Needs.{needs}
-use mathlib.Core.Path.{_≡_, sym}
-use Prim.Native.Nat.{_*_, _≤_}
-use native.Mathlib.Omega.{arith}
-use lib.ListN.{length, take, drop}
-use lib.Seq.{length-take-le}
+use Rattle.field.proofs.Base.{needs, _≡_, sym, _*_, _≤_, arith, length, take, drop, length-take-le}
 use Rattle.programs.proofs.Converting.{read-inside, read-size, asks-batch}
 use Rattle.programs.proofs.cardconvert.ask_into.Statement.{statement}
 use Rattle.programs.proofs.cardconvert.ask_into.Tie as tie

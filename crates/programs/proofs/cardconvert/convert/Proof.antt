@@ -1,6 +1,5 @@
 -- `programs::cardconvert::convert` meets its contract. Assumes nothing.
-use borrow.Author.Needs.{needs}
-use native.Mathlib.Omega.{arith}
+use Rattle.field.proofs.Base.{needs, arith}
 use Rattle.programs.proofs.cardconvert.convert.Statement.{statement}
 use Rattle.programs.proofs.cardconvert.convert.Tie as tie
 

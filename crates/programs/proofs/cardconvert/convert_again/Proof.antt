@@ -1,5 +1,5 @@
 -- `programs::cardconvert::convert_again` meets its contract. Assumes nothing.
-use borrow.Author.Needs.{needs}
+use Rattle.field.proofs.Base.{needs}
 use Rattle.programs.proofs.Converting.{asked-slots}
 use Rattle.programs.proofs.cardconvert.convert_again.Statement.{statement}
 use Rattle.programs.proofs.cardconvert.convert_again.Tie as tie

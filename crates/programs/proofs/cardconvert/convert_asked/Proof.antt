@@ -1,6 +1,5 @@
 -- `programs::cardconvert::convert_asked` meets its contract. Assumes nothing.
-use borrow.Author.Needs.{needs}
-use mathlib.Core.Logic.{⊎-elim}
+use Rattle.field.proofs.Base.{needs, ⊎-elim}
 use Rattle.programs.proofs.cardconvert.convert_asked.Statement.{statement}
 use Rattle.programs.proofs.cardconvert.convert_asked.Tie as tie
 

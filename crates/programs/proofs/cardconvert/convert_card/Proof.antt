@@ -1,7 +1,5 @@
 -- `programs::cardconvert::convert_card` meets its contract. Assumes nothing.
-use borrow.Author.Needs.{needs}
-use mathlib.Core.Path.{sym, _∙_}
-use native.Mathlib.Omega.{arith}
+use Rattle.field.proofs.Base.{needs, sym, _∙_, arith}
 use Rattle.programs.proofs.Batches.{denied-no}
 use Rattle.programs.proofs.Converting.{asked-slots}
 use Rattle.programs.proofs.cardconvert.convert_card.Statement.{statement}

@@ -1,9 +1,5 @@
 -- `programs::cardconvert::copy_all` meets its contract. Before a turn all but `left` slots are copied. Assumes nothing.
-use borrow.Author.Needs.{needs}
-use mathlib.Core.Path.{refl, ap}
-use Prim.Native.Nat.{_≤_}
-use native.Mathlib.Omega.{arith}
-use borrow.Author.Tests.{not-true, not-false}
+use Rattle.field.proofs.Base.{needs, refl, ap, _≤_, arith, not-true, not-false}
 use Rattle.programs.specs.declared.input.Input.{Input}
 use Rattle.programs.specs.declared.output.Output.{Output}
 use Rattle.programs.proofs.Converting.{Copied, copied-fine, copied-more, copied-stopped, copied-all}

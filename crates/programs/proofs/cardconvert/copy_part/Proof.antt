@@ -1,10 +1,5 @@
 -- `programs::cardconvert::copy_part` meets its contract. Assumes nothing.
-use borrow.Author.Needs.{needs}
-use mathlib.Core.Path.{_≡_, sym, ap, _∙_}
-use Prim.Native.Nat.{ℕ, _-_, _*_, _≤_}
-use native.Mathlib.Omega.{arith}
-use lib.ListN.{length, take}
-use lib.Seq.{length-take-le}
+use Rattle.field.proofs.Base.{needs, _≡_, sym, ap, _∙_, ℕ, _-_, _*_, _≤_, arith, length, take, length-take-le}
 use Rattle.programs.proofs.Converting.{copy-room, copies-sized}
 use Rattle.programs.proofs.cardconvert.copy_part.Statement.{statement}
 use Rattle.programs.proofs.cardconvert.copy_part.Tie as tie

@@ -1,5 +1,5 @@
 -- `programs::cardconvert::edition_at` meets its contract. Assumes nothing.
-use borrow.Author.Needs.{needs}
+use Rattle.field.proofs.Base.{needs}
 use Rattle.programs.proofs.Converting.{edition-named}
 use Rattle.programs.proofs.cardconvert.edition_at.Statement.{statement}
 use Rattle.programs.proofs.cardconvert.edition_at.Tie as tie

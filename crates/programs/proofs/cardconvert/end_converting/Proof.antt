@@ -1,7 +1,5 @@
 -- `programs::cardconvert::end_converting` meets its contract. Assumes nothing.
-use borrow.Author.Needs.{needs}
-use mathlib.Core.Path.{refl}
-use mathlib.Core.Logic.{inl, inr}
+use Rattle.field.proofs.Base.{needs, refl, inl, inr}
 use Rattle.programs.proofs.cardconvert.end_converting.Statement.{statement}
 use Rattle.programs.proofs.cardconvert.end_converting.Tie as tie
 

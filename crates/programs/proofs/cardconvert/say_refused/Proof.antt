@@ -1,7 +1,5 @@
 -- `programs::cardconvert::say_refused` meets its contract. Assumes nothing.
-use borrow.Author.Needs.{needs}
-use mathlib.Core.Path.{sym}
-use lib.Seq.{length-take-le}
+use Rattle.field.proofs.Base.{needs, sym, length-take-le}
 use Rattle.card.proofs.Writing.{writes-fits}
 use Rattle.programs.proofs.cardconvert.say_refused.Statement.{statement}
 use Rattle.programs.proofs.cardconvert.say_refused.Tie as tie

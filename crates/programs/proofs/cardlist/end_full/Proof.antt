@@ -1,7 +1,5 @@
 -- `programs::cardlist::end_full` meets its contract. Assumes nothing.
-use borrow.Author.Needs.{needs}
-use mathlib.Core.Path.{refl}
-use native.Mathlib.Omega.{arith}
+use Rattle.field.proofs.Base.{needs, refl, arith}
 use Rattle.programs.proofs.Batches.{goes-going, goes-ok, denied-yes, denied-no}
 use Rattle.programs.proofs.Listing.{ends-small, last-writable, more-writable, ends-full, ends-cut, ends-more}
 use Rattle.programs.proofs.cardlist.end_full.Statement.{statement}

@@ -1,6 +1,5 @@
 -- `programs::cardlist::end_listing` meets its contract. Assumes nothing.
-use borrow.Author.Needs.{needs}
-use native.Mathlib.Omega.{arith}
+use Rattle.field.proofs.Base.{needs, arith}
 use Rattle.programs.proofs.Batches.{both-true, asked-yes, asked-no, denied-yes, denied-no}
 use Rattle.programs.proofs.Listing.{ends-unwritten, last-writable, ends-here}
 use Rattle.programs.proofs.cardlist.end_listing.Statement.{statement}

@@ -1,8 +1,5 @@
 -- `programs::cardlist::list_batch` meets its contract. Assumes nothing.
-use borrow.Author.Needs.{needs}
-use mathlib.Core.Path.{sym, refl}
-use native.Mathlib.Omega.{arith}
-use lib.Seq.{length-take-le}
+use Rattle.field.proofs.Base.{needs, sym, refl, arith, length-take-le}
 use Rattle.card.proofs.Writing.{writes-fits, writes-length}
 use Rattle.programs.proofs.Batches.{front-size}
 use Rattle.programs.proofs.Listing.{batch-lines, lists-batch}

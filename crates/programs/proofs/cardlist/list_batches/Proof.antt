@@ -1,8 +1,6 @@
 -- `programs::cardlist::list_batches` meets its contract. Assumes nothing.
-use borrow.Author.Needs.{needs}
+use Rattle.field.proofs.Base.{needs, _-_, _*_, _≤_, arith}
 use Rattle.programs.proofs.Batches.{denied-yes, denied-no}
-use Prim.Native.Nat.{_-_, _*_, _≤_}
-use native.Mathlib.Omega.{arith}
 use Rattle.card.specs.Batch.{batchSize}
 use Rattle.programs.specs.inner.Lists.{ListsSome}
 use Rattle.programs.proofs.Listing.{lists-start, lists-ready, lists-more, lists-stop, lists-full}

@@ -1,7 +1,5 @@
 -- `programs::cardlist::status_of` meets its contract. Assumes nothing.
-use borrow.Author.Needs.{needs}
-use mathlib.Core.Path.{ap, _∙_}
-use mathlib.Core.Bool.{Bool, cond}
+use Rattle.field.proofs.Base.{needs, ap, _∙_, Bool, cond}
 use Rattle.programs.specs.declared.status.Status.the-variants.{Done, NotDone}
 use Rattle.programs.proofs.cardlist.status_of.Statement.{statement}
 use Rattle.programs.proofs.cardlist.status_of.Tie as tie

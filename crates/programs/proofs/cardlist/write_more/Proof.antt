@@ -1,11 +1,5 @@
 -- `programs::cardlist::write_more` meets its contract. Assumes nothing.
-use borrow.Author.Needs.{needs}
-use mathlib.Core.Path.{sym, ap, _∙_}
-use Prim.Native.Nat.{ℕ, _+_}
-use native.Mathlib.Omega.{arith}
-use mathlib.Core.List.{List}
-use lib.ListN.{length}
-use lib.Seq.{length-take-le}
+use Rattle.field.proofs.Base.{needs, sym, ap, _∙_, ℕ, _+_, arith, List, length, length-take-le}
 use Rattle.card.proofs.Writing.{writes-fits, writes-length}
 use Rattle.programs.proofs.Batches.{front-text}
 use Rattle.programs.proofs.cardlist.write_more.Statement.{statement}

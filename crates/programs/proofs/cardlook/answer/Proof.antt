@@ -1,7 +1,5 @@
 -- `programs::cardlook::answer` meets its contract. Assumes nothing.
-use borrow.Author.Needs.{needs}
-use mathlib.Core.Path.{ap}
-use native.Mathlib.Omega.{arith}
+use Rattle.field.proofs.Base.{needs, ap, arith}
 use Rattle.programs.proofs.Looking.{looks-failed, looks-none, looks-card}
 use Rattle.programs.proofs.Seeking.{slot-size, finds-slot}
 use Rattle.programs.proofs.Batches.{asked-yes, asked-no}

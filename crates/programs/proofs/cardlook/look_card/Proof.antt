@@ -1,5 +1,5 @@
 -- `programs::cardlook::look_card` meets its contract. Assumes nothing.
-use borrow.Author.Needs.{needs}
+use Rattle.field.proofs.Base.{needs}
 use Rattle.programs.proofs.cardlook.look_card.Statement.{statement}
 use Rattle.programs.proofs.cardlook.look_card.Tie as tie
 

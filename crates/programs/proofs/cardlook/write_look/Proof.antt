@@ -1,8 +1,5 @@
 -- `programs::cardlook::write_look` meets its contract. Assumes nothing.
-use borrow.Author.Needs.{needs}
-use mathlib.Core.Path.{sym}
-use native.Mathlib.Omega.{arith}
-use lib.Seq.{length-take-le}
+use Rattle.field.proofs.Base.{needs, sym, arith, length-take-le}
 use Rattle.card.proofs.Writing.{writes-fits}
 use Rattle.programs.proofs.cardlook.write_look.Statement.{statement}
 use Rattle.programs.proofs.cardlook.write_look.Tie as tie

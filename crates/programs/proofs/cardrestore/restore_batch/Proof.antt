@@ -1,7 +1,5 @@
 -- `programs::cardrestore::restore_batch` meets its contract. Assumes nothing.
-use borrow.Author.Needs.{needs}
-use mathlib.Core.Path.{refl}
-use native.Mathlib.Omega.{arith}
+use Rattle.field.proofs.Base.{needs, refl, arith}
 use Rattle.programs.proofs.Batches.{front-size}
 use Rattle.programs.proofs.Restoring.{restores-batch}
 use Rattle.programs.proofs.cardrestore.restore_batch.Statement.{statement}

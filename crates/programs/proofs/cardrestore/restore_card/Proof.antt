@@ -1,9 +1,7 @@
 -- `programs::cardrestore::restore_card` meets its contract. Assumes nothing.
-use borrow.Author.Needs.{needs}
-use native.Mathlib.Omega.{arith}
+use Rattle.field.proofs.Base.{needs, arith, _-_, _*_, _≤_}
 use Rattle.programs.proofs.Batches.{denied-no}
 use Rattle.programs.proofs.Restoring.{restores-start, restores-ready, restores-more, restores-card}
-use Prim.Native.Nat.{_-_, _*_, _≤_}
 use Rattle.card.specs.Batch.{batchSize, mostBatches}
 use Rattle.programs.specs.inner.Restores.{RestoresSome}
 use Rattle.programs.proofs.cardrestore.restore_card.Statement.{statement}

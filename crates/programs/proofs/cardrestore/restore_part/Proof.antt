@@ -1,5 +1,5 @@
 -- `programs::cardrestore::restore_part` meets its contract. Assumes nothing.
-use borrow.Author.Needs.{needs}
+use Rattle.field.proofs.Base.{needs}
 use Rattle.programs.proofs.Restoring.{restored-writable, restored-part}
 use Rattle.programs.proofs.cardrestore.restore_part.Statement.{statement}
 use Rattle.programs.proofs.cardrestore.restore_part.Tie as tie

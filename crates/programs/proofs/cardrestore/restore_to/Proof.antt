@@ -1,6 +1,5 @@
 -- `programs::cardrestore::restore_to` meets its contract. Assumes nothing.
-use borrow.Author.Needs.{needs}
-use native.Mathlib.Omega.{arith}
+use Rattle.field.proofs.Base.{needs, arith}
 use Rattle.programs.proofs.Restoring.{restored-sound}
 use Rattle.programs.proofs.cardrestore.restore_to.Statement.{statement}
 use Rattle.programs.proofs.cardrestore.restore_to.Tie as tie

@@ -1,5 +1,5 @@
 -- `programs::cardrestore::status_of` meets its contract. Assumes nothing.
-use borrow.Author.Needs.{needs}
+use Rattle.field.proofs.Base.{needs}
 use Rattle.programs.proofs.Restoring.{restored-all, restored-some}
 use Rattle.programs.proofs.cardrestore.status_of.Statement.{statement}
 use Rattle.programs.proofs.cardrestore.status_of.Tie as tie

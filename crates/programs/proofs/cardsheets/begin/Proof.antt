@@ -1,7 +1,5 @@
 -- `programs::cardsheets::begin` meets its contract. Assumes nothing.
-use borrow.Author.Needs.{needs}
-use mathlib.Core.Path.{refl, ap}
-use native.Mathlib.Omega.{arith}
+use Rattle.field.proofs.Base.{needs, refl, ap, arith}
 use Rattle.programs.specs.declared.input.Input.{Input}
 use Rattle.programs.specs.declared.output.Output.{Output}
 use Rattle.programs.proofs.cardsheets.begin.Statement.{statement}

@@ -1,7 +1,5 @@
 -- `programs::cardsheets::end_telling` meets its contract. Assumes nothing.
-use borrow.Author.Needs.{needs}
-use mathlib.Core.Path.{refl}
-use mathlib.Core.Logic.{inr}
+use Rattle.field.proofs.Base.{needs, refl, inr}
 use Rattle.programs.proofs.Batches.{denied-no}
 use Rattle.programs.proofs.Telling.{ends-told}
 use Rattle.programs.proofs.cardsheets.end_telling.Statement.{statement}

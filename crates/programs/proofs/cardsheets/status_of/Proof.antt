@@ -1,5 +1,5 @@
 -- `programs::cardsheets::status_of` meets its contract. Assumes nothing.
-use borrow.Author.Needs.{needs}
+use Rattle.field.proofs.Base.{needs}
 use Rattle.programs.proofs.Telling.{sheets-all, sheets-some}
 use Rattle.programs.proofs.cardsheets.status_of.Statement.{statement}
 use Rattle.programs.proofs.cardsheets.status_of.Tie as tie

@@ -1,9 +1,7 @@
 -- `programs::cardsheets::tell_card` meets its contract. Assumes nothing.
-use borrow.Author.Needs.{needs}
-use native.Mathlib.Omega.{arith}
+use Rattle.field.proofs.Base.{needs, arith, _-_, _≤_}
 use Rattle.programs.proofs.Batches.{denied-no}
 use Rattle.programs.proofs.Telling.{tells-start, tells-ready, tells-more, tells-card}
-use Prim.Native.Nat.{_-_, _≤_}
 use Rattle.card.specs.Batch.{mostBatches}
 use Rattle.programs.specs.inner.Tells.{TellsSome}
 use Rattle.programs.proofs.cardsheets.tell_card.Statement.{statement}

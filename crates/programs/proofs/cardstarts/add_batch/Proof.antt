@@ -1,7 +1,5 @@
 -- `programs::cardstarts::add_batch` meets its contract. Assumes nothing.
-use borrow.Author.Needs.{needs}
-use mathlib.Core.Path.{refl}
-use native.Mathlib.Omega.{arith}
+use Rattle.field.proofs.Base.{needs, refl, arith}
 use Rattle.programs.proofs.Batches.{front-size}
 use Rattle.programs.proofs.Tabling.{adds-batch}
 use Rattle.programs.proofs.cardstarts.add_batch.Statement.{statement}

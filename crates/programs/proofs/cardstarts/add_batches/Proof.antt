@@ -1,10 +1,5 @@
 -- `programs::cardstarts::add_batches` meets its contract. Before turn i the report has come over i whole batches. Assumes nothing.
-use borrow.Author.Needs.{needs}
-use mathlib.Core.Path.{_≡_, refl, ap}
-use mathlib.Core.Bool.{true}
-use Prim.Native.Nat.{_-_, _*_, _≤_}
-use native.Mathlib.Omega.{arith}
-use lib.ListN.{length}
+use Rattle.field.proofs.Base.{needs, _≡_, refl, ap, true, _-_, _*_, _≤_, arith, length}
 use Rattle.card.specs.Batch.{batchSize}
 use Rattle.report.specs.Window.{noReport, partAdded}
 use Rattle.programs.specs.declared.input.Input.{Input}

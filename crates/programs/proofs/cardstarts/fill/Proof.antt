@@ -1,9 +1,5 @@
 -- `programs::cardstarts::fill` meets its contract. Assumes nothing.
-use borrow.Author.Needs.{needs}
-use mathlib.Core.Path.{refl, ap, _∙_}
-use Prim.Native.Nat.{ℕ}
-use native.Mathlib.Omega.{arith}
-use lib.ListN.{replicate}
+use Rattle.field.proofs.Base.{needs, refl, ap, _∙_, ℕ, arith, replicate}
 use Rattle.programs.proofs.Batches.{denied-no, denied-yes}
 use Rattle.programs.proofs.Tabling.{reports-end, reports-readable, reports-more}
 use Rattle.programs.proofs.cardstarts.fill.Statement.{statement}

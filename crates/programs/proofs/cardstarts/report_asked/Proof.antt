@@ -1,5 +1,5 @@
 -- `programs::cardstarts::report_asked` meets its contract. Assumes nothing.
-use borrow.Author.Needs.{needs}
+use Rattle.field.proofs.Base.{needs}
 use Rattle.programs.proofs.Tabling.{chosen-window}
 use Rattle.programs.proofs.cardstarts.report_asked.Statement.{statement}
 use Rattle.programs.proofs.cardstarts.report_asked.Tie as tie

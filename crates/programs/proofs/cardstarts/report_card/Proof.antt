@@ -1,7 +1,5 @@
 -- `programs::cardstarts::report_card` meets its contract. Assumes nothing.
-use borrow.Author.Needs.{needs}
-use mathlib.Core.Path.{ap}
-use native.Mathlib.Omega.{arith}
+use Rattle.field.proofs.Base.{needs, ap, arith}
 use Rattle.programs.specs.declared.output.Output.{Output}
 use Rattle.programs.proofs.Batches.{asked-yes, asked-no}
 use Rattle.programs.proofs.Tabling.{tabled, tables-nothing, tables-card}

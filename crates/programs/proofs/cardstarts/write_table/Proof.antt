@@ -1,8 +1,5 @@
 -- `programs::cardstarts::write_table` meets its contract. Assumes nothing.
-use borrow.Author.Needs.{needs}
-use mathlib.Core.Path.{sym}
-use native.Mathlib.Omega.{arith}
-use lib.Seq.{length-take-le}
+use Rattle.field.proofs.Base.{needs, sym, arith, length-take-le}
 use Rattle.card.proofs.Writing.{writes-fits}
 use Rattle.programs.proofs.Tabling.{tabled-countable}
 use Rattle.programs.proofs.cardstarts.write_table.Statement.{statement}

@@ -1,6 +1,5 @@
 -- `programs::cardwrite::write_card` meets its contract. Assumes nothing.
-use borrow.Author.Needs.{needs}
-use native.Mathlib.Omega.{arith}
+use Rattle.field.proofs.Base.{needs, arith}
 use Rattle.programs.proofs.cardwrite.write_card.Statement.{statement}
 use Rattle.programs.proofs.cardwrite.write_card.Tie as tie
 

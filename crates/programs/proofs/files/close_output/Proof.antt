@@ -1,7 +1,5 @@
 -- `programs::files::close_output` meets its contract. Assumes nothing.
-use borrow.Author.Needs.{needs}
-use mathlib.Core.Path.{refl}
-use mathlib.Core.Logic.{inl, inr}
+use Rattle.field.proofs.Base.{needs, refl, inl, inr}
 use Rattle.programs.proofs.files.close_output.Statement.{statement}
 use Rattle.programs.proofs.files.close_output.Tie as tie
 

@@ -1,7 +1,5 @@
 -- `programs::files::front` meets its contract. Assumes nothing.
-use borrow.Author.Needs.{needs}
-use mathlib.Core.Path.{sym}
-use lib.Seq.{length-take-le}
+use Rattle.field.proofs.Base.{needs, sym, length-take-le}
 use Rattle.programs.proofs.files.front.Statement.{statement}
 use Rattle.programs.proofs.files.front.Tie as tie
 

@@ -1,6 +1,5 @@
 -- `programs::files::is_flushed` meets its contract. Assumes nothing.
-use borrow.Author.Needs.{needs}
-use Prim.Native.Nat.{_-_, _≤_}
+use Rattle.field.proofs.Base.{needs, _-_, _≤_}
 use Rattle.programs.proofs.files.is_flushed.Statement.{statement}
 use Rattle.programs.proofs.files.is_flushed.Tie as tie
 

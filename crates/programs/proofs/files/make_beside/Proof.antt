@@ -1,7 +1,5 @@
 -- `programs::files::make_beside` meets its contract. Assumes nothing.
-use borrow.Author.Needs.{needs}
-use mathlib.Core.Path.{sym}
-use lib.Seq.{length-take-le}
+use Rattle.field.proofs.Base.{needs, sym, length-take-le}
 use Rattle.programs.proofs.files.make_beside.Statement.{statement}
 use Rattle.programs.proofs.files.make_beside.Tie as tie
 

@@ -1,5 +1,5 @@
 -- `programs::files::process_number` meets its contract. Assumes nothing.
-use borrow.Author.Needs.{needs}
+use Rattle.field.proofs.Base.{needs}
 use Rattle.programs.proofs.Streaming.{number-casts}
 use Rattle.programs.proofs.files.process_number.Statement.{statement}
 use Rattle.programs.proofs.files.process_number.Tie as tie

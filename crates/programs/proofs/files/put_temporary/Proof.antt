@@ -1,6 +1,5 @@
 -- `programs::files::put_temporary` meets its contract. Assumes nothing.
-use borrow.Author.Needs.{needs}
-use native.Mathlib.Omega.{arith}
+use Rattle.field.proofs.Base.{needs, arith}
 use Rattle.card.proofs.Writing.{length-decimal}
 use Rattle.programs.proofs.files.put_temporary.Statement.{statement}
 use Rattle.programs.proofs.files.put_temporary.Tie as tie

@@ -1,5 +1,5 @@
 -- `programs::help::explain` meets its contract. Assumes nothing.
-use borrow.Author.Needs.{needs}
+use Rattle.field.proofs.Base.{needs}
 use Rattle.programs.proofs.Roles.{explained-undone}
 use Rattle.programs.proofs.help.explain.Statement.{statement}
 use Rattle.programs.proofs.help.explain.Tie as tie

@@ -1,5 +1,5 @@
 -- `programs::help::print` meets its contract. Assumes nothing.
-use borrow.Author.Needs.{needs}
+use Rattle.field.proofs.Base.{needs}
 use Rattle.programs.proofs.Streaming.{first-part}
 use Rattle.programs.proofs.help.print.Statement.{statement}
 use Rattle.programs.proofs.help.print.Tie as tie

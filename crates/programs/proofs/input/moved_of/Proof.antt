@@ -1,6 +1,5 @@
 -- `programs::input::moved_of` meets its contract. Assumes nothing.
-use borrow.Author.Needs.{needs}
-use lib.ListN.{length}
+use Rattle.field.proofs.Base.{needs, length}
 use Rattle.programs.proofs.Streaming.{answer-failed, answer-nothing, answer-bytes}
 use Rattle.programs.proofs.input.moved_of.Statement.{statement}
 use Rattle.programs.proofs.input.moved_of.Tie as tie

@@ -1,9 +1,5 @@
 -- `programs::input::read_batch` meets its contract. Assumes nothing.
-use borrow.Author.Needs.{needs}
-use native.Mathlib.Omega.{arith}
-use Prim.Native.Nat.{_-_, _≤_}
-use mathlib.Core.Path.{_≡_, refl}
-use lib.ListN.{length}
+use Rattle.field.proofs.Base.{needs, arith, _-_, _≤_, _≡_, refl, length}
 use Rattle.programs.proofs.Streaming.{moved-some, reads-stopped, reads-full}
 use Rattle.programs.proofs.input.read_batch.Statement.{statement}
 use Rattle.programs.proofs.input.read_batch.Tie as tie

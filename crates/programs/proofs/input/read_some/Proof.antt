@@ -1,11 +1,7 @@
 -- `programs::input::read_some` meets its contract. Assumes nothing.
-use borrow.Author.Needs.{needs}
-use native.Mathlib.Omega.{arith}
-use Prim.Native.Nat.{_-_}
-use mathlib.Core.Path.{_≡_}
+use Rattle.field.proofs.Base.{needs, arith, _-_, _≡_, length}
 use mir.Syntax.{w64}
 use mir.Val.{toZ, ofZ}
-use lib.ListN.{length}
 use Rattle.programs.proofs.Streaming.{moved-within}
 use Rattle.programs.proofs.input.read_some.Statement.{statement}
 use Rattle.programs.proofs.input.read_some.Tie as tie

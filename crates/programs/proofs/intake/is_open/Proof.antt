@@ -1,8 +1,5 @@
 -- `programs::intake::is_open` meets its contract. Assumes nothing.
-use borrow.Author.Needs.{needs}
-use borrow.Author.Tests.{lt-ltb, le-ltb}
-use mathlib.Core.Path.{sym, ap, _∙_}
-use mathlib.Core.Bool.{Bool, _&&_}
+use Rattle.field.proofs.Base.{needs, lt-ltb, le-ltb, sym, ap, _∙_, Bool, _&&_}
 use Rattle.csv.specs.inner.Room.{textSize}
 use Rattle.programs.specs.inner.Cuts.{goesFurther}
 use Rattle.programs.proofs.Batches.{and-asked, and-unasked}

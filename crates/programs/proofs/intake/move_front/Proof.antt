@@ -1,9 +1,5 @@
 -- `programs::intake::move_front` meets its contract. Assumes nothing.
-use borrow.Author.Needs.{needs}
-use mathlib.Core.Path.{_≡_}
-use Prim.Native.Nat.{_+_, _-_, _≤_}
-use native.Mathlib.Omega.{arith}
-use lib.ListN.{length}
+use Rattle.field.proofs.Base.{needs, _≡_, _+_, _-_, _≤_, arith, length}
 use Rattle.csv.specs.inner.Room.{textSize}
 use Rattle.programs.proofs.Cutting.{Moved, moved-start, moved-more, moves-front}
 use Rattle.programs.proofs.intake.move_front.Statement.{statement}

@@ -1,8 +1,5 @@
 -- `programs::intake::put_records` meets its contract. Assumes nothing.
-use borrow.Author.Needs.{needs}
-use borrow.Author.Tests.{not-false, not-true}
-use mathlib.Core.Path.{sym, _∙_}
-use mathlib.Core.Bool.{false≢true}
+use Rattle.field.proofs.Base.{needs, not-false, not-true, sym, _∙_, false≢true}
 use Rattle.programs.proofs.intake.put_records.Statement.{statement}
 use Rattle.programs.proofs.intake.put_records.Tie as tie
 

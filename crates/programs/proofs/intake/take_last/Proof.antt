@@ -1,9 +1,5 @@
 -- `programs::intake::take_last` meets its contract. Assumes nothing.
-use borrow.Author.Needs.{needs}
-use mathlib.Core.Path.{sym}
-use native.Mathlib.Omega.{arith}
-use lib.ListN.{take}
-use lib.Seq.{length-take-le}
+use Rattle.field.proofs.Base.{needs, sym, arith, take, length-take-le}
 use Rattle.csv.specs.Making.{lastLine}
 use Rattle.programs.proofs.Cutting.{parts-few, parts-fine, parts-length, parts-part, rest-last}
 use Rattle.programs.proofs.intake.take_last.Statement.{statement}

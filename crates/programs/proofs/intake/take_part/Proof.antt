@@ -1,7 +1,5 @@
 -- `programs::intake::take_part` meets its contract. Assumes nothing.
-use borrow.Author.Needs.{needs}
-use mathlib.Core.Path.{sym}
-use native.Mathlib.Omega.{arith}
+use Rattle.field.proofs.Base.{needs, sym, arith}
 use Rattle.programs.proofs.Cutting.{parts-few, parts-fine, parts-length, parts-part, part-further, part-readable, part-size, part-rest, part-taken}
 use Rattle.programs.proofs.intake.take_part.Statement.{statement}
 use Rattle.programs.proofs.intake.take_part.Tie as tie

@@ -1,9 +1,5 @@
 -- `programs::intake::take_parts` meets its contract. Assumes nothing.
-use borrow.Author.Needs.{needs}
-use native.Mathlib.Omega.{arith}
-use mathlib.Core.Path.{_≡_}
-use Prim.Native.Nat.{_-_, _*_, _^_, _≤_}
-use lib.ListN.{length}
+use Rattle.field.proofs.Base.{needs, arith, _≡_, _-_, _*_, _^_, _≤_, length}
 use Rattle.csv.specs.inner.Room.{textSize, recordsRoom}
 use Rattle.programs.specs.inner.Cuts.{TakesParts}
 use Rattle.programs.proofs.Batches.{denied-no}

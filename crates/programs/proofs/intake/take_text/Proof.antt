@@ -1,6 +1,5 @@
 -- `programs::intake::take_text` meets its contract. Assumes nothing.
-use borrow.Author.Needs.{needs}
-use mathlib.Core.Path.{refl}
+use Rattle.field.proofs.Base.{needs, refl}
 use Rattle.programs.proofs.Cutting.{parts-start}
 use Rattle.programs.proofs.intake.take_text.Statement.{statement}
 use Rattle.programs.proofs.intake.take_text.Tie as tie

@@ -1,6 +1,5 @@
 -- `programs::message::looks_old` meets its contract. Assumes nothing.
-use Prim.Native.Nat.{_%_}
-use borrow.Author.Tests.{ne-eqb}
+use Rattle.field.proofs.Base.{_%_, ne-eqb}
 use Rattle.programs.proofs.message.looks_old.Statement.{statement}
 use Rattle.programs.proofs.message.looks_old.Tie as tie
 

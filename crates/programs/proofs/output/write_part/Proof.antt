@@ -1,9 +1,5 @@
 -- `programs::output::write_part` meets its contract. Assumes nothing.
-use borrow.Author.Needs.{needs}
-use native.Mathlib.Omega.{arith}
-use Prim.Native.Nat.{_-_, _≤_}
-use mathlib.Core.Bool.{false≢true}
-use lib.ListN.{length}
+use Rattle.field.proofs.Base.{needs, arith, _-_, _≤_, false≢true, length}
 use Rattle.programs.proofs.Streaming.{moved-some}
 use Rattle.programs.proofs.output.write_part.Statement.{statement}
 use Rattle.programs.proofs.output.write_part.Tie as tie

@@ -1,6 +1,5 @@
 -- `programs::output::write_some` meets its contract. Assumes nothing.
-use borrow.Author.Needs.{needs}
-use Prim.Native.Nat.{_-_}
+use Rattle.field.proofs.Base.{needs, _-_}
 use Rattle.programs.proofs.Streaming.{moved-within}
 use Rattle.programs.proofs.output.write_some.Statement.{statement}
 use Rattle.programs.proofs.output.write_some.Tie as tie

@@ -1,8 +1,5 @@
 -- `programs::seek::keep_slot` meets its contract. Assumes nothing.
-use borrow.Author.Needs.{needs}
-use mathlib.Core.Path.{_∙_, ap}
-use native.Mathlib.Omega.{arith}
-use lib.ListN.{length}
+use Rattle.field.proofs.Base.{needs, _∙_, ap, arith, length}
 use Rattle.card.proofs.Writing.{writes-fits}
 use Rattle.programs.proofs.Seeking.{slot-none, slot-short}
 use Rattle.programs.proofs.Batches.{front-text}

@@ -1,9 +1,5 @@
 -- `programs::seek::number_in` meets its contract. Assumes nothing.
-use borrow.Author.Needs.{needs}
-use mathlib.Core.Path.{_≡_, refl}
-use Prim.Native.Nat.{_+_, _-_, _*_, _≤_}
-use native.Mathlib.Omega.{arith}
-use lib.ListN.{length, drop}
+use Rattle.field.proofs.Base.{needs, _≡_, refl, _+_, _-_, _*_, _≤_, arith, length, drop}
 use Rattle.programs.proofs.Seeking.{number-low, number-high, number-large, number-on, number-all}
 use Rattle.programs.specs.Seek.{mostBefore, numberFrom}
 use Rattle.programs.proofs.seek.number_in.Statement.{statement}

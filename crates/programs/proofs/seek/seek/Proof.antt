@@ -1,9 +1,5 @@
 -- `programs::seek::seek` meets its contract. Assumes nothing.
-use borrow.Author.Needs.{needs}
-use mathlib.Core.Path.{_≡_, refl, _∙_, ap}
-use Prim.Native.Nat.{_-_, _≤_}
-use native.Mathlib.Omega.{arith}
-use lib.ListN.{length}
+use Rattle.field.proofs.Base.{needs, _≡_, refl, _∙_, ap, _-_, _≤_, arith, length}
 use Rattle.card.specs.Batch.{mostBatches}
 use Rattle.programs.proofs.Seeking.{Passed, passed-none, passed-readable, seeks-some, seeks-none, passed-more}
 use Rattle.programs.proofs.Batches.{denied-no}

@@ -1,6 +1,5 @@
 -- `programs::turn::begin` meets its contract. Assumes nothing.
-use borrow.Author.Needs.{needs}
-use mathlib.Core.Path.{refl, ap}
+use Rattle.field.proofs.Base.{needs, refl, ap}
 use Rattle.programs.specs.declared.input.Input.{Input}
 use Rattle.programs.specs.declared.output.Output.{Output}
 use Rattle.programs.proofs.turn.begin.Statement.{statement}

@@ -1,5 +1,5 @@
 -- `report::compare::ask_into` meets its contract. Assumes nothing.
-use borrow.Author.Needs.{needs}
+use Rattle.field.proofs.Base.{needs}
 use Rattle.report.proofs.Comparing.{into-yes, into-length, into-no}
 use Rattle.report.proofs.compare.ask_into.Statement.{statement}
 use Rattle.report.proofs.compare.ask_into.Tie as tie

@@ -1,5 +1,5 @@
 -- `report::compare::ask_numbers` meets its contract. Assumes nothing.
-use borrow.Author.Needs.{needs}
+use Rattle.field.proofs.Base.{needs}
 use Rattle.report.proofs.Comparing.{numbers-first, numbers-pass, numbers-second}
 use Rattle.report.proofs.compare.ask_numbers.Statement.{statement}
 use Rattle.report.proofs.compare.ask_numbers.Tie as tie

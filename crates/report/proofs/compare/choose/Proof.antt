@@ -1,5 +1,5 @@
 -- `report::compare::choose` meets its contract. Assumes nothing.
-use borrow.Author.Tests.{le-leb, lt-leb}
+use Rattle.field.proofs.Base.{le-leb, lt-leb}
 use Rattle.report.proofs.compare.choose.Statement.{statement}
 use Rattle.report.proofs.compare.choose.Tie as tie
 

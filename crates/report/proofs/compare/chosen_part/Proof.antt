@@ -1,5 +1,5 @@
 -- `report::compare::chosen_part` meets its contract. Assumes nothing.
-use borrow.Author.Needs.{needs}
+use Rattle.field.proofs.Base.{needs}
 use Rattle.report.proofs.Comparing.{part-controller, part-cupboard, part-none}
 use Rattle.report.proofs.compare.chosen_part.Statement.{statement}
 use Rattle.report.proofs.compare.chosen_part.Tie as tie

@@ -1,5 +1,5 @@
 -- `report::compare::compare` meets its contract. Assumes nothing.
-use borrow.Author.Needs.{needs}
+use Rattle.field.proofs.Base.{needs}
 use Rattle.report.proofs.Comparing.{compares, compares-refused}
 use Rattle.report.proofs.compare.compare.Statement.{statement}
 use Rattle.report.proofs.compare.compare.Tie as tie

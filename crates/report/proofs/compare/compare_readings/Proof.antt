@@ -1,5 +1,5 @@
 -- `report::compare::compare_readings` meets its contract. Assumes nothing.
-use borrow.Author.Needs.{needs}
+use Rattle.field.proofs.Base.{needs}
 use Rattle.report.proofs.Comparing.{shows-first, shows-second, shows-both}
 use Rattle.report.proofs.compare.compare_readings.Statement.{statement}
 use Rattle.report.proofs.compare.compare_readings.Tie as tie

@@ -1,10 +1,5 @@
 -- `report::compare::count` meets its contract. Before turn i the sign stood n times. Assumes nothing.
-use borrow.Author.Needs.{needs}
-use mathlib.Core.Path.{_≡_}
-use mathlib.Core.Logic.{⊎-elim}
-use Prim.Native.Nat.{_+_, _-_, _≤_}
-use native.Mathlib.Omega.{arith}
-use lib.ListN.{length, drop}
+use Rattle.field.proofs.Base.{needs, _≡_, ⊎-elim, _+_, _-_, _≤_, arith, length, drop}
 use Rattle.code.specs.Demands.{occurs}
 use Rattle.report.proofs.Comparing.{occurs-start, occurs-yes, occurs-no, occurs-end}
 use Rattle.report.proofs.compare.count.Statement.{statement}

@@ -1,6 +1,5 @@
 -- `report::compare::same_day` meets its contract. Assumes nothing.
-use borrow.Author.Needs.{needs}
-use borrow.Author.Tests.{eq-eqb, ne-eqb}
+use Rattle.field.proofs.Base.{needs, eq-eqb, ne-eqb}
 use Rattle.report.proofs.Comparing.{same-pump}
 use Rattle.report.proofs.compare.same_day.Statement.{statement}
 use Rattle.report.proofs.compare.same_day.Tie as tie

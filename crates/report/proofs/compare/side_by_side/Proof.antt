@@ -1,5 +1,5 @@
 -- `report::compare::side_by_side` meets its contract. Assumes nothing.
-use borrow.Author.Needs.{needs}
+use Rattle.field.proofs.Base.{needs}
 use Rattle.report.proofs.Comparing.{shows-other, shows-same}
 use Rattle.report.proofs.compare.side_by_side.Statement.{statement}
 use Rattle.report.proofs.compare.side_by_side.Tie as tie

@@ -1,5 +1,5 @@
 -- `report::compare::sign` meets its contract. Assumes nothing.
-use borrow.Author.Tests.{lt-ltb, le-ltb}
+use Rattle.field.proofs.Base.{lt-ltb, le-ltb}
 use Rattle.report.proofs.compare.sign.Statement.{statement}
 use Rattle.report.proofs.compare.sign.Tie as tie
 

@@ -1,7 +1,5 @@
 -- `report::compare::sign_row` meets its contract. Assumes nothing.
-use borrow.Author.Needs.{needs}
-use Prim.Native.Nat.{ℕ, _-_}
-use lib.ListN.{getD}
+use Rattle.field.proofs.Base.{needs, ℕ, _-_, getD}
 use Rattle.code.proofs.Loops.{Filled, filled-start, filled-on, filled-end}
 use Rattle.sheet.specs.Sheet.{quarters}
 use Rattle.report.specs.Compare.{signOf, sheetSigns}

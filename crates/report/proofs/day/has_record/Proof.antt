@@ -1,7 +1,5 @@
 -- `report::day::has_record` meets its contract. Assumes nothing.
-use borrow.Author.Needs.{needs}
-use mathlib.Core.Path.{ap, _∙_}
-use Prim.Native.Nat.{ℕ}
+use Rattle.field.proofs.Base.{needs, ap, _∙_, ℕ}
 use Rattle.card.specs.Card.{isNumber}
 use Rattle.report.proofs.day.has_record.Statement.{statement}
 use Rattle.report.proofs.day.has_record.Tie as tie

@@ -1,5 +1,5 @@
 -- `report::day::read_day` meets its contract. Assumes nothing.
-use borrow.Author.Needs.{needs}
+use Rattle.field.proofs.Base.{needs}
 use Rattle.report.proofs.Days.{copied-whole, day-restored, day-refused}
 use Rattle.report.proofs.day.read_day.Statement.{statement}
 use Rattle.report.proofs.day.read_day.Tie as tie

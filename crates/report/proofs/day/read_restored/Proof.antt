@@ -1,6 +1,5 @@
 -- `report::day::read_restored` meets its contract. Assumes nothing.
-use borrow.Author.Needs.{needs}
-use native.Mathlib.Omega.{arith}
+use Rattle.field.proofs.Base.{needs, arith}
 use Rattle.report.proofs.Days.{word-fits, word-long, restored-read, restored-refused}
 use Rattle.report.proofs.day.read_restored.Statement.{statement}
 use Rattle.report.proofs.day.read_restored.Tie as tie

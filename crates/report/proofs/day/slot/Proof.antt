@@ -1,10 +1,5 @@
 -- `report::day::slot` meets its contract. Assumes nothing.
-use borrow.Author.Needs.{needs}
-use mathlib.Core.Path.{sym, _∙_}
-use mathlib.Core.Bool.{false≢true}
-use Prim.Native.Nat.{_≤_}
-use native.Mathlib.Omega.{arith}
-use lib.ListN.{length}
+use Rattle.field.proofs.Base.{needs, sym, _∙_, false≢true, _≤_, arith, length}
 use Rattle.card.specs.Slots.{recordCount}
 use Rattle.card.proofs.Numbering.{number-low, number-high}
 use Rattle.report.proofs.Days.{slot-some, slot-none}

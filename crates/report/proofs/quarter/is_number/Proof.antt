@@ -1,11 +1,8 @@
 -- `report::quarter::is_number` meets its contract. Assumes nothing.
-use borrow.Author.Needs.{needs}
-use mathlib.Core.Path.{sym}
-use lib.Seq.{length-take-le}
+use Rattle.field.proofs.Base.{needs, sym, length-take-le, arith}
 use Rattle.card.proofs.Writing.{writes-fits, length-decimal}
 use Rattle.code.proofs.Same.{compared}
 use Rattle.report.proofs.Quarters.{text-taken}
-use native.Mathlib.Omega.{arith}
 use Rattle.report.proofs.quarter.is_number.Statement.{statement}
 use Rattle.report.proofs.quarter.is_number.Tie as tie
 

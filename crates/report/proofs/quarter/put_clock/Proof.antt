@@ -1,6 +1,5 @@
 -- `report::quarter::put_clock` meets its contract: hours and minutes stand one behind the other. Assumes nothing.
-use borrow.Author.Needs.{needs}
-use mathlib.Core.List.{append-assoc}
+use Rattle.field.proofs.Base.{needs, append-assoc}
 use Rattle.card.proofs.Writing.{writes-on}
 use Rattle.report.specs.Quarter.{clockText}
 use Rattle.report.proofs.quarter.put_clock.Statement.{statement}

@@ -1,11 +1,8 @@
 -- `report::quarter::quarter` meets its contract. Before a turn the text stands for no quarter hour from n on. Assumes nothing.
-use borrow.Author.Needs.{needs}
-use mathlib.Core.Path.{_≡_, refl, sym, _∙_, ap}
-use Prim.Native.Nat.{_+_, _≤_}
+use Rattle.field.proofs.Base.{needs, _≡_, refl, sym, _∙_, ap, _+_, _≤_, arith}
 use Rattle.sheet.specs.Sheet.{quarters}
 use Rattle.report.specs.Quarter.{quarterBelow, quarterOf}
 use Rattle.report.proofs.Quarters.{found, passed, none}
-use native.Mathlib.Omega.{arith}
 use Rattle.report.proofs.quarter.quarter.Statement.{statement}
 use Rattle.report.proofs.quarter.quarter.Tie as tie
 

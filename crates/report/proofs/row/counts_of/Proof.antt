@@ -1,8 +1,5 @@
 -- `report::row::counts_of` meets its contract. Assumes nothing.
-use borrow.Author.Needs.{needs}
-use native.Mathlib.Omega.{arith}
-use Prim.Native.Nat.{_-_}
-use lib.ListN.{length}
+use Rattle.field.proofs.Base.{needs, arith, _-_, length}
 use Rattle.report.proofs.Counting.{Counted, counted-start, counted-on, counted-end}
 use Rattle.report.proofs.row.counts_of.Statement.{statement}
 use Rattle.report.proofs.row.counts_of.Tie as tie

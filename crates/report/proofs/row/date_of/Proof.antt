@@ -1,5 +1,5 @@
 -- `report::row::date_of` meets its contract. Assumes nothing.
-use borrow.Author.Needs.{needs}
+use Rattle.field.proofs.Base.{needs}
 use Rattle.report.proofs.Counting.{date-made}
 use Rattle.report.proofs.row.date_of.Statement.{statement}
 use Rattle.report.proofs.row.date_of.Tie as tie

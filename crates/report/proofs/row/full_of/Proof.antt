@@ -1,6 +1,5 @@
 -- `report::row::full_of` meets its contract. Assumes nothing.
-use mathlib.Core.Path.{sym}
-use borrow.Author.Tests.{eq-eqb, ne-eqb}
+use Rattle.field.proofs.Base.{sym, eq-eqb, ne-eqb}
 use Rattle.report.proofs.row.full_of.Statement.{statement}
 use Rattle.report.proofs.row.full_of.Tie as tie
 

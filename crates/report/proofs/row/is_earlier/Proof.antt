@@ -1,5 +1,5 @@
 -- `report::row::is_earlier` meets its contract. Assumes nothing.
-use mathlib.Core.Path.{sym, _∙_}
+use Rattle.field.proofs.Base.{sym, _∙_}
 use Rattle.report.specs.Window.{earlier}
 use Rattle.report.proofs.Order.{below-same, below-other}
 use Rattle.report.proofs.row.is_earlier.Statement.{statement}

@@ -1,6 +1,5 @@
 -- `report::row::is_window` meets its contract. Assumes nothing.
-use borrow.Author.Needs.{needs}
-use borrow.Author.Tests.{lt-ltb, le-ltb}
+use Rattle.field.proofs.Base.{needs, lt-ltb, le-ltb}
 use Rattle.report.proofs.row.is_window.Statement.{statement}
 use Rattle.report.proofs.row.is_window.Tie as tie
 

@@ -1,7 +1,5 @@
 -- `report::row::put_row` meets its contract. Assumes nothing.
-use borrow.Author.Needs.{needs}
-use native.Mathlib.Omega.{arith}
-use lib.ListN.{length-set}
+use Rattle.field.proofs.Base.{needs, arith, length-set}
 use Rattle.report.proofs.Reports.{row-stored}
 use Rattle.report.proofs.row.put_row.Statement.{statement}
 use Rattle.report.proofs.row.put_row.Tie as tie

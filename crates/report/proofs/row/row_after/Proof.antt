@@ -1,5 +1,5 @@
 -- `report::row::row_after` meets its contract. Assumes nothing.
-use borrow.Author.Needs.{needs}
+use Rattle.field.proofs.Base.{needs}
 use Rattle.report.proofs.Counting.{row-made}
 use Rattle.report.proofs.row.row_after.Statement.{statement}
 use Rattle.report.proofs.row.row_after.Tie as tie

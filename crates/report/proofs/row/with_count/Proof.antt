@@ -1,7 +1,5 @@
 -- `report::row::with_count` meets its contract. Assumes nothing.
-use borrow.Author.Needs.{needs}
-use native.Mathlib.Omega.{arith}
-use lib.Dec.{eqb}
+use Rattle.field.proofs.Base.{needs, arith, eqb}
 use Rattle.report.specs.Window.{fullCount}
 use Rattle.report.proofs.Counting.{one-most, counts-made}
 use Rattle.report.proofs.row.with_count.Statement.{statement}

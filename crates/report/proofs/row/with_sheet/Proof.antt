@@ -1,6 +1,5 @@
 -- `report::row::with_sheet` meets its contract. Assumes nothing.
-use borrow.Author.Needs.{needs}
-use native.Mathlib.Omega.{arith}
+use Rattle.field.proofs.Base.{needs, arith}
 use Rattle.report.proofs.Counting.{window-first, window-end, counts-long, counts-fit, row-with}
 use Rattle.report.proofs.row.with_sheet.Statement.{statement}
 use Rattle.report.proofs.row.with_sheet.Tie as tie

@@ -1,9 +1,7 @@
 -- `report::table::put_counts` meets its contract: the five fields stand one behind the other. Assumes nothing.
-use borrow.Author.Needs.{needs}
-use mathlib.Core.List.{append-assoc}
+use Rattle.field.proofs.Base.{needs, append-assoc, arith}
 use Rattle.card.proofs.Writing.{writes-on}
 use Rattle.report.specs.Table.{countFields}
-use native.Mathlib.Omega.{arith}
 use Rattle.report.proofs.table.put_counts.Statement.{statement}
 use Rattle.report.proofs.table.put_counts.Tie as tie
 

@@ -1,9 +1,7 @@
 -- `report::table::put_date` meets its contract: year, month and day stand one behind the other. Assumes nothing.
-use borrow.Author.Needs.{needs}
-use mathlib.Core.List.{append-assoc}
+use Rattle.field.proofs.Base.{needs, append-assoc, arith}
 use Rattle.card.proofs.Writing.{writes-on}
 use Rattle.report.specs.Table.{dateText}
-use native.Mathlib.Omega.{arith}
 use Rattle.report.proofs.table.put_date.Statement.{statement}
 use Rattle.report.proofs.table.put_date.Tie as tie
 

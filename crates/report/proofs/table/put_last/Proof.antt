@@ -1,7 +1,5 @@
 -- `report::table::put_last` meets its contract: the lines stand one behind the other. Assumes nothing.
-use borrow.Author.Needs.{needs}
-use borrow.Author.Tests.{eq-eqb, ne-eqb}
-use mathlib.Core.List.{append-assoc}
+use Rattle.field.proofs.Base.{needs, eq-eqb, ne-eqb, append-assoc}
 use Rattle.card.proofs.Writing.{writes-on}
 use Rattle.report.proofs.Tables.{last-two, last-more}
 use Rattle.report.proofs.table.put_last.Statement.{statement}

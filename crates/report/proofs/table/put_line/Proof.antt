@@ -1,6 +1,5 @@
 -- `report::table::put_line` meets its contract: the columns stand one behind the other. Assumes nothing.
-use borrow.Author.Needs.{needs}
-use mathlib.Core.List.{append-assoc}
+use Rattle.field.proofs.Base.{needs, append-assoc}
 use Rattle.card.proofs.Writing.{writes-on}
 use Rattle.report.specs.Table.{rowLine}
 use Rattle.report.proofs.table.put_line.Statement.{statement}

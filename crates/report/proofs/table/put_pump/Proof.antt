@@ -1,11 +1,8 @@
 -- `report::table::put_pump` meets its contract. Assumes nothing.
-use borrow.Author.Needs.{needs}
-use borrow.Author.Tests.{eq-eqb, ne-eqb}
-use Prim.Native.Nat.{_^_}
+use Rattle.field.proofs.Base.{needs, eq-eqb, ne-eqb, _^_, arith}
 use Rattle.card.proofs.Writing.{writes-none}
 use Rattle.report.proofs.Reports.{row-read, year-most}
 use Rattle.report.proofs.Tables.{pump-none, pump-line}
-use native.Mathlib.Omega.{arith}
 use Rattle.report.proofs.table.put_pump.Statement.{statement}
 use Rattle.report.proofs.table.put_pump.Tie as tie
 

@@ -1,13 +1,9 @@
 -- `report::table::put_pumps` meets its contract. Before turn p the lines of the pumps below p are written. Assumes nothing.
-use borrow.Author.Needs.{needs}
-use mathlib.Core.Path.{_≡_, refl}
-use Prim.Native.Nat.{_-_, _≤_}
-use lib.ListN.{length}
+use Rattle.field.proofs.Base.{needs, _≡_, refl, _-_, _≤_, length, arith}
 use Rattle.card.specs.Placed.{Writes}
 use Rattle.report.specs.Window.{pumps}
 use Rattle.report.specs.Table.{pumpLines}
 use Rattle.report.proofs.Tables.{lines-short, lines-none, lines-more}
-use native.Mathlib.Omega.{arith}
 use Rattle.report.proofs.table.put_pumps.Statement.{statement}
 use Rattle.report.proofs.table.put_pumps.Tie as tie
 

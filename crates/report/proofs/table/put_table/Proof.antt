@@ -1,11 +1,9 @@
 -- `report::table::put_table` meets its contract: header, lines of the pumps and last lines stand one behind the other. Assumes nothing.
-use borrow.Author.Needs.{needs}
-use mathlib.Core.List.{append-assoc}
+use Rattle.field.proofs.Base.{needs, append-assoc, arith}
 use Rattle.card.proofs.Writing.{writes-on}
 use Rattle.report.specs.Window.{pumps}
 use Rattle.report.specs.Table.{tableText}
 use Rattle.report.proofs.Tables.{lines-short}
-use native.Mathlib.Omega.{arith}
 use Rattle.report.proofs.table.put_table.Statement.{statement}
 use Rattle.report.proofs.table.put_table.Tie as tie
 

@@ -1,8 +1,7 @@
 -- `report::table::put_two` meets its contract: a zero is put before a single digit. Assumes nothing.
-use borrow.Author.Needs.{needs}
+use Rattle.field.proofs.Base.{needs, arith}
 use Rattle.card.proofs.Writing.{writes-on, length-one, length-decimal}
 use Rattle.report.proofs.Tables.{two-one, two-more}
-use native.Mathlib.Omega.{arith}
 use Rattle.report.proofs.table.put_two.Statement.{statement}
 use Rattle.report.proofs.table.put_two.Tie as tie
 

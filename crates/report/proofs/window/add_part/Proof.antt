@@ -1,9 +1,5 @@
 -- `report::window::add_part` meets its contract. Before turn i the first i slots have entered. Assumes nothing.
-use borrow.Author.Needs.{needs}
-use mathlib.Core.Path.{_≡_, refl, ap, _∙_, sym, subst}
-use native.Mathlib.Omega.{arith}
-use Prim.Native.Nat.{_+_, _-_, _*_, _^_, _≤_}
-use lib.ListN.{length}
+use Rattle.field.proofs.Base.{needs, _≡_, refl, ap, _∙_, sym, subst, arith, _+_, _-_, _*_, _^_, _≤_, length}
 use Rattle.card.specs.Record.{erasureBytes}
 use Rattle.card.specs.Slots.{recordCount}
 use Rattle.card.proofs.Folding.{over-none, over-on}

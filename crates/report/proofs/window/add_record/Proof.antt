@@ -1,8 +1,5 @@
 -- `report::window::add_record` meets its contract. Assumes nothing.
-use borrow.Author.Needs.{needs}
-use mathlib.Core.Path.{ap, _∙_, sym}
-use native.Mathlib.Omega.{arith}
-use Prim.Native.Nat.{_^_}
+use Rattle.field.proofs.Base.{needs, ap, _∙_, sym, arith, _^_}
 use Rattle.report.specs.Day.{dayOf}
 use Rattle.report.specs.Window.{dayAdded}
 use Rattle.report.proofs.Days.{told-sheet, told-refused, is-sheet}

@@ -1,8 +1,5 @@
 -- `report::window::add_sheet` meets its contract. Assumes nothing.
-use borrow.Author.Needs.{needs}
-use mathlib.Core.Path.{ap, _∙_, sym, subst}
-use native.Mathlib.Omega.{arith}
-use Prim.Native.Nat.{_^_}
+use Rattle.field.proofs.Base.{needs, ap, _∙_, sym, subst, arith, _^_}
 use Rattle.code.specs.Word.{at}
 use Rattle.sheet.specs.Sheet.{pumpAt}
 use Rattle.report.specs.inner.Room.{Most}

@@ -1,7 +1,5 @@
 -- `report::window::add_slot` meets its contract. Assumes nothing.
-use borrow.Author.Needs.{needs}
-use native.Mathlib.Omega.{arith}
-use Prim.Native.Nat.{_^_}
+use Rattle.field.proofs.Base.{needs, arith, _^_}
 use Rattle.report.proofs.Reports.{within-at, slot-blank, slot-record}
 use Rattle.report.proofs.window.add_slot.Statement.{statement}
 use Rattle.report.proofs.window.add_slot.Tie as tie

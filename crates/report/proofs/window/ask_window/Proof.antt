@@ -1,5 +1,5 @@
 -- `report::window::ask_window` meets its contract. Assumes nothing.
-use borrow.Author.Needs.{needs}
+use Rattle.field.proofs.Base.{needs}
 use Rattle.report.proofs.Counting.{window-none, window-length, window-pass}
 use Rattle.report.proofs.window.ask_window.Statement.{statement}
 use Rattle.report.proofs.window.ask_window.Tie as tie

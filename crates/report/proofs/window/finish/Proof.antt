@@ -1,6 +1,5 @@
 -- `report::window::finish` meets its contract. Assumes nothing.
-use borrow.Author.Needs.{needs}
-use mathlib.Core.Path.{sym, ap}
+use Rattle.field.proofs.Base.{needs, sym, ap}
 use Rattle.report.specs.Window.{finished}
 use Rattle.report.proofs.window.finish.Statement.{statement}
 use Rattle.report.proofs.window.finish.Tie as tie

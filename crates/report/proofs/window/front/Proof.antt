@@ -1,7 +1,5 @@
 -- `report::window::front` meets its contract. Assumes nothing.
-use borrow.Author.Needs.{needs}
-use mathlib.Core.Path.{sym}
-use lib.Seq.{length-take-le}
+use Rattle.field.proofs.Base.{needs, sym, length-take-le}
 use Rattle.report.proofs.window.front.Statement.{statement}
 use Rattle.report.proofs.window.front.Tie as tie
 

@@ -1,5 +1,5 @@
 -- `report::window::window` meets its contract. Assumes nothing.
-use borrow.Author.Needs.{needs}
+use Rattle.field.proofs.Base.{needs}
 use Rattle.report.proofs.Reports.{asked-window, asked-size, window-reported, window-refused}
 use Rattle.report.proofs.window.window.Statement.{statement}
 use Rattle.report.proofs.window.window.Tie as tie

@@ -1,9 +1,5 @@
 -- `report::window::write_report` meets its contract. Assumes nothing.
-use borrow.Author.Needs.{needs}
-use mathlib.Core.Path.{refl}
-use native.Mathlib.Omega.{arith}
-use Prim.Native.Nat.{_^_}
-use lib.ListN.{length}
+use Rattle.field.proofs.Base.{needs, refl, arith, _^_, length}
 use Rattle.report.proofs.Reports.{zeros-ready, report-short, front-most, report-long}
 use Rattle.report.proofs.window.write_report.Statement.{statement}
 use Rattle.report.proofs.window.write_report.Tie as tie

@@ -1,5 +1,5 @@
 -- `sheet::calendar::date_exists` meets its contract. Assumes nothing.
-use borrow.Author.Needs.{needs}
+use Rattle.field.proofs.Base.{needs}
 use Rattle.sheet.proofs.Dates.{date-zero, date-some}
 use Rattle.sheet.proofs.calendar.date_exists.Statement.{statement}
 use Rattle.sheet.proofs.calendar.date_exists.Tie as tie

@@ -1,6 +1,5 @@
 -- `sheet::calendar::days_in` meets its contract. Assumes nothing.
-use borrow.Author.Needs.{needs}
-use mathlib.Core.Bool.{true, false}
+use Rattle.field.proofs.Base.{needs, true, false}
 use Rattle.sheet.proofs.Dates.{days-thirty, days-february, days-to-july, days-from-august, days-none}
 use Rattle.sheet.proofs.calendar.days_in.Statement.{statement}
 use Rattle.sheet.proofs.calendar.days_in.Tie as tie

@@ -1,5 +1,5 @@
 -- `sheet::calendar::is_leap` meets its contract. Assumes nothing.
-use borrow.Author.Needs.{needs}
+use Rattle.field.proofs.Base.{needs}
 use Rattle.sheet.proofs.Dates.{leap-not-fourth, leap-fourth, leap-hundred}
 use Rattle.sheet.proofs.calendar.is_leap.Statement.{statement}
 use Rattle.sheet.proofs.calendar.is_leap.Tie as tie

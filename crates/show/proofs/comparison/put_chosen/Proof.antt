@@ -1,7 +1,5 @@
 -- `show::comparison::put_chosen` meets its contract. Assumes nothing.
-use borrow.Author.Needs.{needs}
-use mathlib.Core.Path.{ap}
-use native.Mathlib.Omega.{arith}
+use Rattle.field.proofs.Base.{needs, ap, arith}
 use Rattle.card.proofs.Writing.{writes-none}
 use Rattle.report.specs.Compare.{choice}
 use Rattle.report.specs.declared.compare.Choice.{Choice}

@@ -1,6 +1,5 @@
 -- `show::comparison::put_comparison` meets its contract. Assumes nothing.
-use borrow.Author.Needs.{needs}
-use mathlib.Core.Path.{sym}
+use Rattle.field.proofs.Base.{needs, sym}
 use Rattle.show.proofs.Comparing.{read-sheets, read-text}
 use Rattle.show.proofs.comparison.put_comparison.Statement.{statement}
 use Rattle.show.proofs.comparison.put_comparison.Tie as tie

@@ -1,6 +1,5 @@
 -- `show::comparison::put_quarter` meets its contract. Assumes nothing.
-use borrow.Author.Needs.{needs}
-use native.Mathlib.Omega.{arith}
+use Rattle.field.proofs.Base.{needs, arith}
 use Rattle.card.proofs.Writing.{writes-none, writes-on}
 use Rattle.show.proofs.Comparing.{quarter-same, quarter-other}
 use Rattle.show.proofs.comparison.put_quarter.Statement.{statement}

@@ -1,5 +1,5 @@
 -- `show::comparison::put_sheets` meets its contract. Assumes nothing.
-use borrow.Author.Needs.{needs}
+use Rattle.field.proofs.Base.{needs}
 use Rattle.card.proofs.Writing.{writes-on}
 use Rattle.show.specs.Comparison.{besideText}
 use Rattle.show.proofs.comparison.put_sheets.Statement.{statement}

@@ -1,8 +1,5 @@
 -- `show::comparison::put_starts` meets its contract. Assumes nothing.
-use borrow.Author.Needs.{needs}
-use mathlib.Core.Path.{sym}
-use native.Mathlib.Omega.{arith}
-use lib.Seq.{length-take-le}
+use Rattle.field.proofs.Base.{needs, sym, arith, length-take-le}
 use Rattle.card.proofs.Writing.{writes-on}
 use Rattle.sheet.specs.Sheet.{quarters}
 use Rattle.show.specs.Comparison.{startsLine}

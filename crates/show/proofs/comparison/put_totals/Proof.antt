@@ -1,6 +1,5 @@
 -- `show::comparison::put_totals` meets its contract. Assumes nothing.
-use borrow.Author.Needs.{needs}
-use native.Mathlib.Omega.{arith}
+use Rattle.field.proofs.Base.{needs, arith}
 use Rattle.card.proofs.Writing.{writes-on}
 use Rattle.show.specs.Comparison.{totalsLine}
 use Rattle.show.proofs.comparison.put_totals.Statement.{statement}

@@ -1,8 +1,5 @@
 -- `show::comparison::starts_sum` meets its contract. Assumes nothing.
-use borrow.Author.Needs.{needs}
-use native.Mathlib.Omega.{arith}
-use Prim.Native.Nat.{_-_}
-use lib.ListN.{length}
+use Rattle.field.proofs.Base.{needs, arith, _-_, length}
 use Rattle.show.proofs.Comparing.{Summed, summed-none, summed-on, summed-all}
 use Rattle.show.proofs.comparison.starts_sum.Statement.{statement}
 use Rattle.show.proofs.comparison.starts_sum.Tie as tie

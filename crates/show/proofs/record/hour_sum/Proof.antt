@@ -1,8 +1,5 @@
 -- `show::record::hour_sum` meets its contract. Assumes nothing.
-use borrow.Author.Needs.{needs}
-use mathlib.Core.Path.{refl}
-use Prim.Native.Nat.{_+_, _*_}
-use native.Mathlib.Omega.{arith}
+use Rattle.field.proofs.Base.{needs, refl, _+_, _*_, arith}
 use Rattle.show.proofs.record.hour_sum.Statement.{statement}
 use Rattle.show.proofs.record.hour_sum.Tie as tie
 

@@ -1,6 +1,5 @@
 -- `show::record::named_count` meets its contract. Assumes nothing.
-use borrow.Author.Needs.{needs}
-use native.Mathlib.Omega.{arith}
+use Rattle.field.proofs.Base.{needs, arith}
 use Rattle.show.proofs.record.named_count.Statement.{statement}
 use Rattle.show.proofs.record.named_count.Tie as tie
 

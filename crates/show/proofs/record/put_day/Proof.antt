@@ -1,7 +1,5 @@
 -- `show::record::put_day` meets its contract. Assumes nothing.
-use borrow.Author.Needs.{needs}
-use mathlib.Core.Path.{ap}
-use native.Mathlib.Omega.{arith}
+use Rattle.field.proofs.Base.{needs, ap, arith}
 use Rattle.card.proofs.Writing.{writes-none}
 use Rattle.report.specs.Day.{dayOf}
 use Rattle.report.proofs.Days.{told-sheet, told-refused, is-sheet}

@@ -1,7 +1,5 @@
 -- `show::record::put_hour` meets its contract. Assumes nothing.
-use borrow.Author.Needs.{needs}
-use mathlib.Core.List.{append-assoc}
-use native.Mathlib.Omega.{arith}
+use Rattle.field.proofs.Base.{needs, append-assoc, arith}
 use Rattle.card.proofs.Writing.{writes-on}
 use Rattle.show.specs.Look.{hourLine}
 use Rattle.show.proofs.record.put_hour.Statement.{statement}

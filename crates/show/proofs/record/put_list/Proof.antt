@@ -1,6 +1,5 @@
 -- `show::record::put_list` meets its contract. Assumes nothing.
-use borrow.Author.Needs.{needs}
-use native.Mathlib.Omega.{arith}
+use Rattle.field.proofs.Base.{needs, arith}
 use Rattle.card.proofs.Writing.{writes-on}
 use Rattle.show.proofs.Looking.{listed-none, listed-some}
 use Rattle.show.proofs.record.put_list.Statement.{statement}

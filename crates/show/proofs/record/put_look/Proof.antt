@@ -1,6 +1,5 @@
 -- `show::record::put_look` meets its contract. Assumes nothing.
-use borrow.Author.Needs.{needs}
-use mathlib.Core.List.{append-assoc}
+use Rattle.field.proofs.Base.{needs, append-assoc}
 use Rattle.card.proofs.Writing.{writes-on}
 use Rattle.show.proofs.Looking.{look-blank, look-written}
 use Rattle.show.proofs.record.put_look.Statement.{statement}

@@ -1,9 +1,5 @@
 -- `show::record::put_numbers` meets its contract. Assumes nothing.
-use borrow.Author.Needs.{needs}
-use mathlib.Core.Path.{_≡_, refl}
-use Prim.Native.Nat.{_+_, _-_, _*_, _≤_}
-use native.Mathlib.Omega.{arith}
-use lib.ListN.{length}
+use Rattle.field.proofs.Base.{needs, _≡_, refl, _+_, _-_, _*_, _≤_, arith, length}
 use Rattle.card.proofs.Writing.{writes-length}
 use Rattle.card.specs.Placed.{Writes}
 use Rattle.show.proofs.Texts.{texts-none, texts-more}

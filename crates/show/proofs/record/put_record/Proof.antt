@@ -1,5 +1,5 @@
 -- `show::record::put_record` meets its contract. Assumes nothing.
-use borrow.Author.Needs.{needs}
+use Rattle.field.proofs.Base.{needs}
 use Rattle.card.proofs.Writing.{writes-on}
 use Rattle.show.proofs.record.put_record.Statement.{statement}
 use Rattle.show.proofs.record.put_record.Tie as tie

@@ -1,5 +1,5 @@
 -- `show::record::put_refused` meets its contract. Assumes nothing.
-use borrow.Author.Needs.{needs}
+use Rattle.field.proofs.Base.{needs}
 use Rattle.card.proofs.Writing.{writes-on}
 use Rattle.show.specs.Look.{refusedText}
 use Rattle.show.proofs.record.put_refused.Statement.{statement}

@@ -1,6 +1,5 @@
 -- `show::record::put_sheet` meets its contract. Assumes nothing.
-use borrow.Author.Needs.{needs}
-use native.Mathlib.Omega.{arith}
+use Rattle.field.proofs.Base.{needs, arith}
 use Rattle.card.proofs.Writing.{writes-on}
 use Rattle.show.specs.Look.{sheetLines}
 use Rattle.show.proofs.record.put_sheet.Statement.{statement}

@@ -1,7 +1,5 @@
 -- `show::record::put_syndromes` meets its contract. Assumes nothing.
-use borrow.Author.Needs.{needs}
-use native.Mathlib.Omega.{arith}
-use lib.ListN.{getD}
+use Rattle.field.proofs.Base.{needs, arith, getD}
 use Rattle.card.proofs.Writing.{writes-on, writes-none}
 use Rattle.code.proofs.Lengths.{length-most}
 use Rattle.show.proofs.Looking.{shows-all, syndromes-shown, syndromes-hidden}

@@ -1,7 +1,5 @@
 -- `show::text::put_dated` meets its contract. Assumes nothing.
-use borrow.Author.Needs.{needs}
-use mathlib.Core.List.{append-assoc}
-use native.Mathlib.Omega.{arith}
+use Rattle.field.proofs.Base.{needs, append-assoc, arith}
 use Rattle.card.proofs.Writing.{writes-on}
 use Rattle.show.specs.Text.{datedLines}
 use Rattle.show.proofs.text.put_dated.Statement.{statement}

@@ -1,6 +1,5 @@
 -- `show::text::put_labelled` meets its contract. Assumes nothing.
-use borrow.Author.Needs.{needs}
-use native.Mathlib.Omega.{arith}
+use Rattle.field.proofs.Base.{needs, arith}
 use Rattle.card.proofs.Writing.{writes-on, length-decimal}
 use Rattle.show.proofs.text.put_labelled.Statement.{statement}
 use Rattle.show.proofs.text.put_labelled.Tie as tie

@@ -1,5 +1,5 @@
 -- `walk::Walk::step` meets its contract: up to two, each record gets its own reach. Assumes nothing.
-use borrow.Author.Needs.{needs}
+use Rattle.field.proofs.Base.{needs}
 use Rattle.walk.proofs.Tallying.{steps-two}
 use Rattle.walk.proofs.Walk.step.Statement.{statement}
 use Rattle.walk.proofs.Walk.step.Tie as tie

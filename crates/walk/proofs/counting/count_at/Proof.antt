@@ -1,5 +1,5 @@
 -- `walk::counting::count_at` meets its contract. Assumes nothing.
-use borrow.Author.Needs.{needs}
+use Rattle.field.proofs.Base.{needs}
 use Rattle.walk.proofs.Tallying.{counts-last, counts-whole}
 use Rattle.walk.proofs.counting.count_at.Statement.{statement}
 use Rattle.walk.proofs.counting.count_at.Tie as tie

@@ -1,9 +1,5 @@
 -- `walk::counting::count_from` meets its contract. Assumes nothing.
-use borrow.Author.Needs.{needs}
-use mathlib.Core.Path.{_≡_, refl}
-use Prim.Native.Nat.{_-_, _*_, _^_, _≤_}
-use native.Mathlib.Omega.{arith}
-use lib.ListN.{length}
+use Rattle.field.proofs.Base.{needs, _≡_, refl, _-_, _*_, _^_, _≤_, arith, length}
 use Rattle.walk.specs.inner.Parts.{CountsFrom}
 use Rattle.walk.proofs.Tallying.{counts-none, counts-within, counts-on, counts-end}
 use Rattle.walk.proofs.counting.count_from.Statement.{statement}

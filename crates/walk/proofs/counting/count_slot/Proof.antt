@@ -1,5 +1,5 @@
 -- `walk::counting::count_slot` meets its contract. Assumes nothing.
-use borrow.Author.Needs.{needs}
+use Rattle.field.proofs.Base.{needs}
 use Rattle.walk.proofs.Tallying.{counts-blank, counts-record}
 use Rattle.walk.proofs.counting.count_slot.Statement.{statement}
 use Rattle.walk.proofs.counting.count_slot.Tie as tie

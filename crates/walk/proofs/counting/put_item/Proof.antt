@@ -1,5 +1,5 @@
 -- `walk::counting::put_item` meets its contract: a word and a field stand one behind the other. Assumes nothing.
-use borrow.Author.Needs.{needs}
+use Rattle.field.proofs.Base.{needs}
 use Rattle.card.proofs.Writing.{writes-on}
 use Rattle.walk.proofs.counting.put_item.Statement.{statement}
 use Rattle.walk.proofs.counting.put_item.Tie as tie

@@ -1,6 +1,5 @@
 -- `walk::counting::put_restored` meets its contract: four items stand one behind the other. Assumes nothing.
-use borrow.Author.Needs.{needs}
-use mathlib.Core.List.{append-assoc}
+use Rattle.field.proofs.Base.{needs, append-assoc}
 use Rattle.card.proofs.Writing.{writes-on}
 use Rattle.walk.proofs.counting.put_restored.Statement.{statement}
 use Rattle.walk.proofs.counting.put_restored.Tie as tie

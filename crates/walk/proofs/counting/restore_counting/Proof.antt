@@ -1,8 +1,5 @@
 -- `walk::counting::restore_counting` meets its contract. Assumes nothing.
-use borrow.Author.Needs.{needs}
-use Prim.Native.Nat.{_+_, _-_, _*_, _^_}
-use native.Mathlib.Omega.{arith}
-use lib.ListN.{length}
+use Rattle.field.proofs.Base.{needs, _+_, _-_, _*_, _^_, arith, length}
 use Rattle.card.specs.Slots.{recordCount}
 use Rattle.walk.proofs.Tallying.{Walked, walked-start, walked-long, walked-within, walked-on, walked-further, walked-end}
 use Rattle.walk.proofs.counting.restore_counting.Statement.{statement}
