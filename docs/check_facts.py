@@ -124,7 +124,8 @@ def benchmarks(tree):
     for sentence in re.findall(r"[^.;]*\bnot timed\b[^.;]*", text):
         timed = not any(column in " ".join(sentence.split()) for column in empty)
         yield not timed, document, f"no column is empty that is not timed: {' '.join(sentence.split())}"
-    yield "cleared" in text, document, "whether buffers are cleared first is not said"
+    for said, whose in ((r"\bclears the buffers\b", "a program's buffer"), (r"\boutput is (?:not )?cleared\b", "a call's output")):
+        yield re.search(said, " ".join(text.split())), document, f"not said of {whose}: whether it is cleared first"
 
 
 def sentences(tree):
@@ -140,4 +141,14 @@ def sentences(tree):
             yield not left, document, f"of names with two meanings {', '.join(left)} is left out: {' '.join(sentence.split())}"
 
 
-FACTS = (arrows, additions, public_functions, statuses, promises, benchmarks, sentences)
+def entries(tree):
+    """An entry of a landing has its check times, and what moved or is new and what stayed; the first had nothing before it."""
+    for entry in re.split(r"^### ", tree.read("CHANGELOG.md"), flags=re.M)[1:]:
+        title, _, said = entry.split("\n## ")[0].partition("\n")
+        wanted = {r"^- Check\b": "check times", r"^- (?:Moved|New)\b": "what moved", r"\bStayed:": "what stayed"}
+        for pattern, what in wanted.items() if title != "9 to 22: requests (a) to (n)" else ():  # these have notes
+            holds = re.search(pattern, said, re.M) or title.startswith("1: ") and what == "what stayed"
+            yield holds, f"CHANGELOG.md: {title}", f"the entry does not say {what}"
+
+
+FACTS = (arrows, additions, public_functions, statuses, promises, benchmarks, sentences, entries)

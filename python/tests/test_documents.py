@@ -1,4 +1,5 @@
-"""The examples: those in the package's own comments, and the Python blocks of docs/GUIDE.md, one after the other in one session."""
+"""The examples: those in the package's own comments, the Python blocks of docs/GUIDE.md, one after the other in one session, and the call that
+README.md names."""
 
 import doctest
 import importlib
@@ -42,6 +43,15 @@ class Examples(unittest.TestCase):
             self.assertGreaterEqual(sum(len(test.examples) for test in found), least, name)
         blocks = python_lines(GUIDE.read_text(encoding="utf-8"))
         self.assertGreaterEqual(len(doctest.DocTestParser().get_examples(blocks)), 20)
+
+    def test_readme(self):
+        """README.md says that its call in Python does to a bytearray what its Rust does to an array."""
+        text = (ROOT / "README.md").read_text(encoding="utf-8")
+        given, wanted = (bytearray(map(int, listed.split(","))) for listed in re.findall(r"(?:let mut word = |assert_eq!\(word, )\[(.*?)\]", text))
+        (call,) = re.findall(r"In Python[^`]*`pip install \./python`[^`]*`(xrs\.\w+\(.*?\))` does the same", text)
+        answer = re.search(r"&mut word, .*?Ok\((\d+)\)", text)
+        self.assertEqual(eval(call, {"xrs": importlib.import_module("xrs"), "word": given}), int(answer[1]))
+        self.assertEqual(given, wanted)
 
 
 if __name__ == "__main__":
