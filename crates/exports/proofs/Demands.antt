@@ -132,12 +132,15 @@ small-compared (sheet j ss) (noSheet n) h k = λ i e. let same : n ≡ i = cc in
 small-compared (sheet j ss) (sheet l ts) h k =
     small-after (ask (sameDay ss ts) SameDay Passed) (accepted (chosenOf j l)) (small-accepted (chosenOf j l))
 
+small-compare : (c : List ℕ) (i : ℕ) (d : List ℕ) (j : ℕ) → Small (compareOf c i d j)
+unfolding compareOf
+small-compare c i d j =
+    small-after (numbersAsked c i d j) _
+    (small-compared (dayOf (slotOf c i)) (dayOf (slotOf d j)) (small-day (slotOf c i)) (small-day (slotOf d j)))
+
 small-into : (c : List ℕ) (i : ℕ) (d : List ℕ) (j : ℕ) (signs : List ℕ) → Small (intoOf c i d j signs)
-unfolding intoOf compareOf
-small-into c i d j signs =
-    small-after (intoAsked c i d j (length signs)) _
-    (small-after (numbersAsked c i d j) _
-    (small-compared (dayOf (slotOf c i)) (dayOf (slotOf d j)) (small-day (slotOf c i)) (small-day (slotOf d j))))
+unfolding intoOf
+small-into c i d j signs = small-after (intoAsked c i d j (length signs)) _ (small-compare c i d j)
 
 -- ---- a refusal is the number of a question
 
@@ -204,6 +207,7 @@ packing-undone = record {
   bay-restore = λ bay reach xs bytes. undone (bayOf bay reach xs bytes)
       (small-after (bayAsked bay (length xs)) _ (small-call (rewritesOf xs) (callOn bay reach bytes)));
   compare-sheets = λ c i d j signs. undone (intoOf c i d j signs) (small-into c i d j signs);
+  compare-part = λ c i d j. undone (compareOf c i d j) (small-compare c i d j);
   window = λ w report. undone (windowOf w report) (small-done (windowAsked w (length report)));
 }
 

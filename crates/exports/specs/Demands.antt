@@ -65,6 +65,7 @@ pub record PackingUndone : Type 0 where
   pub charge : (xs : List ℕ) → Undone (chargeOf xs)
   pub bay-restore : (bay : ℕ) (reach : Reach) (xs bytes : List ℕ) → Undone (bayOf bay reach xs bytes)
   pub compare-sheets : (c : List ℕ) (i : ℕ) (d : List ℕ) (j : ℕ) (signs : List ℕ) → Undone (intoOf c i d j signs)
+  pub compare-part : (c : List ℕ) (i : ℕ) (d : List ℕ) (j : ℕ) → Undone (compareOf c i d j)
   pub window : (w : Window) (report : List ℕ) → Undone (windowOf w report)
 
 -- the card check's number says just what it answers: 0 is no record's number
