@@ -2,11 +2,9 @@
 // definitions as the call behind it.
 // A slice is passed as its pointer, then its length.
 ghost use mathlib.Core.Path.{_≡_};
-ghost use Prim.Native.Nat.{_<_};
-ghost use lib.ListN.{length};
-ghost use Rattle.field.specs.Answer.{outcome, sumOf, productOf, powerOf, inverseOf};
-ghost use Rattle.code.specs.Call.{membership, syndromesOf, syndromesGiven, withinOf, withinWritten};
-ghost use Rattle.code.specs.Call.{done, repair, encodeOf, encodeWritten, isCodewordOf, readDataOf, readDataWritten, restoreOf, restoreWritten};
+ghost use Rattle.field.specs.Answer.{sumOf, productOf, powerOf, inverseOf};
+ghost use Rattle.code.specs.Call.{syndromesOf, syndromesGiven, withinOf, withinWritten};
+ghost use Rattle.code.specs.Call.{encodeOf, encodeWritten, isCodewordOf, readDataOf, readDataWritten, restoreOf, restoreWritten};
 ghost use Rattle.card.specs.Record.{recordOf, recordWritten, recordWithinOf, recordWithinWritten};
 ghost use Rattle.card.specs.Card.{firstRefused};
 ghost use Rattle.card.specs.Conversion.{toNewOf, toNewWritten, toOldOf, toOldWritten};
@@ -14,24 +12,34 @@ ghost use Rattle.walk.specs.Walk.{walkAt, stepOf, stepState, stepWritten};
 ghost use Rattle.walk.specs.Look.{lookOf, lookWritten};
 ghost use Rattle.dock.specs.declared.Reach.the-variants.{Longest, Named};
 ghost use Rattle.sheet.specs.Call.{writeSheetOf, writeSheetWritten, readSheetOf, readSheetWritten};
-ghost use Rattle.report.specs.Compare.{choice, compareOf, intoOf, intoTotal, intoWritten};
+ghost use Rattle.report.specs.Compare.{compareOf, intoOf, intoTotal, intoWritten};
 ghost use Rattle.report.specs.Window.{windowFrom, windowOf, windowWritten};
 ghost use Rattle.exports.specs.Packed.{packed, packedBytes, packedTotals, checked};
 ghost use Rattle.exports.specs.Part.{partOffset, partSize};
-ghost use Rattle.exports.specs.Counts.{countsSize, rewritesOf, lentCounts, chargeOf, chargeWritten, bayAsked, bayOf, bayCounts, bayWritten};
+ghost use Rattle.exports.specs.Counts.{chargeOf, chargeWritten, bayOf, bayCounts, bayWritten};
+
+mod answers;
+mod bays;
+
+use answers::pack;
+use answers::pack_bytes;
+use answers::pack_choice;
+use answers::pack_membership;
+use answers::pack_repair;
+use answers::pack_totals;
+use answers::pack_verdict;
+use answers::wide;
+use bays::COUNTS;
+use bays::restore_in_bay;
+use bays::write_counts;
 use card::CardCheck;
 use card::cards::check;
 use card::conversion::card_to_new;
 use card::conversion::card_to_old;
 use card::records::restore_record;
 use card::records::restore_record_within;
-use code::Membership;
-use code::Repair;
 use dock::Reach;
-use dock::Rewrites;
-use dock::bay_restore_at;
 use dock::charge;
-use field::Answer;
 use field::Exponent;
 use field::Question;
 use field::Verdict;
@@ -44,92 +52,6 @@ use sheet::read_sheet;
 use sheet::write_sheet;
 use walk::Walk;
 use walk::look_into;
-
-fn wide(x: u8) -> u32
-    ensures { λ r. ⌜ r ≡ x ⌝ }
-{
-    x as u32
-}
-
-fn wide64(x: u8) -> u64
-    ensures { λ r. ⌜ (r ≡ x) × (r < 256) ⌝ }
-{
-    x as u64
-}
-
-// A symbol or a refusal as one number.
-fn pack(a: Answer) -> u32
-    ensures { λ r. ⌜ r ≡ packed (outcome a) ⌝ }
-{
-    match a {
-        Answer::Value(x) => 256 * wide(x),
-        Answer::Refused(q) => wide(field::refusal_number(q)),
-    }
-}
-
-// The verdict of a call that has no value of its own.
-fn pack_verdict(v: Verdict) -> u32
-    ensures { λ r. ⌜ r ≡ packed (done v) ⌝ }
-{
-    match v {
-        Verdict::Passed => 0,
-        Verdict::Refused(q) => wide(field::refusal_number(q)),
-    }
-}
-
-// The answer of the codeword test: 1 for yes.
-fn pack_membership(m: Membership) -> u32
-    ensures { λ r. ⌜ r ≡ packed (membership m) ⌝ }
-{
-    match m {
-        Membership::Codeword => 256,
-        Membership::Other => 0,
-        Membership::Refused(q) => wide(field::refusal_number(q)),
-    }
-}
-
-// The answer of the restorer: the number of changed places.
-fn pack_repair(a: Repair) -> u32
-    ensures { λ r. ⌜ r ≡ packed (repair a) ⌝ }
-{
-    match a {
-        Repair::Restored(k) => 256 * wide(k),
-        Repair::Refused(q) => wide(field::refusal_number(q)),
-    }
-}
-
-// A refusal number and five bytes as one number, the refusal lowest.
-fn pack_bytes(refusal: u32, bytes: [u8; 5]) -> u64
-    ensures { λ r. ⌜ r ≡ packedBytes refusal bytes ⌝ }
-{
-    let a = wide64(bytes[0]);
-    let b = wide64(bytes[1]);
-    let c = wide64(bytes[2]);
-    let d = wide64(bytes[3]);
-    let e = wide64(bytes[4]);
-    refusal as u64 + 256 * (a + 256 * (b + 256 * (c + 256 * (d + 256 * e))))
-}
-
-// The choice of a comparison: 1 for the controller's sheet, 2 for the cupboard's.
-fn pack_choice(c: Choice) -> u32
-    ensures { λ r. ⌜ r ≡ packed (choice c) ⌝ }
-{
-    match c {
-        Choice::Controller => 256,
-        Choice::Cupboard => 512,
-        Choice::Refused(q) => wide(field::refusal_number(q)),
-    }
-}
-
-// A packed answer and the three totals above it.
-fn pack_totals(answer: u32, equal: u8, controller: u8, cupboard: u8) -> u64
-    ensures { λ r. ⌜ r ≡ packedTotals answer equal controller cupboard ⌝ }
-{
-    let a = wide64(equal);
-    let b = wide64(controller);
-    let c = wide64(cupboard);
-    answer as u64 + 65536 * (a + 256 * (b + 256 * c))
-}
 
 #[no_mangle]
 pub extern "C" fn xrs_sum(width: u8, a: u8, b: u8) -> u32
@@ -339,31 +261,6 @@ pub extern "C" fn xrs_look(card: &[u8], number: u64, row: &mut [u8]) -> u32
     pack_verdict(look_into(card, number as usize, row))
 }
 
-// The counts of the dock: those of bays 0 to 3, and then the common ones.
-const COUNTS: usize = 5;
-
-fn read_counts(left: &[u16]) -> Rewrites
-    requires { ⌜ length (now left) ≡ countsSize ⌝ }
-    ensures { λ r. ⌜ r ≡ rewritesOf (now (left .entry)) ⌝ }
-{
-    Rewrites {
-        own: [left[0], left[1], left[2], left[3]],
-        common: left[4],
-    }
-}
-
-fn write_counts(left: &mut [u16], counts: Rewrites)
-    requires { ⌜ length (now left) ≡ countsSize ⌝ }
-    ensures { λ r. ⌜ now (left .exit) ≡ lentCounts counts ⌝ }
-{
-    let own = counts.own;
-    left[0] = own[0];
-    left[1] = own[1];
-    left[2] = own[2];
-    left[3] = own[3];
-    left[4] = counts.common;
-}
-
 // A new charge sets the five counts afresh.
 #[no_mangle]
 pub extern "C" fn xrs_charge(left: &mut [u16]) -> u32
@@ -375,37 +272,6 @@ pub extern "C" fn xrs_charge(left: &mut [u16]) -> u32
     }
     write_counts(left, charge());
     0
-}
-
-// Is the bay below 4, and are there five counts?
-fn ask_bay(bay: u8, n: usize) -> Verdict
-    ensures { λ r. ⌜ r ≡ bayAsked bay n ⌝ }
-{
-    if 3 < bay {
-        return Verdict::Refused(Question::Bay);
-    }
-    if n != COUNTS {
-        return Verdict::Refused(Question::Length);
-    }
-    Verdict::Passed
-}
-
-// A bay's call on lent counts, at the reach that is named or at the longest.
-fn restore_in_bay(bay: u8, left: &mut [u16], bytes: &mut [u8], reach: Reach) -> u32
-    ensures answer { λ r. ⌜ r ≡ packed (bayOf bay reach (now (left .entry)) (now (bytes .entry))) ⌝ }
-    ensures counts { λ r. ⌜ now (left .exit) ≡ bayCounts bay reach (now (left .entry)) (now (bytes .entry)) ⌝ }
-    ensures written { λ r. ⌜ now (bytes .exit) ≡ bayWritten bay reach (now (left .entry)) (now (bytes .entry)) ⌝ }
-{
-    match ask_bay(bay, left.len()) {
-        Verdict::Passed => {
-            let served = bay_restore_at(bay, read_counts(left), bytes, reach);
-            let rest = served.left;
-            write_counts(left, rest);
-            let answer = served.answer;
-            pack_repair(answer)
-        }
-        Verdict::Refused(q) => pack_verdict(Verdict::Refused(q)),
-    }
 }
 
 // A bay's call: a record of which a byte would change is restored only where a rewrite is left to the bay, and counted.

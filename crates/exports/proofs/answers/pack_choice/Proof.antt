@@ -1,10 +1,10 @@
--- `exports::pack_choice` meets its contract. Assumes nothing.
+-- `exports::answers::pack_choice` meets its contract. Assumes nothing.
 use Rattle.field.proofs.Base.{needs, refl}
 use Rattle.report.specs.Compare.{choice}
 use Rattle.report.specs.declared.compare.Choice.the-variants.{Refused}
 use Rattle.exports.proofs.Packing.{refusal-packed}
-use Rattle.exports.proofs.pack_choice.Statement.{statement}
-use Rattle.exports.proofs.pack_choice.Tie as tie
+use Rattle.exports.proofs.answers.pack_choice.Statement.{statement}
+use Rattle.exports.proofs.answers.pack_choice.Tie as tie
 
 returns-3 : tie.Need-returns-3
 returns-3 c =

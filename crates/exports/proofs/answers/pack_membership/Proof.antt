@@ -1,10 +1,10 @@
--- `exports::pack_membership` meets its contract. Assumes nothing.
+-- `exports::answers::pack_membership` meets its contract. Assumes nothing.
 use Rattle.field.proofs.Base.{needs, refl}
 use Rattle.code.specs.Call.{membership}
 use Rattle.code.specs.declared.Membership.the-variants.{Refused}
 use Rattle.exports.proofs.Packing.{refusal-packed}
-use Rattle.exports.proofs.pack_membership.Statement.{statement}
-use Rattle.exports.proofs.pack_membership.Tie as tie
+use Rattle.exports.proofs.answers.pack_membership.Statement.{statement}
+use Rattle.exports.proofs.answers.pack_membership.Tie as tie
 
 returns-3 : tie.Need-returns-3
 returns-3 c =

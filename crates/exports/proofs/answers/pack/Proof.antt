@@ -1,10 +1,10 @@
--- `exports::pack` meets its contract. Assumes nothing.
+-- `exports::answers::pack` meets its contract. Assumes nothing.
 use Rattle.field.proofs.Base.{needs, refl}
 use Rattle.field.specs.Answer.{outcome}
 use Rattle.field.specs.declared.Answer.the-variants.{Value, Refused}
 use Rattle.exports.proofs.Packing.{value-packed, refusal-packed}
-use Rattle.exports.proofs.pack.Statement.{statement}
-use Rattle.exports.proofs.pack.Tie as tie
+use Rattle.exports.proofs.answers.pack.Statement.{statement}
+use Rattle.exports.proofs.answers.pack.Tie as tie
 
 returns-2 : tie.Need-returns-2
 returns-2 c =

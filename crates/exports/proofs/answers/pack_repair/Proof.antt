@@ -1,10 +1,10 @@
--- `exports::pack_repair` meets its contract. Assumes nothing.
+-- `exports::answers::pack_repair` meets its contract. Assumes nothing.
 use Rattle.field.proofs.Base.{needs, refl}
 use Rattle.code.specs.Call.{repair}
 use Rattle.code.specs.declared.Repair.the-variants.{Restored, Refused}
 use Rattle.exports.proofs.Packing.{value-packed, refusal-packed}
-use Rattle.exports.proofs.pack_repair.Statement.{statement}
-use Rattle.exports.proofs.pack_repair.Tie as tie
+use Rattle.exports.proofs.answers.pack_repair.Statement.{statement}
+use Rattle.exports.proofs.answers.pack_repair.Tie as tie
 
 returns-2 : tie.Need-returns-2
 returns-2 c =
