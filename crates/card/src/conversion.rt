@@ -14,7 +14,7 @@ use crate::records::ERASURE_BYTES;
 use crate::records::OLD_ERASURE_BYTES;
 use crate::records::size_of;
 use crate::records::verdict_of;
-use code::slice::copy;
+use code::word::copy;
 use field::Question;
 use field::Verdict;
 

@@ -16,7 +16,7 @@ use crate::RestoredCopy;
 use code::Repair;
 use code::max_erasures;
 use code::radius_of;
-use code::slice::copy;
+use code::word::copy;
 use code::word_length;
 use field::Question;
 use field::Verdict;

@@ -3,7 +3,7 @@ use Rattle.field.proofs.Base.{_≡_, refl, sym, ap, ap₂, _∙_, true, List, [
 use Rattle.field.proofs.Base.{set, take, drop, getD-take, length-take-le}
 use lib.ListN.{length-map}
 use lib.Seq.{take-suc, take-suc-set}
-use Rattle.code.specs.declared.place.Place.{Place}
+use Rattle.code.specs.declared.word.Place.{Place}
 use Rattle.code.specs.Erasure.{member}
 use Rattle.code.specs.inner.Place.{numbers}
 use Rattle.code.specs.inner.Matrix.{unknowns}

@@ -5,36 +5,29 @@ ghost use Rattle.code.specs.Word.{wordLength};
 ghost use Rattle.code.specs.Near.{radius};
 ghost use Rattle.code.specs.Call.{Encodes, membership, isCodewordOf, ReadsData, maxErasures, GivesSyndromes, RestoresWithin, Restores};
 
-mod asking;
 mod beside;
-mod block;
-mod codeword;
-mod correction;
+mod candidates;
+mod erasures;
 mod errors;
-mod finder;
-pub mod place;
-pub mod question;
 mod restorer;
 mod roots;
-mod search;
-pub mod slice;
 mod solver;
-mod syndrome;
-mod trial;
+pub mod validation;
+pub mod word;
 
-use asking::ask_is_codeword;
-use asking::ask_read_data;
-use asking::ask_restore;
-use asking::ask_slices;
-use codeword::write_codeword;
-use codeword::zero_syndromes;
+use erasures::erasure_trial;
 use field::Question;
 use field::Verdict;
 use field::arithmetic::order_of;
 use restorer::Method;
 use restorer::restore_with;
-use slice::copy;
-use trial::erasure_trial;
+use validation::ask_is_codeword;
+use validation::ask_read_data;
+use validation::ask_restore;
+use validation::ask_slices;
+use validation::zero_syndromes;
+use word::copy;
+use word::write_codeword;
 
 // What the codeword test answers.
 pub enum Membership {

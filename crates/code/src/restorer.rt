@@ -1,23 +1,31 @@
-// The restorer: the questions, a correction by one of two methods, and the word corrected. These functions are no entry points.
-ghost use Prim.Native.Nat.{_≤_};
+// The restorer: the questions, a correction by one of two methods, and the word corrected. The one method finds the wrong places from the
+// syndromes. Whatever places a test on some of them names, all five are looked at before there is a correction: so no test has to be right by
+// itself, and what is to be shown is that the places of each near codeword are named. The other tries each choice of extra places. These
+// functions are no entry points.
+ghost use Prim.Native.Nat.{_≤_, _+_};
 ghost use lib.ListN.{length};
 ghost use Rattle.code.specs.Word.{checks, longest};
 ghost use Rattle.code.specs.Near.{radius};
 ghost use Rattle.code.specs.Call.{RestoresWithin};
 ghost use Rattle.code.specs.Demands.{PassesWithin};
 ghost use Rattle.code.specs.inner.Matrix.{unknowns};
-ghost use Rattle.code.specs.inner.Correction.{placesOf, Ready, Searched, NoneWithin};
+ghost use Rattle.code.specs.inner.Correction.{placesOf, Ready, Searched, NoneWithin, NoneFrom};
 use crate::Repair;
-use crate::asking::ask_within;
-use crate::correction::Correction;
-use crate::correction::apply_correction;
-use crate::finder::find_near;
-use crate::place::Place;
-use crate::search::search;
+use crate::beside::find_beside;
+use crate::erasures::Correction;
+use crate::erasures::Trial;
+use crate::erasures::apply_correction;
+use crate::erasures::erasure_trial;
+use crate::erasures::extended;
+use crate::erasures::is_clean;
+use crate::erasures::listed;
+use crate::erasures::solve_trial;
+use crate::erasures::solved;
+use crate::errors::find_pair;
+use crate::errors::find_single;
 use crate::solver::Solutions;
-use crate::trial::Trial;
-use crate::trial::erasure_trial;
-use crate::trial::is_clean;
+use crate::validation::ask_within;
+use crate::word::Place;
 use field::Question;
 use field::Verdict;
 
@@ -25,6 +33,65 @@ use field::Verdict;
 pub enum Method {
     Syndromes,
     Trials,
+}
+
+// A correction with at most `reach` extra places.
+fn find_near(width: u8, word: &[u8], t: Trial, reach: usize) -> Correction
+    requires { ⌜
+        (t .count ≤ unknowns) × (reach ≤ radius width (t .count)) × (checks ≤ length (now word)) × (length (now word) ≤ longest)
+        ⌝ }
+    ensures { λ r.
+        ⌜
+        (r .count ≤ unknowns)
+        × (Ready width (now (word .entry)) t
+        → Searched width (now (word .entry)) (placesOf t) reach (NoneWithin width (now (word .entry)) (placesOf t) reach) r)
+        ⌝ }
+{
+    let count = t.count;
+    if reach == 0 {
+        return solve_trial(width, t);
+    }
+    if 0 < count {
+        return find_beside(width, word, t);
+    }
+    if reach == 1 {
+        return find_single(width, word, t);
+    }
+    find_pair(width, word, t)
+}
+
+// A correction with at most `left` extra places in rising order, the first of them the place `from` or a later one.
+fn search(width: u8, word: &[u8], t: Trial, from: Place, left: usize) -> Correction
+    requires { ⌜ (t .count + left ≤ unknowns) × (length (now word) ≤ longest) ⌝ }
+    ensures { λ r.
+        ⌜
+        (r .count ≤ unknowns)
+        × (Ready width (now (word .entry)) t
+        → Searched width (now (word .entry)) (placesOf t) left (NoneFrom width (now (word .entry)) (placesOf t) (from .0) left) r)
+        ⌝ }
+{
+    let c = solve_trial(width, t);
+    if solved(c) {
+        return c;
+    }
+    if left == 0 {
+        return c;
+    }
+    let places = t.places;
+    let count = t.count;
+    let mut p = from.0 as usize;
+    while p < word.len() {
+        let place = Place(p as u8);
+        if !listed(places, count, place) {
+            let u = extended(width, t, place, word[p]);
+            let d = search(width, word, u, Place((p + 1) as u8), left - 1);
+            if solved(d) {
+                return d;
+            }
+        }
+        p += 1;
+    }
+    c
 }
 
 // A correction with at most `reach` extra places.

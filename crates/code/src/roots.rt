@@ -1,11 +1,10 @@
 // Roots of linear and quadratic functions among the powers of α: the data places at which they are 0. These functions are no entry points.
 ghost use mathlib.Core.Path.{_≡_};
 ghost use mathlib.Core.Bool.{true};
-ghost use Prim.Native.Nat.{ℕ, _-_, _%_, _≤_, _<_};
-ghost use lib.ListN.{length};
+ghost use Prim.Native.Nat.{ℕ, _≤_, _<_};
 ghost use Rattle.field.specs.Field.{order};
 ghost use Rattle.field.specs.Question.{isWidth};
-ghost use Rattle.code.specs.Word.{checks, longest, items};
+ghost use Rattle.code.specs.Word.{items};
 ghost use Rattle.code.specs.inner.Scan.{Carried, Scanned, LinearRatio, TwoRoots};
 use field::Exponent;
 use field::arithmetic::invert;
@@ -156,12 +155,4 @@ pub fn two_roots(width: u8, square: u8, linear: u8, constant: u8, n: u16) -> Roo
         return halved_roots(square, linear, constant);
     }
     scanned_roots(width, square, linear, constant, n)
-}
-
-// The number of data symbols of a word.
-pub fn items_of(word: &[u8]) -> u16
-    requires { ⌜ (checks ≤ length (now word)) × (length (now word) ≤ longest) ⌝ }
-    ensures { λ r. ⌜ (r ≡ length (now (word .entry)) - checks) × (r < 128) ⌝ }
-{
-    (word.len() - 5) as u16
 }

@@ -11,7 +11,7 @@ use card::records::restore_record;
 use card::records::restore_record_within;
 use check::same;
 use code::Repair;
-use code::slice::copy;
+use code::word::copy;
 use field::Question;
 
 // Bays, and what a charge gives to each and to whoever comes first.

@@ -15,7 +15,7 @@ use crate::day::has_record;
 use crate::day::read_day;
 use crate::day::slot;
 use code::Repair;
-use code::slice::copy;
+use code::word::copy;
 use field::Question;
 use field::Verdict;
 use sheet::DAY;

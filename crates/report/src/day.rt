@@ -9,7 +9,7 @@ use card::records::HEADER;
 use card::records::RECORD;
 use card::records::restored_copy;
 use code::Repair;
-use code::slice::copy;
+use code::word::copy;
 use code::word_length;
 use field::Verdict;
 use sheet::FIRST;

@@ -11,9 +11,9 @@ pub mod calendar;
 
 use calendar::date_exists;
 use code::Membership;
-use code::question::all_zero;
-use code::question::below;
-use code::slice::copy;
+use code::validation::all_zero;
+use code::validation::below;
+use code::word::copy;
 use field::Question;
 use field::Verdict;
 use field::arithmetic::order_of;

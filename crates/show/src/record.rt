@@ -24,7 +24,7 @@ use card::text::put_byte;
 use card::text::put_bytes;
 use card::words::put_refusal;
 use code::Repair;
-use code::place::Place;
+use code::word::Place;
 use code::word_length;
 use field::Question;
 use field::Verdict;

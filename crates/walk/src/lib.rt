@@ -18,7 +18,7 @@ use card::records::LONGEST_REACH;
 use card::records::RECORD;
 use card::records::restored_copy;
 use code::Repair;
-use code::slice::copy;
+use code::word::copy;
 use field::Question;
 use field::Verdict;
 

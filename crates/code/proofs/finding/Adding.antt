@@ -7,8 +7,8 @@ use Rattle.field.specs.Question.{allBelow}
 use Rattle.field.proofs.Laws.{IsField}
 use Rattle.field.proofs.Widths.{field-of}
 use Rattle.field.proofs.Below.{below-head, below-tail}
-use Rattle.code.specs.declared.trial.Trial.{Trial}
-use Rattle.code.specs.declared.correction.Correction.{Correction}
+use Rattle.code.specs.declared.erasures.Trial.{Trial}
+use Rattle.code.specs.declared.erasures.Correction.{Correction}
 use Rattle.code.specs.Word.{checks, places, at, syndrome, Codeword}
 use Rattle.code.specs.inner.Place.{column}
 use Rattle.code.specs.Erasure.{member, distinct, maskedSyndrome}

@@ -7,7 +7,7 @@ use Rattle.field.specs.Question.{isWidth, allBelow}
 use Rattle.field.proofs.Laws.{IsField}
 use Rattle.field.proofs.Widths.{field-of}
 use Rattle.field.proofs.Evaluation.{five-at}
-use Rattle.code.specs.declared.correction.Correction.{Correction}
+use Rattle.code.specs.declared.erasures.Correction.{Correction}
 use Rattle.code.specs.Word.{checks, places, items, five, at}
 use Rattle.code.specs.Erasure.{member}
 use Rattle.code.specs.Near.{distance, radius}

@@ -10,7 +10,7 @@ use Rattle.field.specs.inner.Operand.{Operand}
 use Rattle.field.proofs.Laws.{IsField}
 use Rattle.field.proofs.Widths.{field-of}
 use Rattle.field.proofs.Evaluation.{five-at, five-cong}
-use Rattle.code.specs.declared.trial.Trial.{Trial}
+use Rattle.code.specs.declared.erasures.Trial.{Trial}
 use Rattle.code.specs.Word.{checks, five, places, at}
 use Rattle.code.specs.inner.Place.{column}
 use Rattle.code.specs.Erasure.{member, maskedSyndrome}

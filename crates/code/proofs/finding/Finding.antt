@@ -11,7 +11,7 @@ use Rattle.code.specs.Erasure.{member}
 use Rattle.code.proofs.Algebra.{add-of-eq, square}
 use Rattle.code.proofs.Questions.{not-member-head, not-member-tail}
 use Rattle.code.proofs.restoring.Extra.{Falling, falling-le}
-use Rattle.code.specs.declared.place.Place.{Place}
+use Rattle.code.specs.declared.word.Place.{Place}
 use Rattle.code.specs.declared.roots.Scan.{Scan}
 use Rattle.code.specs.declared.errors.FirstTwo.{FirstTwo}
 use Rattle.code.specs.inner.Scan.{valueAt, Carried, Scanned, Factored}

@@ -8,9 +8,9 @@ use Rattle.field.proofs.Laws.{IsField}
 use Rattle.field.proofs.Widths.{field-of}
 use Rattle.field.proofs.Below.{below-head}
 use Rattle.field.proofs.Evaluation.{five-at, five-cong}
-use Rattle.code.specs.declared.place.Place.{Place}
-use Rattle.code.specs.declared.trial.Trial.{Trial}
-use Rattle.code.specs.declared.correction.Correction.{Correction}
+use Rattle.code.specs.declared.word.Place.{Place}
+use Rattle.code.specs.declared.erasures.Trial.{Trial}
+use Rattle.code.specs.declared.erasures.Correction.{Correction}
 use Rattle.code.specs.declared.roots.Scan.{Scan}
 use Rattle.code.specs.declared.roots.RootPair.{RootPair}
 use Rattle.code.specs.declared.errors.FirstTwo.{FirstTwo}

@@ -11,7 +11,7 @@ use Rattle.field.specs.Question.{isWidth}
 use Rattle.field.proofs.Laws.{IsField}
 use Rattle.field.proofs.Widths.{field-of}
 use Rattle.field.proofs.Evaluation.{five-at, five-cong}
-use Rattle.code.specs.declared.trial.Trial.{Trial}
+use Rattle.code.specs.declared.erasures.Trial.{Trial}
 use Rattle.code.specs.declared.solver.Solutions.{Solutions}
 use Rattle.code.specs.declared.solver.Solutions.the-variants.{None, One, Several}
 use Rattle.code.specs.Word.{at, five}

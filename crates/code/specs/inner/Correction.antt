@@ -9,8 +9,8 @@ use lib.Dec.{eqb, leb}
 use lib.ListN.{length, getD, set, take}
 use Rattle.field.specs.Field.{order}
 use Rattle.field.specs.Question.{isWidth, allBelow}
-use Rattle.code.specs.declared.trial.Trial.{Trial}
-use Rattle.code.specs.declared.correction.Correction.{Correction}
+use Rattle.code.specs.declared.erasures.Trial.{Trial}
+use Rattle.code.specs.declared.erasures.Correction.{Correction}
 use Rattle.code.specs.declared.solver.Solutions.{Solutions}
 use Rattle.code.specs.declared.solver.Solutions.the-variants.{None, One, Several}
 use Rattle.code.specs.Word.{checks, places, longest, at, five, Codeword}

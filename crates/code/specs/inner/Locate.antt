@@ -10,7 +10,7 @@ use lib.ListN.{length, getD, take}
 use Rattle.field.specs.Polynomial.{add}
 use Rattle.field.specs.Field.{order, product, power, inverse, α}
 use Rattle.field.specs.Question.{allBelow}
-use Rattle.code.specs.declared.correction.Correction.{Correction}
+use Rattle.code.specs.declared.erasures.Correction.{Correction}
 use Rattle.code.specs.declared.errors.FirstTwo.{FirstTwo}
 use Rattle.code.specs.declared.errors.Pair.{Pair}
 use Rattle.code.specs.Word.{checks, places, at}

@@ -5,7 +5,7 @@ use Prim.Native.Nat.{ℕ, _+_, _-_, _*_}
 use lib.Dec.{eqb, ltb}
 use Rattle.field.specs.Field.{power, α}
 use Rattle.field.specs.declared.Exponent.{Exponent}
-use Rattle.code.specs.declared.place.Place.{Place}
+use Rattle.code.specs.declared.word.Place.{Place}
 use Rattle.code.specs.Word.{checks}
 
 -- places by their numbers: theorems on places speak of these
