@@ -14,7 +14,7 @@ use crate::words::put_refusal;
 use code::Repair;
 
 // Whether a record of the batch would be refused, and how many bytes its line has.
-#[derive(Drop)]
+#[derive(Clone, Copy)]
 pub struct Found {
     pub any: bool,
     pub used: usize,

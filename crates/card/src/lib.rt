@@ -1,4 +1,6 @@
 // Records and cards: restoring a record, checking a card, the text of a listing, and conversion from and to the old edition.
+#![tactic(auto)]
+
 pub mod cards;
 pub mod checked;
 pub mod conversion;
@@ -23,7 +25,7 @@ pub const LISTED_BATCHES: u64 = 2500;
 pub const MOST_BATCHES: u64 = 70368744177664;
 
 // What restoring a record would answer, and the record afterwards. An enum holds no array, so the answer stands beside the bytes.
-#[derive(Drop)]
+#[derive(Clone, Copy)]
 pub struct RestoredCopy {
     pub answer: Repair,
     pub bytes: [u8; 139],
@@ -31,14 +33,14 @@ pub struct RestoredCopy {
 
 // What the card check answers: every record would be accepted, or the number of the first record that would not be, counted from 1. Blank
 // slots are passed over, and counted.
-#[derive(Drop)]
+#[derive(Clone, Copy)]
 pub enum CardCheck {
     AllAccepted,
     Refused(usize),
 }
 
 // What a listing has counted: accepted records, refused records, changed places.
-#[derive(Drop)]
+#[derive(Clone, Copy)]
 pub struct Totals {
     pub accepted: u64,
     pub refused: u64,
@@ -46,7 +48,7 @@ pub struct Totals {
 }
 
 // How far a listing has come: the number of the next slot, and the totals.
-#[derive(Drop)]
+#[derive(Clone, Copy)]
 pub struct Progress {
     pub next: u64,
     pub totals: Totals,

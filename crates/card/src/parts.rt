@@ -11,7 +11,7 @@ use field::{Question, Verdict};
 
 // What the questions have found: the number of slots seen, how many of the questions 1, 3, 4 and 15 all of them pass, and the number of the
 // first slot that passes no more; 0 where all of them pass all four.
-#[derive(Drop)]
+#[derive(Clone, Copy)]
 pub struct Findings {
     pub slots: u64,
     pub passed: u8,

@@ -15,7 +15,7 @@ use code::Repair;
 use field::refusal_number;
 
 // How many bytes of the buffer are used, and how far the listing has come.
-#[derive(Drop)]
+#[derive(Clone, Copy)]
 pub struct Listed {
     pub used: usize,
     pub progress: Progress,

@@ -101,10 +101,10 @@ digits-one : (d : ℕ) → d ≤ 9 → all_digits ((48 + d) ∷ []) ≡ true
 unfolding all_digits
 digits-one d h = ap (λ (b : Bool). b && true) (digit-is d h)
 
-all_digits : (k n : ℕ) → all_digits (digits_from k n) ≡ true
+all_digits_lem : (k n : ℕ) → all_digits (digits_from k n) ≡ true
 unfolding digits_from all_digits
-all_digits zero n = refl
-all_digits (suc k) n = go (ltb n 10) refl (all_digits k (n / 10))
+all_digits_lem zero n = refl
+all_digits_lem (suc k) n = go (ltb n 10) refl (all_digits_lem k (n / 10))
   where
     go : (b : Bool) → ltb n 10 ≡ b → all_digits (digits_from k (n / 10)) ≡ true
         → all_digits (cond b ((48 + n) ∷ []) (digits_from k (n / 10) ++ ((48 + n % 10) ∷ []))) ≡ true
@@ -122,7 +122,7 @@ some-digit k n = go (ltb n 10)
 pub decimal-number : (n : ℕ) → is_decimal 20 (decimal n) ≡ true
 unfolding is_decimal
 decimal-number n =
-    simp (le-leb 1 (length (decimal n)) (some-digit 19 n), le-leb (length (decimal n)) 20 (length-decimal n), all_digits 20 n)
+    simp (le-leb 1 (length (decimal n)) (some-digit 19 n), le-leb (length (decimal n)) 20 (length-decimal n), all_digits_lem 20 n)
 
 -- ---- a symbol is read back: a test that is computed
 

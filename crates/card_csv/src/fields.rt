@@ -9,14 +9,14 @@ use crate::Fault;
 use sheet::calendar::date_exists;
 
 // The symbol that a column stands for, or what is wrong with it.
-#[derive(Drop)]
+#[derive(Clone, Copy)]
 pub(crate) enum Symbol {
     Value(u8),
     Wrong(Fault),
 }
 
 // A date, the year less 2000.
-#[derive(Drop)]
+#[derive(Clone, Copy)]
 pub(crate) struct SheetDate {
     pub year: u8,
     pub month: u8,
@@ -24,7 +24,7 @@ pub(crate) struct SheetDate {
 }
 
 // The date that a column stands for, if it exists.
-#[derive(Drop)]
+#[derive(Clone, Copy)]
 pub(crate) enum DateColumn {
     Exists(SheetDate),
     Missing,

@@ -1,4 +1,6 @@
 // Day sheets as CSV: the text of a card's day sheets, and a line of such a text read and made a record.
+#![tactic(auto)]
+
 pub mod columns;
 pub mod fields;
 pub mod headers;
@@ -10,7 +12,7 @@ pub mod records;
 use sheet::SHEET;
 
 // What has been counted of a card: the number of the next slot, day sheets, records that are none, and blank slots.
-#[derive(Drop)]
+#[derive(Clone, Copy)]
 pub struct Counts {
     pub next: u64,
     pub sheets: u64,
@@ -19,7 +21,7 @@ pub struct Counts {
 }
 
 // Which columns a header names: all, those without slot and changed, or others.
-#[derive(Drop)]
+#[derive(Clone, Copy)]
 pub enum Header {
     Full,
     Short,
@@ -27,7 +29,7 @@ pub enum Header {
 }
 
 // What is wrong with a line: the number of its columns; a column that is no number; a date that does not exist; a pump or a count above 127.
-#[derive(Drop)]
+#[derive(Clone, Copy)]
 pub enum Fault {
     Columns,
     Number,
@@ -37,21 +39,21 @@ pub enum Fault {
 }
 
 // A line stands for a day sheet, or something is wrong with it.
-#[derive(Drop)]
+#[derive(Clone, Copy)]
 pub enum Answer {
     Sheet,
     Wrong(Fault),
 }
 
 // What reading a line answers, and the symbols, 0 each where something is wrong. An enum holds no array, so the answer stands beside them.
-#[derive(Drop)]
+#[derive(Clone, Copy)]
 pub struct Reading {
     pub answer: Answer,
     pub symbols: [u8; SHEET],
 }
 
 // How a text stands: no line was refused; the first line is no header; a line is no sheet; or a line has no end where every line has one.
-#[derive(Drop)]
+#[derive(Clone, Copy)]
 pub enum TextVerdict {
     Fine,
     NoHeader,
@@ -60,7 +62,7 @@ pub enum TextVerdict {
 }
 
 // Which columns the header names, how many lines were taken, a refused one among them, and how the text stands.
-#[derive(Drop)]
+#[derive(Clone, Copy)]
 pub struct TextState {
     pub full: bool,
     pub lines: u64,
@@ -68,7 +70,7 @@ pub struct TextState {
 }
 
 // How the text stands behind the lines that were taken, the bytes of the text that they have, and the bytes of their records.
-#[derive(Drop)]
+#[derive(Clone, Copy)]
 pub struct Made {
     pub state: TextState,
     pub taken: usize,

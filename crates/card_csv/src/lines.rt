@@ -31,7 +31,7 @@ pub const BATCH_TEXT: usize = BATCH_SLOTS * 424;
 pub const COUNTS_TEXT: usize = 88;
 
 // How many bytes of the buffer are used, and what has been counted.
-#[derive(Drop)]
+#[derive(Clone, Copy)]
 pub struct Listed {
     pub used: usize,
     pub counts: Counts,

@@ -14,7 +14,7 @@ use crate::{Answer, Fault, Reading};
 use sheet::{DAY, MONTH, PUMP, QUARTERS, SHEET, YEAR};
 
 // A count that was read, or what is wrong with it, and the place of the next column.
-#[derive(Drop)]
+#[derive(Clone, Copy)]
 struct CountColumn {
     symbol: Symbol,
     next: usize,

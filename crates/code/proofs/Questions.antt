@@ -10,7 +10,6 @@ use Rattle.field.proofs.Ask.{and-true-left, and-true-right}
 use Rattle.code.specs.inner.Block.{Run}
 use Rattle.field.proofs.Below.{and-holds}
 pub use Rattle.field.proofs.Below.{all_below-means, all_below-holds}
-use Rattle.code.specs.Word.{at}
 use Rattle.code.specs.Erasure.{member, distinct, symbols_from}
 use Rattle.code.specs.Call.{all_zero}
 use Rattle.code.proofs.Loops.{part-drop, run_on}

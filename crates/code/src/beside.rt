@@ -73,7 +73,7 @@ fn try_checks(width: u8, word: &[u8], t: Trial, f: CheckRange) -> Correction
 }
 
 // Rows `from` and `from` + gap.
-#[derive(Drop)]
+#[derive(Clone, Copy)]
 pub struct Span {
     pub gap: u8,
     pub from: u8,

@@ -16,7 +16,7 @@ use crate::word::{Place, point};
 // Check places, from `low` on and below `high`: a place, or 5, where the check places end. Syndromes at which no check place is wrong come
 // from the erasures alone, and what is left of them without these is 0: so what is left and is not 0 tells that the wrong one is among its
 // syndromes.
-#[derive(Drop)]
+#[derive(Clone, Copy)]
 pub struct CheckRange {
     pub low: Place,
     pub high: Place,

@@ -27,7 +27,7 @@ pub fn place_at(places: Places, i: usize) -> Place
 }
 
 // Places taken as erased, the first `count` of them, and the five syndromes of the other places.
-#[derive(Drop)]
+#[derive(Clone, Copy)]
 pub struct Trial {
     pub places: Places,
     pub count: usize,
@@ -177,7 +177,7 @@ pub fn is_clean(t: Trial) -> bool
 }
 
 // Whether a codeword was found or several, and, where it was one, the symbols that belong at the first `count` places.
-#[derive(Drop)]
+#[derive(Clone, Copy)]
 pub struct Correction {
     pub found: Solutions,
     pub count: usize,

@@ -19,7 +19,7 @@ use crate::word::{Place, column, items_of, masked, place_of};
 use field::arithmetic::{invert, multiply};
 
 // Places, the highest first; of more than two only the first two are kept.
-#[derive(Drop)]
+#[derive(Clone, Copy)]
 pub struct FirstTwo {
     pub count: usize,
     pub first: Place,
@@ -172,7 +172,7 @@ fn second_value(width: u8, x: u8, y: u8, s: u8, next: u8) -> u8
 }
 
 // What is to be added at two data places.
-#[derive(Drop)]
+#[derive(Clone, Copy)]
 pub struct Pair {
     pub first: u8,
     pub second: u8,

@@ -1,5 +1,7 @@
 // The five times extended Reed-Solomon code of document 003: encoder, codeword test, reader of data and restorer. A message is the data of a
 // word.
+#![tactic(auto)]
+
 ghost use Rattle.std.specs.Prelude.{◌≡◌};
 ghost use Rattle.code.specs.Word.{word_length};
 ghost use Rattle.code.specs.Near.{radius};
@@ -23,7 +25,7 @@ use validation::{ask_is_codeword, ask_read_data, ask_restore, ask_slices, zero_s
 use word::{copy, write_codeword};
 
 // What the codeword test answers.
-#[derive(Drop)]
+#[derive(Clone, Copy)]
 pub enum Membership {
     Codeword,
     Other,
@@ -81,7 +83,7 @@ pub fn read_data(width: u8, word: &[u8], message: &mut [u8]) -> Verdict
 }
 
 // What the restorer answers: the number of changed places outside the erasures, or the question that was answered no.
-#[derive(Drop)]
+#[derive(Clone, Copy)]
 pub enum Repair {
     Restored(u8),
     Refused(Question),
@@ -96,7 +98,7 @@ pub fn max_erasures(width: u8) -> usize
 
 // The five syndromes of a word without its erasures, each 0 where a question was answered no. An enum holds no array, so the verdict stands
 // beside them.
-#[derive(Drop)]
+#[derive(Clone, Copy)]
 pub struct FiveSyndromes {
     pub verdict: Verdict,
     pub sums: [u8; 5],

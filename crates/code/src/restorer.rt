@@ -23,7 +23,7 @@ use crate::word::Place;
 use field::{Question, Verdict};
 
 // How a correction is sought: the wrong places are found from the syndromes, or each choice of extra places is tried.
-#[derive(Drop)]
+#[derive(Clone, Copy)]
 pub enum Method {
     Syndromes,
     Trials,

@@ -11,7 +11,7 @@ use field::shift::shift;
 use field::trace::half_trace;
 
 // Where a search for roots stands: an exponent of α, and the quadratic's first two terms there.
-#[derive(Drop)]
+#[derive(Clone, Copy)]
 pub struct Scan {
     pub at: Exponent,
     pub square: u8,
@@ -83,7 +83,7 @@ pub fn first_root(width: u8, square: u8, linear: u8, constant: u8, n: u16) -> Sc
 }
 
 // Two exponents, the lower first: the roots of a quadratic that has two.
-#[derive(Drop)]
+#[derive(Clone, Copy)]
 pub struct RootPair {
     pub low: Exponent,
     pub high: Exponent,

@@ -21,7 +21,7 @@ pub const UNKNOWNS: usize = 5;
 pub const COLUMNS: usize = 8;
 
 // How many solutions a system has: none, one, or several.
-#[derive(Drop)]
+#[derive(Clone, Copy)]
 pub enum Solutions {
     None,
     One,
@@ -29,7 +29,7 @@ pub enum Solutions {
 }
 
 // With one solution, its values are the first of the values, one for each unknown; with none or several the values say nothing.
-#[derive(Drop)]
+#[derive(Clone, Copy)]
 pub struct Solution {
     pub found: Solutions,
     pub values: [u8; UNKNOWNS],

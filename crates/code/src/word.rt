@@ -13,7 +13,7 @@ use field::parity::parities;
 use field::table::{power_of_alpha, powers_from};
 
 // Place 0 to 4 holds a check symbol, place 5 + i the data symbol i.
-#[derive(Drop)]
+#[derive(Clone, Copy)]
 pub struct Place(pub u8);
 
 // The exponent i of place 5 + i.

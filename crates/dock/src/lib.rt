@@ -1,4 +1,6 @@
 // One dock, four bays: a bay restores a record while a rewrite is left to it.
+#![tactic(auto)]
+
 ghost use Rattle.std.specs.Prelude.{◌≡◌, true, ◌<◌, length};
 ghost use Rattle.dock.specs.declared.Reach.TheVariants.{Longest, Named};
 ghost use Rattle.dock.specs.Dock.{bays, charged, any_left, spent, call_on, Serves};
@@ -18,21 +20,21 @@ const OWN: u16 = 100;
 const COMMON: u16 = 600;
 
 // The rewrites left: those of each bay, and the common ones.
-#[derive(Drop)]
+#[derive(Clone, Copy)]
 pub struct Rewrites {
     pub own: [u16; BAYS],
     pub common: u16,
 }
 
 // The reach that a call names; with none it is the longest that the record's erasures leave.
-#[derive(Drop)]
+#[derive(Clone, Copy)]
 pub enum Reach {
     Longest,
     Named(u8),
 }
 
 // What a bay's call answers, and the rewrites left for the next one.
-#[derive(Drop)]
+#[derive(Clone, Copy)]
 pub struct Served {
     pub answer: Repair,
     pub left: Rewrites,

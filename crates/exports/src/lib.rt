@@ -1,6 +1,8 @@
 // The calls for C and Rust. Each returns refusal + 256 * value, the card check a record number, as its contract says by the same
 // definitions as the call behind it.
 // A slice is passed as its pointer, then its length.
+#![tactic(auto)]
+
 ghost use Rattle.std.specs.Prelude.{◌≡◌};
 ghost use Rattle.field.specs.Answer.{sum_of, product_of, power_of, inverse_of};
 ghost use Rattle.code.specs.Call.{syndromes_of, syndromes_given, within_of, within_written};

@@ -1,8 +1,8 @@
 -- The laws of the field (`IsField` of specs/Laws.antt), proved at every width at which α generates the symbols other than 0.
 -- Assumes nothing.
-use Rattle.field.proofs.Base.{◌≡◌, refl, sym, ap, ap₂, ◌∙◌, ◌≢◌, ℕ, zero, suc, ◌+◌, ◌-◌, ◌*◌, ◌/◌, ◌%◌, ◌≤◌, ◌<◌, add-zero, dec_lt, ℕ_discrete}
+use Rattle.field.proofs.Base.{◌≡◌, refl, sym, ap, ap₂, ◌∙◌, ◌≢◌, ℕ, zero, suc, ◌+◌, ◌-◌, ◌*◌, ◌/◌, ◌%◌, ◌≤◌, ◌<◌, dec_lt, ℕ_discrete}
 use Rattle.field.proofs.Base.{arith}
-use native.Mathlib.Nat.{zero-add, mul_comm, pow-suc}
+use native.Mathlib.Nat.{mul_comm, pow-suc}
 use lib.Pow.{pow_mono}
 use Rattle.field.specs.Polynomial.{add}
 use Rattle.field.proofs.Polynomial.{add_comm, add_assoc, add_left_comm, add_zero_l, add_zero_r, add-self, add-lt, add-cancel, eq-of-add}

@@ -1,4 +1,6 @@
 // The field of 2^m symbols at the widths m = 3, 4, 5 and 7, and the questions that every call puts to its input.
+#![tactic(auto)]
+
 ghost use Rattle.std.specs.Prelude.{◌≡◌, ◌∷◌, []};
 ghost use Rattle.field.specs.Question.{refusal};
 ghost use Rattle.field.specs.Answer.{outcome, operands, sum_of, product_of, power_of, inverse_of};
@@ -16,7 +18,7 @@ pub mod trace;
 use arithmetic::{multiply, order_of, raise};
 
 // The questions of document 01, in its order, then those of document 02. What they call marks are the erasures here.
-#[derive(Drop)]
+#[derive(Clone, Copy)]
 pub enum Question {
     // Is the width 3, 4, 5 or 7?
     Width,
@@ -63,21 +65,21 @@ pub enum Question {
 }
 
 // Every question so far was answered yes, or one was answered no.
-#[derive(Drop)]
+#[derive(Clone, Copy)]
 pub enum Verdict {
     Passed,
     Refused(Question),
 }
 
 // A symbol, or the question that was answered no.
-#[derive(Drop)]
+#[derive(Clone, Copy)]
 pub enum Answer {
     Value(u8),
     Refused(Question),
 }
 
 // An exponent. A place of a word is a type of its own.
-#[derive(Drop)]
+#[derive(Clone, Copy)]
 pub struct Exponent(pub u16);
 
 // The number by which the documents name the refusal.

@@ -27,7 +27,7 @@ use Rattle.report.proofs.Days.{slot-some, is-sheet}
 use Rattle.report.proofs.Comparing.{sheet-signs-long, sheet-signs-at, compared-number, compared-other}
 use Rattle.report.proofs.Order.{earlier-irreflexive, earlier-transitive, earlier-total}
 use Rattle.report.proofs.Quarters.{stands-for, quarter-texts}
-use Rattle.report.proofs.Totals.{all-looked, row-totals, refused-total, blank-total, goes_on, goes-not-on, row-mean, row-none, row-highest}
+use Rattle.report.proofs.Totals.{all-looked, row-totals, refused-total, blank-total, goes-on, goes-not-on, row-mean, row-none, row-highest}
 
 -- ---- two day sheets side by side
 
@@ -176,7 +176,7 @@ pub kinds-counted : KindsCounted
 kinds-counted w card h = (refused-total w h card, blank-total w h card)
 
 pub more-said : MoreSaid
-more-said w card h = (goes_on w h card, goes-not-on w h card)
+more-said w card h = (goes-on w h card, goes-not-on w h card)
 
 pub mean-stands : MeanStands
 mean-stands w card p h l = (row-mean w h card p l, row-none w h card p l)

@@ -483,8 +483,8 @@ module _ (w : Window) (wh : is_window w ≡ true) (card : List ℕ) where
       get_or-set_same (part_added w no_report (listed_part card)) more_at (cond (goes_on card) 1 0) 0
       (omega (arith, (countable w wh (listed_part card) (record_count (length (listed_part card)))).size))
 
-  pub goes_on : most_records < record_count (length card) → at (report_of w card) more_at ≡ 1
-  goes_on h = said ∙ ap (λ (b : Bool). cond b 1 0) (lt-ltb (most_records * record_size) (length card) (omega arith))
+  pub goes-on : most_records < record_count (length card) → at (report_of w card) more_at ≡ 1
+  goes-on h = said ∙ ap (λ (b : Bool). cond b 1 0) (lt-ltb (most_records * record_size) (length card) (omega arith))
 
   pub goes-not-on : record_count (length card) ≤ most_records → at (report_of w card) more_at ≡ 0
   goes-not-on h = said ∙ ap (λ (b : Bool). cond b 1 0) (le-ltb (most_records * record_size) (length card) (omega arith))

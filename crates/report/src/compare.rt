@@ -16,7 +16,7 @@ use field::{Question, Verdict};
 use sheet::{DAY, MONTH, PUMP, QUARTERS, YEAR};
 
 // Whose sheet is chosen, or the question that was answered no.
-#[derive(Drop)]
+#[derive(Clone, Copy)]
 pub enum Choice {
     Controller,
     Cupboard,
@@ -25,7 +25,7 @@ pub enum Choice {
 
 // The choice; for each quarter hour 0 where the counts are equal, 1 where the controller's is higher, 2 where the cupboard's is; and how
 // many quarter hours are of each kind. On a refusal every number is 0.
-#[derive(Drop)]
+#[derive(Clone, Copy)]
 pub struct Comparison {
     pub choice: Choice,
     pub signs: [u8; QUARTERS],
@@ -35,14 +35,14 @@ pub struct Comparison {
 }
 
 // The comparison, beside the slot of the chosen sheet, as it was lent; nothing on a refusal.
-#[derive(Drop)]
+#[derive(Clone, Copy)]
 pub struct Compared<'a> {
     pub part: &'a [u8],
     pub comparison: Comparison,
 }
 
 // The choice, and how many bytes the part has that was handed back.
-#[derive(Drop)]
+#[derive(Clone, Copy)]
 pub struct PartTold {
     pub choice: Choice,
     pub size: usize,

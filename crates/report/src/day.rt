@@ -12,7 +12,7 @@ use sheet::{FIRST, SHEET, ask_content};
 
 // What reading a record as a day sheet answers: the number of places that restoring changed, or a refusal; and the symbols, 0 each where it
 // is refused. An enum holds no array, so the answer stands beside the symbols.
-#[derive(Drop)]
+#[derive(Clone, Copy)]
 pub struct Reading {
     pub answer: Repair,
     pub symbols: [u8; SHEET],

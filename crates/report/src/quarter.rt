@@ -11,7 +11,7 @@ use card::text::{put_bytes, put_decimal};
 use check::same;
 
 // The quarter hour, or that the text stands for none.
-#[derive(Drop)]
+#[derive(Clone, Copy)]
 pub enum Time {
     At(u8),
     Bad,

@@ -11,14 +11,14 @@ use sheet::{DAY, MONTH, QUARTERS, YEAR};
 pub(crate) const ROW: usize = 9;
 
 // A window of the day: quarter hours from the first up to the end, which is not included.
-#[derive(Drop)]
+#[derive(Clone, Copy)]
 pub struct Window {
     pub first: u8,
     pub end: u8,
 }
 
 // A date: the year less 2000, the month, the day.
-#[derive(Drop)]
+#[derive(Clone, Copy)]
 pub(crate) struct Date {
     pub year: u64,
     pub month: u64,
@@ -26,7 +26,7 @@ pub(crate) struct Date {
 }
 
 // The highest count of one quarter hour, and its earliest date.
-#[derive(Drop)]
+#[derive(Clone, Copy)]
 pub(crate) struct Peak {
     pub count: u64,
     pub date: Date,
@@ -34,7 +34,7 @@ pub(crate) struct Peak {
 
 // What is reported of a pump: sheets read; in the window the sum of starts, the number of counts of 127, the highest count; the sum's mean per
 // sheet as quotient and remainder.
-#[derive(Drop)]
+#[derive(Clone, Copy)]
 pub(crate) struct Row {
     pub sheets: u64,
     pub sum: u64,
@@ -45,7 +45,7 @@ pub(crate) struct Row {
 }
 
 // Of some counts: their sum, how many are 127, the highest.
-#[derive(Drop)]
+#[derive(Clone, Copy)]
 struct Counts {
     sum: u64,
     full: u64,

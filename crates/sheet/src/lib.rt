@@ -1,4 +1,6 @@
 // Day sheets: the compressor starts of a day, its date and its pump, as a codeword of width 7.
+#![tactic(auto)]
+
 ghost use Rattle.std.specs.Prelude.{◌≡◌, ◌<◌, length};
 ghost use Rattle.code.specs.Word.{places};
 ghost use Rattle.code.specs.Call.{done};

@@ -17,7 +17,7 @@ use card::text::{advance, put_bytes, put_field};
 use field::Verdict;
 
 // What a step answers, the state for the next one, and how far the counting has come.
-#[derive(Drop)]
+#[derive(Clone, Copy)]
 pub struct Counted {
     pub step: Stepped,
     pub progress: Progress,

@@ -1,4 +1,6 @@
 // Restoring a card as a walk of steps, and a look at a record in between.
+#![tactic(auto)]
+
 pub mod counting;
 
 ghost use Rattle.std.specs.Prelude.{◌≡◌, ◌+◌, ◌≤◌, ◌<◌, min, length};
@@ -22,21 +24,21 @@ const STEP: usize = 16;
 const ROW: usize = 132;
 
 // The state of a walk: the length of the card that it began with, and the next record, counted from 1.
-#[derive(Drop)]
+#[derive(Clone, Copy)]
 pub struct Walk {
     pub length: usize,
     pub next: usize,
 }
 
 // What a step answers, and the state for the next one.
-#[derive(Drop)]
+#[derive(Clone, Copy)]
 pub struct Stepped {
     pub verdict: Verdict,
     pub state: Walk,
 }
 
 // What a look answers, and the symbols with 0 behind them; zeros alone where it is refused.
-#[derive(Drop)]
+#[derive(Clone, Copy)]
 pub struct View {
     pub verdict: Verdict,
     pub row: [u8; ROW],

@@ -168,7 +168,7 @@ module _ (m : ℕ) (wd : is_width m ≡ true) (w es ss : List ℕ) (x : Correcti
         none b hb lb o (step-linear F (at u 0) (at u 1) b hb lb
         (subst (λ (y : ℕ). Step m 1 (at u 0) y b) (sym (row 1 (omega arith)))
         (subst (λ (y : ℕ). Step m 1 y (eliminate m 1 (point m c) (eliminate m 1 (point m a) (at ss)) 1) b) (sym (row 0 (omega arith)))
-        (D.Beside-two a c e ha hc 0 (omega arith)))))) T
+        (D.beside_two a c e ha hc 0 (omega arith)))))) T
       where
         row : (k : ℕ) → k < 2 → at u k ≡ eliminate m 1 (point m c) (eliminate m 1 (point m a) (at ss)) k
         row k h =

@@ -8,7 +8,7 @@ use Rattle.field.proofs.Laws.{IsField}
 use Rattle.field.proofs.Below.{below-head}
 use Rattle.code.specs.Word.{checks, places}
 use Rattle.code.specs.Erasure.{member}
-use Rattle.code.proofs.Algebra.{add-of-eq, square}
+use Rattle.code.proofs.Algebra.{add-of-eq}
 use Rattle.code.proofs.Questions.{not-member-head, not-member-tail}
 use Rattle.code.proofs.restoring.Extra.{Falling, falling-le}
 use Rattle.code.specs.declared.word.Place.{Place}

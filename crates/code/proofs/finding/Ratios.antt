@@ -1,7 +1,6 @@
 -- One wrong data place beside erasures, from the sums outside the erasures: each erased data place is eliminated from the sums, and two of
 -- what is left have the ratio of the wrong place. Assumes nothing.
 use Rattle.field.proofs.Base.{◌≡◌, sym, ap, ap₂, ◌∙◌, subst, ◌≢◌, true, false, List, [], ◌∷◌, ℕ, ◌+◌, ◌-◌, ◌≤◌, ◌<◌, arith}
-use native.Mathlib.Nat.{add_assoc, add_comm}
 use Rattle.field.specs.Polynomial.{add}
 use Rattle.field.specs.Field.{order, product, power}
 use Rattle.field.specs.Question.{all_below}

@@ -15,7 +15,7 @@ use Rattle.report.specs.declared.compare.Choice.{Choice}
 use Rattle.report.specs.declared.compare.Choice.TheVariants.{Refused}
 use Rattle.report.specs.declared.compare.Comparison.{Comparison}
 use Rattle.report.specs.declared.compare.PartTold.{PartTold}
-use Rattle.report.specs.Compare.{choice, part_of}
+use Rattle.report.specs.Compare.{part_of}
 
 -- the part r is the slot with the number n of the lent card: its bytes, and where they lie on it
 pub record SlotPart (card : Bor (List ℕ)) (n : ℕ) (r : Bor (List ℕ)) : Type 0 where

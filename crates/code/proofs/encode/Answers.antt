@@ -1,0 +1,26 @@
+-- `code::encode` meets its contract. Assumes nothing.
+use Rattle.field.proofs.Base.{rules, refl}
+use Rattle.code.proofs.calls.Answers.{slices-width, slices-data, slices-lengths, slices-symbols, encodes}
+use Rattle.code.proofs.encode.Goals as goal
+
+pub write_codeword-requires : goal.write_codeword-requires
+write_codeword-requires c =
+    let v = c.ask_slices in
+    let a = c.args in
+    slices-lengths a.width _ _ a.message.now v.result v.ensures (search rules)
+
+pub returns-in-Passed : goal.returns-in-Passed
+returns-in-Passed c =
+    let v = c.ask_slices in
+    let a = c.args in
+    let m = a.width in
+    let ds = a.message.now in
+    encodes m ds a.word.now _ v.result v.ensures _ (search rules)
+    (c.write_codeword.ensures (slices-width m _ _ ds v.result v.ensures (search rules))
+    (slices-data m _ _ ds v.result v.ensures (search rules)) (slices-symbols m _ _ ds v.result v.ensures (search rules)))
+
+pub returns-in-Refused : goal.returns-in-Refused
+returns-in-Refused c =
+    let v = c.ask_slices in
+    let a = c.args in
+    encodes a.width a.message.now a.word.now _ v.result v.ensures _ (search rules) refl

@@ -1,0 +1,56 @@
+-- `code::erasures::apply_correction` meets its contract. Assumes nothing.
+use Rattle.field.proofs.Base.{rules, List, ℕ, ◌≡◌, arith, ◌≤◌, length}
+use Rattle.code.specs.declared.word.Place.{Place}
+use Rattle.code.specs.inner.Place.{numbers}
+use Rattle.code.specs.inner.Matrix.{unknowns}
+use Rattle.code.proofs.Places.{numbers-length, held-length}
+use Rattle.code.proofs.restoring.Writing.{written_start, written_below, written-fits, written_on, written-end}
+use Rattle.code.proofs.erasures.apply_correction.Goals as goal
+
+few-places : (places : List Place) (count : ℕ) → length places ≡ unknowns → count ≤ unknowns → count ≤ length (numbers places)
+few-places places count five few = omega (arith, numbers-length places)
+
+few-values : (values : List ℕ) (count : ℕ) → length values ≡ unknowns → count ≤ unknowns → count ≤ length values
+few-values values count five few = omega arith
+
+pub loop-i-init : goal.loop-i-init
+loop-i-init c =
+    let five : length c.args.c.places ≡ unknowns = search (rules, held-length) in
+    written_start _ _ _ _ _ (few-places c.args.c.places c.args.c.count five c.requires.0)
+
+-- the place that is written is in the word
+pub bounds-word-p : goal.bounds-word-p
+bounds-word-p c =
+    let x = c.args.c in
+    let five : length x.places ≡ unknowns = search (rules, held-length) in
+    let five' : length x.values ≡ unknowns = search rules in
+    written_below (few-places x.places x.count five c.requires.0) (few-values x.values x.count five' c.requires.0) c.requires.2 c.requires.3
+    c.loop-i.invariant c.loop-i-test.true c.place_at-place.result.0 c.place_at-place.ensures
+
+pub bounds-word-p-in-loop-i : goal.bounds-word-p-in-loop-i
+bounds-word-p-in-loop-i c =
+    let x = c.args.c in
+    let five : length x.places ≡ unknowns = search (rules, held-length) in
+    let five' : length x.values ≡ unknowns = search rules in
+    written_below (few-places x.places x.count five c.requires.0) (few-values x.values x.count five' c.requires.0) c.requires.2 c.requires.3
+    c.loop-i.invariant c.loop-i-test.true c.place_at-place.result.0 c.place_at-place.ensures
+
+pub overflow_add-k : goal.overflow_add-k
+overflow_add-k c =
+    let x = c.args.c in
+    let five : length x.places ≡ unknowns = search (rules, held-length) in
+    let five' : length x.values ≡ unknowns = search rules in
+    let fits = written-fits (few-places x.places x.count five c.requires.0) (few-values x.values x.count five' c.requires.0) c.requires.2
+    c.requires.3 c.loop-i.invariant c.loop-i-test.true c.place_at-place.result.0 c.place_at-place.ensures _ c.change_at-k.ensures in
+    omega (arith, fits, c.requires)
+
+pub loop-i-preserved : goal.loop-i-preserved
+loop-i-preserved c =
+    let x = c.args.c in
+    let five : length x.places ≡ unknowns = search (rules, held-length) in
+    let five' : length x.values ≡ unknowns = search rules in
+    written_on (few-places x.places x.count five c.requires.0) (few-values x.values x.count five' c.requires.0) c.requires.2 c.requires.3
+    c.loop-i.invariant c.loop-i-test.true c.place_at-place.result.0 c.place_at-place.ensures _ c.change_at-k.ensures
+
+pub returns : goal.returns
+returns c = written-end c.loop-i.invariant (omega arith)

@@ -1,7 +1,0 @@
--- `code::restore_within` meets its contract. Assumes nothing.
-use Rattle.field.proofs.Base.{needs}
-use Rattle.code.proofs.restore_within.Statement.{statement}
-use Rattle.code.proofs.restore_within.Tie as tie
-
-pub restore-within-spec : {M : Type 1} → statement M
-restore-within-spec = tie.close (tie.spec (λ c κs. search needs) (λ c. search needs) (λ c. c.before.before.restore-with.ensures))

@@ -1,0 +1,21 @@
+-- `code::solver::add_row` meets its contract. Assumes nothing.
+use Rattle.field.proofs.Base.{rules, ◌≡◌, sym, ap, ◌∙◌, ℕ, length}
+use Rattle.field.proofs.Scaling.{multiple-row}
+use Rattle.code.specs.Word.{at}
+use Rattle.code.specs.inner.Matrix.{row_add}
+use Rattle.code.proofs.solving.RowLaws.{below-order, eight-row_add}
+use Rattle.code.proofs.solver.add_row.Goals as goal
+
+pub returns-then-width-eq7 : goal.returns-then-width-eq7
+returns-then-width-eq7 c =
+    let a = c.args in
+    let seven : a.width ≡ 7 = c.if-width-eq7.true in
+    let long : length a.row ≡ 8 = search rules in
+    let wide : length a.by ≡ 8 = search rules in
+    λ k y M. c.add_multiple.ensures
+    ∙ multiple-row a.k (at a.by) a.ms (M seven (λ j h. below-order seven (y j h))) a.row (below-order seven k)
+    ∙ eight-row_add 7 a.row a.k a.by long wide
+    ∙ ap (λ (m : ℕ). row_add m a.row a.k a.by) (sym seven)
+
+pub returns : goal.returns
+returns c k y M = c.add_products.ensures k y

@@ -1,0 +1,11 @@
+-- `exports::xrs_restore_word_by_trials_within` meets its contract. Assumes nothing.
+use Rattle.field.proofs.Base.{ap, ◌∙◌}
+use Rattle.exports.specs.Packed.{packed}
+use Rattle.exports.proofs.xrs_restore_word_by_trials_within.Goals as goal
+
+pub returns : goal.returns
+returns c =
+    record {
+      answer = c.pack_repair.ensures ∙ ap packed c.restore_by_trials_within.ensures.answer;
+      written = c.restore_by_trials_within.ensures.word;
+    }

@@ -1,0 +1,11 @@
+-- `report::quarter::put_clock` meets its contract: hours and minutes stand one behind the other. Assumes nothing.
+use Rattle.field.proofs.Base.{append_assoc}
+use Rattle.card.proofs.Writing.{writes-on}
+use Rattle.report.specs.Quarter.{clock_text}
+use Rattle.report.proofs.quarter.put_clock.Goals as goal
+
+pub returns : goal.returns
+unfolding clock_text
+returns c =
+    let two = writes-on c.put_two-a.ensures.writes c.put_bytes-b.ensures in
+    simp append_assoc at (writes-on two c.put_two.ensures.writes)
