@@ -1,4 +1,9 @@
-// Checks a card. The body is in the crate programs; this program ends without its status.
-fn main() {
-    programs::cardcheck::run();
+// Checks a card. The body is in the crate programs.
+#![tactic(auto)]
+
+use mains::cardcheck_main;
+use std::process::ExitCode;
+
+fn main(rt: HostRuntime) -> ExitCode {
+    ExitCode::from(cardcheck_main(&rt))
 }

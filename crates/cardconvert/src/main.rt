@@ -1,4 +1,9 @@
-// Converts a card into the other edition. The body is in the crate programs; this program ends without its status.
-fn main() {
-    programs::cardconvert::run();
+// Converts a card into the other edition. The body is in the crate programs.
+#![tactic(auto)]
+
+use mains::cardconvert_main;
+use std::process::ExitCode;
+
+fn main(rt: HostRuntime) -> ExitCode {
+    ExitCode::from(cardconvert_main(&rt))
 }

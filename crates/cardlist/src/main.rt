@@ -1,4 +1,9 @@
-// Lists the records of a card. The body is in the crate programs; this program ends without its status.
-fn main() {
-    programs::cardlist::run();
+// Lists the records of a card. The body is in the crate programs.
+#![tactic(auto)]
+
+use mains::cardlist_main;
+use std::process::ExitCode;
+
+fn main(rt: HostRuntime) -> ExitCode {
+    ExitCode::from(cardlist_main(&rt))
 }

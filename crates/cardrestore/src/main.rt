@@ -1,4 +1,9 @@
-// Restores a card. The body is in the crate programs; this program ends without its status.
-fn main() {
-    programs::cardrestore::run();
+// Restores a card. The body is in the crate programs.
+#![tactic(auto)]
+
+use mains::cardrestore_main;
+use std::process::ExitCode;
+
+fn main(rt: HostRuntime) -> ExitCode {
+    ExitCode::from(cardrestore_main(&rt))
 }

@@ -1,4 +1,9 @@
-// Reports the starts of each pump over a card. The body is in the crate programs; this program ends without its status.
-fn main() {
-    programs::cardstarts::run();
+// Reports the starts of each pump over a card. The body is in the crate programs.
+#![tactic(auto)]
+
+use mains::cardstarts_main;
+use std::process::ExitCode;
+
+fn main(rt: HostRuntime) -> ExitCode {
+    ExitCode::from(cardstarts_main(&rt))
 }

@@ -1,76 +1,69 @@
-// The numbers that the programs' processes end with, for c/main.c. The bodies are in the crate programs.
+// The numbers that the programs' processes end with: each `main` gives its own to the system. The bodies are in the crate programs.
+#![tactic(auto)]
+
 ghost use Rattle.std.specs.Prelude.{◌≤◌};
 
 use programs::status::status_number;
 
 // Lists the records of a card.
-#[unsafe(no_mangle)]
-pub extern "C" fn cardlist_main() -> u8
+pub fn cardlist_main(rt: &HostRuntime) -> u8
     ensures { result ≤ 2 }
 {
-    status_number(programs::cardlist::run())
+    status_number(programs::cardlist::run(rt))
 }
 
 // Checks a card.
-#[unsafe(no_mangle)]
-pub extern "C" fn cardcheck_main() -> u8
+pub fn cardcheck_main(rt: &HostRuntime) -> u8
     ensures { result ≤ 2 }
 {
-    status_number(programs::cardcheck::run())
+    status_number(programs::cardcheck::run(rt))
 }
 
 // Restores a card.
-#[unsafe(no_mangle)]
-pub extern "C" fn cardrestore_main() -> u8
+pub fn cardrestore_main(rt: &HostRuntime) -> u8
     ensures { result ≤ 2 }
 {
-    status_number(programs::cardrestore::run())
+    status_number(programs::cardrestore::run(rt))
 }
 
 // Converts a card into the other edition.
-#[unsafe(no_mangle)]
-pub extern "C" fn cardconvert_main() -> u8
+pub fn cardconvert_main(rt: &HostRuntime) -> u8
     ensures { result ≤ 2 }
 {
-    status_number(programs::cardconvert::run())
+    status_number(programs::cardconvert::run(rt))
 }
 
 // Reports the starts of each pump over a card.
-#[unsafe(no_mangle)]
-pub extern "C" fn cardstarts_main() -> u8
+pub fn cardstarts_main(rt: &HostRuntime) -> u8
     ensures { result ≤ 2 }
 {
-    status_number(programs::cardstarts::run())
+    status_number(programs::cardstarts::run(rt))
 }
 
 // Prints a card's day sheets as CSV.
-#[unsafe(no_mangle)]
-pub extern "C" fn cardsheets_main() -> u8
+pub fn cardsheets_main(rt: &HostRuntime) -> u8
     ensures { result ≤ 2 }
 {
-    status_number(programs::cardsheets::run())
+    status_number(programs::cardsheets::run(rt))
 }
 
 // Makes a card of day sheets from CSV.
-#[unsafe(no_mangle)]
-pub extern "C" fn cardwrite_main() -> u8
+pub fn cardwrite_main(rt: &HostRuntime) -> u8
     ensures { result ≤ 2 }
 {
-    status_number(programs::cardwrite::run())
+    status_number(programs::cardwrite::run(rt))
 }
 
 // Shows a record of a card.
-#[unsafe(no_mangle)]
-pub extern "C" fn cardlook_main() -> u8
+pub fn cardlook_main(rt: &HostRuntime) -> u8
     ensures { result ≤ 2 }
 {
-    status_number(programs::cardlook::run())
+    status_number(programs::cardlook::run(rt))
 }
 
 // Compares two day sheets.
-#[unsafe(no_mangle)]
-pub extern "C" fn cardcompare_main() -> u8
+pub fn cardcompare_main(rt: &HostRuntime) -> u8
     ensures { result ≤ 2 }
 {
-    status_number(programs::cardcompare::run())
+    status_number(programs::cardcompare::run(rt))
 }

@@ -1,17 +1,20 @@
 // The arguments: each has a role, by its text and by the role of the one before it, and the roles decide what is asked.
-ghost use Rattle.std.specs.Prelude.{◌≡◌, ◌+◌, ◌-◌, ◌≤◌, length};
+ghost use Rattle.std.specs.Prelude.{◌≡◌, ◌+◌, ◌-◌, ◌≤◌, length, IfOk};
 ghost use Rattle.code.specs.Call.{same_bytes};
 ghost use Rattle.programs.specs.Arguments.{own_role, role_of, argument_at, first_place, untaken, dangling, wrong_place, too_few, asked_of};
 ghost use Rattle.programs.specs.Arguments.{edition_of, reach_in, window_chosen, is_standard, is_device};
 
-use crate::files::front;
+use crate::files::{buffer, front};
+use crate::stream::{missing, too_long};
 use card::records::{ERASURE_BYTES, OLD_ERASURE_BYTES};
 use check::same;
 use report::quarter::Time;
 use report::row::{Window, is_window};
+use std::env::{Env, FillError};
+use std::io;
 
 // What the arguments ask for. Wrong holds the place of an argument that is wrong.
-#[derive(Drop)]
+#[derive(Clone, Copy)]
 pub enum Asked {
     Run,
     Help,
@@ -21,7 +24,7 @@ pub enum Asked {
 }
 
 // A window of the day, or what is wrong with its two times.
-#[derive(Drop)]
+#[derive(Clone, Copy)]
 pub enum Chosen {
     Is(Window),
     FirstBad,
@@ -30,7 +33,7 @@ pub enum Chosen {
 }
 
 // The options and the number of operands that a program takes.
-#[derive(Drop)]
+#[derive(Clone, Copy)]
 pub struct Takes {
     pub out: bool,
     pub reach: bool,
@@ -193,32 +196,65 @@ pub fn asked_of(roles: &[u8], t: Takes) -> Asked
     Asked::Run
 }
 
+// Puts argument i at the front of the buffer and answers its length, or why it is not there.
+pub(crate) fn argument_or(rt: &HostRuntime, i: usize, text: &mut [u8]) -> io::Result<usize>
+    ensures size { length text.new ≡ length text.old }
+    ensures bound { IfOk result (λ n. n ≤ length text.new) }
+{
+    match rt.arg(i, text) {
+        Ok(n) => Ok(n),
+        Err(FillError::NotPresent) => Err(missing()),
+        Err(FillError::TooLong) => Err(too_long()),
+    }
+}
+
+// The same, and 0 where it is missing or longer than the buffer.
+pub(crate) fn argument(rt: &HostRuntime, i: usize, text: &mut [u8]) -> usize
+    ensures { (result ≤ length text.new) × (length text.new ≡ length text.old) }
+{
+    match argument_or(rt, i, text) {
+        Ok(n) => n,
+        Err(_) => 0,
+    }
+}
+
+// How many arguments there are, the program's name among them, and no more than the most.
+fn argument_count(rt: &HostRuntime, most: usize) -> usize {
+    let mut byte = [0u8; 1];
+    for n in 0..most {
+        if let Err(FillError::NotPresent) = rt.arg(n, &mut byte) {
+            return n;
+        }
+    }
+    most
+}
+
 // The role of argument i, behind one of the role `before`. A text of more than 4,096 bytes is no option, and no file has such a name.
-fn read_role(i: usize, before: u8) -> u8 {
-    let mut text = io::buffer();
-    let n = os::arg(i, &mut text);
+fn read_role(rt: &HostRuntime, i: usize, before: u8) -> u8 {
+    let mut text = buffer();
+    let n = argument(rt, i, &mut text);
     role_of(before, &text[..n])
 }
 
 // Fills in the roles of the arguments below `count`; the program's name, argument 0, keeps the role that it has.
-fn fill_roles(roles: &mut [u8], count: usize)
+fn fill_roles(rt: &HostRuntime, roles: &mut [u8], count: usize)
     requires { (1 ≤ count) × (count ≤ length roles.old) }
     ensures { length roles.new ≡ length roles.old }
 {
     let mut i = 1;
     while i < count {
-        roles[i] = read_role(i, roles[i - 1]);
+        roles[i] = read_role(rt, i, roles[i - 1]);
         i += 1;
     }
 }
 
 // As many roles as there is room for; no program takes so many arguments, so that one among them is wrong.
-pub fn read_roles(roles: &mut [u8]) -> usize
+pub fn read_roles(rt: &HostRuntime, roles: &mut [u8]) -> usize
     requires { 1 ≤ length roles.old }
     ensures { (1 ≤ result) × (result ≤ length roles.new) × (length roles.new ≡ length roles.old) }
 {
-    let count = within(os::arg_count(), roles.len());
-    fill_roles(roles, count);
+    let count = within(argument_count(rt, roles.len()), roles.len());
+    fill_roles(rt, roles, count);
     count
 }
 
@@ -300,10 +336,10 @@ pub fn is_device(path: &[u8]) -> bool
 }
 
 // What the arguments ask of a program. Their roles go into the buffer.
-pub fn ask(roles: &mut [u8], t: Takes) -> Asked
+pub fn ask(rt: &HostRuntime, roles: &mut [u8], t: Takes) -> Asked
     requires { (1 ≤ length roles.old) × (t.most ≤ 4) }
     ensures { length roles.new ≡ length roles.old }
 {
-    let n = read_roles(roles);
+    let n = read_roles(rt, roles);
     asked_of(front(roles, n), t)
 }

@@ -11,25 +11,25 @@ ghost use Rattle.programs.specs.Compare.{sheet_answer, sheets_said, said_by, sai
 ghost use Rattle.programs.specs.inner.Seeks.{SeeksSlot};
 ghost use Rattle.programs.specs.inner.Compares.{SlotFound, WritesAccepted};
 
-use crate::arguments::{Asked, OPERAND, Takes, ask, is_standard, place_of};
-use crate::files::{close_output, front, open_card};
+use crate::arguments::{Asked, OPERAND, Takes, argument, ask, is_standard, place_of};
+use crate::files::{buffer, close_output, front, open_card};
 use crate::help::explain;
 use crate::input::Input;
 use crate::message::{Program, say_failure, say_old, say_wrong};
 use crate::output::{Output, output_of, write_part};
 use crate::seek::{Sought, number_at, say_refused, seek};
 use crate::status::Status;
+use crate::stream::{STDOUT_FILENO, Stream, is_closed, no_cause};
 use card::records::RECORD;
 use code::Repair;
 use field::Question;
-use libc::{EBADF, SEEK_CUR, STDIN_FILENO, STDOUT_FILENO};
 use report::compare::{Choice, Comparison, compare};
 use report::day::read_day;
 use sheet::QUARTERS;
 use show::comparison::{COMPARISON_TEXT, put_comparison};
 
 // Whose record a message names, with the question that was answered no.
-#[derive(Drop)]
+#[derive(Clone, Copy)]
 pub enum Refusal {
     Nobody,
     Controller(Question),
@@ -37,7 +37,7 @@ pub enum Refusal {
 }
 
 // What was read of both cards and written, how the comparison ended, and what is to be said.
-#[derive(Drop)]
+#[derive(Clone, Copy)]
 pub struct CardsCompared {
     pub controller: Input,
     pub cupboard: Input,
@@ -120,6 +120,7 @@ fn both_read(i: Input, j: Input) -> bool
 
 // Writes the comparison x of slot a with the number n, of the card read as i, and slot b with the number m, of that read as j.
 fn write_comparison<'a>(
+    rt: &HostRuntime,
     i: Input,
     n: u64,
     a: &'a [u8],
@@ -134,6 +135,8 @@ fn write_comparison<'a>(
     let mut out = [0u8; COMPARISON_TEXT];
     let used = put_comparison(&mut out, x, a, b);
     write_part(
+        rt,
+        &Stream::StandardOutput,
         output_of(STDOUT_FILENO),
         &out[..used],
         Program::Compare,
@@ -143,6 +146,7 @@ fn write_comparison<'a>(
 
 // The same where it is accepted, and nothing where it is refused.
 fn write_accepted<'a>(
+    rt: &HostRuntime,
     i: Input,
     n: u64,
     a: &'a [u8],
@@ -155,13 +159,21 @@ fn write_accepted<'a>(
     ensures { WritesAccepted a.now b.now result }
 {
     if is_compared(x) {
-        return write_comparison(i, n, a, j, m, b, x);
+        return write_comparison(rt, i, n, a, j, m, b, x);
     }
     output_of(STDOUT_FILENO)
 }
 
 // Compares the slots that were sought; nothing where a read failed.
-fn answer<'a>(n: u64, s: Sought, row: &'a [u8], m: u64, t: Sought, other: &'a [u8]) -> CardsCompared
+fn answer<'a>(
+    rt: &HostRuntime,
+    n: u64,
+    s: Sought,
+    row: &'a [u8],
+    m: u64,
+    t: Sought,
+    other: &'a [u8],
+) -> CardsCompared
     requires { SeeksSlot (n - 1) s row.now × SeeksSlot (m - 1) t other.now }
     ensures { ComparesCards n m result }
 {
@@ -179,7 +191,7 @@ fn answer<'a>(n: u64, s: Sought, row: &'a [u8], m: u64, t: Sought, other: &'a [u
     let a = front(row, s.len);
     let b = front(other, t.len);
     let x = compare(a, 1, b, 1);
-    let output = write_accepted(controller, n, a, cupboard, m, b, x);
+    let output = write_accepted(rt, controller, n, a, cupboard, m, b, x);
     CardsCompared {
         controller,
         cupboard,
@@ -190,105 +202,129 @@ fn answer<'a>(n: u64, s: Sought, row: &'a [u8], m: u64, t: Sought, other: &'a [u
 }
 
 // Compares the slot with the number n of the controller's card and that with the number m of the cupboard's.
-fn compare_cards(fd: i32, n: u64, file: &[u8], other_fd: i32, m: u64, other: &[u8]) -> CardsCompared
+fn compare_cards(
+    rt: &HostRuntime,
+    from: &Stream,
+    n: u64,
+    file: &[u8],
+    other_from: &Stream,
+    m: u64,
+    other: &[u8],
+) -> CardsCompared
     requires { (1 ≤ n) × (1 ≤ m) }
     ensures { ComparesCards n m result }
 {
     let mut row = [0u8; RECORD];
-    let s = seek(Program::Compare, fd, n - 1, &mut row, file);
+    let s = seek(rt, from, Program::Compare, n - 1, &mut row, file);
     let mut other_row = [0u8; RECORD];
-    let t = seek(Program::Compare, other_fd, m - 1, &mut other_row, other);
-    answer(n, s, &row, m, t, &other_row)
+    let t = seek(
+        rt,
+        other_from,
+        Program::Compare,
+        m - 1,
+        &mut other_row,
+        other,
+    );
+    answer(rt, n, s, &row, m, t, &other_row)
 }
 
 // Says that a card which was read to its end looks like one of the old edition, where it does.
-fn say_ended(i: Input, file: &[u8]) {
+fn say_ended(rt: &HostRuntime, i: Input, file: &[u8]) {
     if i.ended() {
-        say_old(Program::Compare, file, i.total());
+        say_old(rt, Program::Compare, file, i.total());
     }
 }
 
 // Says what is to be said of record n of the controller's card and m of the cupboard's, and closes the output.
-fn end_comparing(c: CardsCompared, n: u64, file: &[u8], m: u64, other: &[u8]) -> Status {
+fn end_comparing(
+    rt: &HostRuntime,
+    c: CardsCompared,
+    n: u64,
+    file: &[u8],
+    m: u64,
+    other: &[u8],
+) -> Status {
     let refusal = c.refusal;
     match refusal {
         Refusal::Nobody => {}
-        Refusal::Controller(q) => say_refused(Program::Compare, file, n, q),
-        Refusal::Cupboard(q) => say_refused(Program::Compare, other, m, q),
+        Refusal::Controller(q) => say_refused(rt, Program::Compare, file, n, q),
+        Refusal::Cupboard(q) => say_refused(rt, Program::Compare, other, m, q),
     }
-    say_ended(c.controller, file);
-    say_ended(c.cupboard, other);
+    say_ended(rt, c.controller, file);
+    say_ended(rt, c.cupboard, other);
     let status = c.status;
-    close_output(Program::Compare, status)
+    close_output(rt, Program::Compare, status)
 }
 
 // Compares the slots with the numbers n and m of the cards that the arguments `place` and `other_place` name.
-fn compare_named(n: u64, place: usize, m: u64, other_place: usize) -> Status
+fn compare_named(rt: &HostRuntime, n: u64, place: usize, m: u64, other_place: usize) -> Status
     requires { (1 ≤ n) × (1 ≤ m) }
 {
-    let mut name = io::buffer();
-    let file = open_card(Program::Compare, place, &mut name);
+    let mut name = buffer();
+    let file = open_card(rt, Program::Compare, place, &mut name);
     if !file.open {
         return Status::NotDone;
     }
-    let mut other_name = io::buffer();
-    let other = open_card(Program::Compare, other_place, &mut other_name);
+    let mut other_name = buffer();
+    let other = open_card(rt, Program::Compare, other_place, &mut other_name);
     if !other.open {
         return Status::NotDone;
     }
     let controller = front(&name, file.len);
     let cupboard = front(&other_name, other.len);
-    let compared = compare_cards(file.fd, n, controller, other.fd, m, cupboard);
-    end_comparing(compared, n, controller, m, cupboard)
+    let compared = compare_cards(rt, &file.stream, n, controller, &other.stream, m, cupboard);
+    end_comparing(rt, compared, n, controller, m, cupboard)
 }
 
 // Is argument `place` a hyphen, which names standard input? A name of more than 16 bytes is none.
-fn is_hyphen(place: usize) -> bool {
+fn is_hyphen(rt: &HostRuntime, place: usize) -> bool {
     let mut text = [0u8; 16];
-    let n = os::arg(place, &mut text);
+    let n = argument(rt, place, &mut text);
     is_standard(place, &text[..n])
 }
 
 // Is standard input open, as far as that can be asked? Where it is closed, a file that is opened gets its descriptor, and would be read in its
 // place.
-fn has_input() -> bool {
-    if libc::lseek(STDIN_FILENO, 0, SEEK_CUR) < 0 && os::errno() == EBADF {
-        say_failure(Program::Compare, b"standard input");
+fn has_input(rt: &HostRuntime) -> bool {
+    let mut cause = no_cause();
+    if is_closed(rt, &Stream::StandardInput, &mut cause) {
+        say_failure(rt, Program::Compare, b"standard input", cause);
         return false;
     }
     true
 }
 
 // Compares slot n of one card and slot m of another, unless both are standard input.
-fn compare_places(n: u64, place: usize, m: u64, other_place: usize) -> Status
+fn compare_places(rt: &HostRuntime, n: u64, place: usize, m: u64, other_place: usize) -> Status
     requires { (1 ≤ n) × (1 ≤ m) }
 {
-    let first = is_hyphen(place);
-    let second = is_hyphen(other_place);
+    let first = is_hyphen(rt, place);
+    let second = is_hyphen(rt, other_place);
     if first && second {
-        return explain(Program::Compare, Asked::Wrong(other_place));
+        return explain(rt, Program::Compare, Asked::Wrong(other_place));
     }
-    if (first || second) && !has_input() {
+    if (first || second) && !has_input(rt) {
         return Status::NotDone;
     }
-    compare_named(n, place, m, other_place)
+    compare_named(rt, n, place, m, other_place)
 }
 
 // Compares the records that the arguments with these roles ask for.
-fn compare_asked(roles: &[u8]) -> Status {
+fn compare_asked(rt: &HostRuntime, roles: &[u8]) -> Status {
     let first = place_of(roles, OPERAND, 1);
-    let n = number_at(first);
+    let n = number_at(rt, first);
     if n == 0 {
-        say_wrong(Program::Compare, b"N is no number of a record: ", first);
+        say_wrong(rt, Program::Compare, b"N is no number of a record: ", first);
         return Status::NotDone;
     }
     let third = place_of(roles, OPERAND, 3);
-    let m = number_at(third);
+    let m = number_at(rt, third);
     if m == 0 {
-        say_wrong(Program::Compare, b"M is no number of a record: ", third);
+        say_wrong(rt, Program::Compare, b"M is no number of a record: ", third);
         return Status::NotDone;
     }
     compare_places(
+        rt,
         n,
         place_of(roles, OPERAND, 2),
         m,
@@ -297,7 +333,7 @@ fn compare_asked(roles: &[u8]) -> Status {
 }
 
 // The program.
-pub fn run() -> Status {
+pub fn run(rt: &HostRuntime) -> Status {
     let mut roles = [0u8; 32];
     let takes = Takes {
         out: false,
@@ -305,9 +341,9 @@ pub fn run() -> Status {
         least: 4,
         most: 4,
     };
-    let asked = ask(&mut roles, takes);
+    let asked = ask(rt, &mut roles, takes);
     match asked {
-        Asked::Run => compare_asked(&roles),
-        _ => explain(Program::Compare, asked),
+        Asked::Run => compare_asked(rt, &roles),
+        _ => explain(rt, Program::Compare, asked),
     }
 }

@@ -10,20 +10,20 @@ ghost use Rattle.programs.specs.Convert.{other_edition, Converted, AsksCard, Acc
 ghost use Rattle.programs.specs.inner.Turns.{CanRead, CanWrite};
 ghost use Rattle.programs.specs.inner.Copies.{AsksBatch, CopiesBatch, CopiesSlots, copy_slots, copy_size, Fine};
 
-use crate::arguments::{Asked, OPERAND, OUT_VALUE, Takes, ask, edition_of, place_of};
-use crate::files::{discard, front, open_card, open_target, publish};
+use crate::arguments::{Asked, OPERAND, OUT_VALUE, Takes, argument, ask, edition_of, place_of};
+use crate::files::{buffer, discard, front, open_card, open_target, publish};
 use crate::help::explain;
 use crate::input::{Input, input_of, read_batch};
-use crate::message::{Program, say, say_failure, say_name, say_wrong};
+use crate::message::{Program, say, say_decimal, say_failure, say_name, say_wrong};
 use crate::output::{Output, output_of, write_part};
 use crate::status::Status;
+use crate::stream::{Stream, descriptor, no_cause, place_in, return_to};
 use card::conversion::{card_to_new, card_to_old};
 use card::parts::{Findings, found_number, found_verdict, nothing_found, see_part};
 use card::records::{ERASURE_BYTES, OLD_ERASURE_BYTES, size_of};
 use card::words::put_refusal;
 use card::{BATCH, BATCH_SLOTS, MOST_BATCHES};
 use field::{Question, Verdict};
-use libc::{SEEK_CUR, SEEK_SET};
 
 // So many slots are converted at a time: two buffers are held.
 const COPY_SLOTS: usize = 200;
@@ -32,7 +32,7 @@ const COPY_SLOTS: usize = 200;
 const COPY: usize = 27800;
 
 // What the questions have found, how many bytes are left behind the slots, and what was read.
-#[derive(Drop)]
+#[derive(Clone, Copy)]
 pub struct Inquiry {
     pub findings: Findings,
     pub rest: usize,
@@ -40,7 +40,7 @@ pub struct Inquiry {
 }
 
 // What was read and written in the second reading, and whether every batch was full, passed the questions again and was written.
-#[derive(Drop)]
+#[derive(Clone, Copy)]
 pub struct Copying {
     pub input: Input,
     pub output: Output,
@@ -48,13 +48,21 @@ pub struct Copying {
 }
 
 // Reads a batch into the buffer and asks it, where the questions have found s before it.
-fn ask_into(buf: &mut [u8], i: Input, k: usize, s: Findings, file: &[u8]) -> Inquiry
+fn ask_into(
+    rt: &HostRuntime,
+    from: &Stream,
+    buf: &mut [u8],
+    i: Input,
+    k: usize,
+    s: Findings,
+    file: &[u8],
+) -> Inquiry
     requires { (length buf.old ≡ batch_size) × CanRead i × (k ≤ erasure_bytes) × (s.slots ≤ 2 ^ 62) }
     ensures { AsksBatch k s i result }
 {
     let size = size_of(k);
     let n = BATCH_SLOTS * size;
-    let input = read_batch(i, &mut buf[..n], Program::Convert, file);
+    let input = read_batch(rt, from, i, &mut buf[..n], Program::Convert, file);
     let count = input.count();
     let findings = see_part(s, &buf[..count], k);
     Inquiry {
@@ -65,24 +73,32 @@ fn ask_into(buf: &mut [u8], i: Input, k: usize, s: Findings, file: &[u8]) -> Inq
 }
 
 // The same with a buffer of its own: the proof above speaks of any buffer, and not of 55,600 zeros.
-fn ask_batch(i: Input, k: usize, s: Findings, file: &[u8]) -> Inquiry
+fn ask_batch(
+    rt: &HostRuntime,
+    from: &Stream,
+    i: Input,
+    k: usize,
+    s: Findings,
+    file: &[u8],
+) -> Inquiry
     requires { CanRead i × (k ≤ erasure_bytes) × (s.slots ≤ 2 ^ 62) }
     ensures { AsksBatch k s i result }
 {
     let mut buf = [0u8; BATCH];
-    ask_into(&mut buf, i, k, s, file)
+    ask_into(rt, from, &mut buf, i, k, s, file)
 }
 
 // Reads the card batch by batch to its end, or until a read fails, and asks all of it.
-fn ask_card(fd: i32, k: usize, file: &[u8]) -> Inquiry
+fn ask_card(rt: &HostRuntime, from: &Stream, k: usize, file: &[u8]) -> Inquiry
     requires { k ≤ erasure_bytes }
     ensures { AsksCard k result }
 {
+    let fd = descriptor(from);
     let mut input = input_of(fd);
     let mut s = nothing_found();
     let mut i: u64 = 0;
     while i < MOST_BATCHES {
-        let inquiry = ask_batch(input, k, s, file);
+        let inquiry = ask_batch(rt, from, input, k, s, file);
         input = inquiry.input;
         if !input.going() {
             return inquiry;
@@ -114,15 +130,25 @@ fn convert(batch: &[u8], k: usize, out: &mut [u8]) -> Verdict
 }
 
 // Writes the conversion of some slots.
-fn write_converted(o: Output, slots: &[u8], k: usize, out: &[u8]) -> Output
+fn write_converted(
+    rt: &HostRuntime,
+    to: &Stream,
+    o: Output,
+    slots: &[u8],
+    k: usize,
+    out: &[u8],
+) -> Output
     requires { CanWrite o (length slots.now) × Converted k slots.now }
     ensures { Wrote o (length slots.now) result }
 {
-    write_part(o, slots, Program::Convert, out)
+    write_part(rt, to, o, slots, Program::Convert, out)
 }
 
 // Fills the buffer with slots again and writes them in the other edition. A batch that is short or refused has changed since it was asked.
 fn copy_slots(
+    rt: &HostRuntime,
+    from: &Stream,
+    to: &Stream,
     buf: &mut [u8],
     other: &mut [u8],
     c: Copying,
@@ -135,7 +161,7 @@ fn copy_slots(
 {
     let before = c.input;
     let o = c.output;
-    let input = read_batch(before, buf, Program::Convert, file);
+    let input = read_batch(rt, from, before, buf, Program::Convert, file);
     if !input.going() {
         return Copying {
             input,
@@ -145,7 +171,7 @@ fn copy_slots(
     }
     match convert(buf, k, other) {
         Verdict::Passed => {
-            let output = write_converted(o, other, k, out);
+            let output = write_converted(rt, to, o, other, k, out);
             Copying {
                 input,
                 output,
@@ -162,6 +188,9 @@ fn copy_slots(
 
 // Lends the parts of the buffers that `want` slots take.
 fn copy_part(
+    rt: &HostRuntime,
+    from: &Stream,
+    to: &Stream,
     buf: &mut [u8],
     other: &mut [u8],
     c: Copying,
@@ -176,17 +205,36 @@ fn copy_part(
 {
     let n = want * size_of(k);
     let m = want * size_of(OLD_ERASURE_BYTES + ERASURE_BYTES - k);
-    copy_slots(&mut buf[..n], &mut other[..m], c, k, file, out)
+    copy_slots(
+        rt,
+        from,
+        to,
+        &mut buf[..n],
+        &mut other[..m],
+        c,
+        k,
+        file,
+        out,
+    )
 }
 
 // Reads `want` slots again and writes them, with buffers of its own.
-fn copy_batch(c: Copying, k: usize, want: usize, file: &[u8], out: &[u8]) -> Copying
+fn copy_batch(
+    rt: &HostRuntime,
+    from: &Stream,
+    to: &Stream,
+    c: Copying,
+    k: usize,
+    want: usize,
+    file: &[u8],
+    out: &[u8],
+) -> Copying
     requires { Fine c × (old_erasure_bytes ≤ k) × (k ≤ erasure_bytes) × (want ≤ copy_slots) }
     ensures { CopiesBatch (want * size_of k) (want * size_of (other_edition k)) c result }
 {
     let mut buf = [0u8; COPY];
     let mut other = [0u8; COPY];
-    copy_part(&mut buf, &mut other, c, k, want, file, out)
+    copy_part(rt, from, to, &mut buf, &mut other, c, k, want, file, out)
 }
 
 // The slots of the next batch, where so many are left.
@@ -201,19 +249,27 @@ fn next_batch(left: u64) -> usize
 }
 
 // Reads so many slots again and writes them in the other edition, batch by batch.
-fn copy_all(fd: i32, to: i32, k: usize, slots: u64, file: &[u8], out: &[u8]) -> Copying
+fn copy_all(
+    rt: &HostRuntime,
+    from: &Stream,
+    to: &Stream,
+    k: usize,
+    slots: u64,
+    file: &[u8],
+    out: &[u8],
+) -> Copying
     requires { (old_erasure_bytes ≤ k) × (k ≤ erasure_bytes) × (slots ≤ most_batches * batch_records) }
     ensures { CopiesSlots k slots result }
 {
     let mut c = Copying {
-        input: input_of(fd),
-        output: output_of(to),
+        input: input_of(descriptor(from)),
+        output: output_of(descriptor(to)),
         fine: true,
     };
     let mut left = slots;
     while left > 0 {
         let want = next_batch(left);
-        c = copy_batch(c, k, want, file, out);
+        c = copy_batch(rt, from, to, c, k, want, file, out);
         if !c.fine {
             return c;
         }
@@ -223,18 +279,26 @@ fn copy_all(fd: i32, to: i32, k: usize, slots: u64, file: &[u8], out: &[u8]) -> 
 }
 
 // The same, and the card must end there: one that goes on has changed too.
-fn copy_card(fd: i32, to: i32, k: usize, slots: u64, file: &[u8], out: &[u8]) -> Copying
+fn copy_card(
+    rt: &HostRuntime,
+    from: &Stream,
+    to: &Stream,
+    k: usize,
+    slots: u64,
+    file: &[u8],
+    out: &[u8],
+) -> Copying
     requires { (old_erasure_bytes ≤ k) × (k ≤ erasure_bytes) × (slots ≤ most_batches * batch_records) }
     ensures { CopiesCard k slots result }
 {
-    let c = copy_all(fd, to, k, slots, file, out);
+    let c = copy_all(rt, from, to, k, slots, file, out);
     if !c.fine {
         return c;
     }
     let mut one = [0u8; 1];
     let before = c.input;
     let output = c.output;
-    let input = read_batch(before, &mut one, Program::Convert, file);
+    let input = read_batch(rt, from, before, &mut one, Program::Convert, file);
     Copying {
         input,
         output,
@@ -243,37 +307,41 @@ fn copy_card(fd: i32, to: i32, k: usize, slots: u64, file: &[u8], out: &[u8]) ->
 }
 
 // Says which record is refused, and why. A length is refused where the card ends inside a record: so many bytes of it are there.
-fn say_refused(number: u64, q: Question, rest: usize) {
+fn say_refused(rt: &HostRuntime, number: u64, q: Question, rest: usize) {
     let mut line = [0u8; 128];
     let end = put_refusal(&mut line, 0, number, q);
-    say_name(Program::Convert);
-    say(b"nothing is written; the first record refused: ");
-    say(&line[..end]);
+    say_name(rt, Program::Convert);
+    say(rt, b"nothing is written; the first record refused: ");
+    say(rt, &line[..end]);
     if rest > 0 {
-        say_name(Program::Convert);
-        say(b"the card ends inside that record; bytes of it that are there: ");
-        io::print_decimal(libc::STDERR_FILENO, rest as u64);
-        say(b"\n");
+        say_name(rt, Program::Convert);
+        say(
+            rt,
+            b"the card ends inside that record; bytes of it that are there: ",
+        );
+        say_decimal(rt, rest as u64);
+        say(rt, b"\n");
     }
 }
 
 // Says that the card is not what it was when it was asked, where no read or write has said so.
-fn say_changed(c: Copying, file: &[u8]) {
+fn say_changed(rt: &HostRuntime, c: Copying, file: &[u8]) {
     let input = c.input;
     let output = c.output;
     if output.ok() && !input.failed() {
-        say_name(Program::Convert);
-        say(file);
-        say(b": the card changed while it was converted\n");
+        say_name(rt, Program::Convert);
+        say(rt, file);
+        say(rt, b": the card changed while it was converted\n");
     }
 }
 
 // Ends the conversion: the file gets its name where the whole card was written, and is removed where not.
 fn end_converting(
+    rt: &HostRuntime,
     c: Copying,
     k: usize,
     slots: u64,
-    to: i32,
+    to: Stream,
     file: &[u8],
     out: &[u8],
     temporary: &[u8],
@@ -284,27 +352,36 @@ fn end_converting(
     let input = c.input;
     let output = c.output;
     if c.fine {
-        if publish(Program::Convert, input, output, to, out, temporary) {
+        if publish(rt, Program::Convert, input, output, to, out, temporary) {
             return Status::Done;
         }
         return Status::NotDone;
     }
-    say_changed(c, file);
-    discard(to, temporary);
+    say_changed(rt, c, file);
+    discard(rt, to, temporary);
     Status::NotDone
 }
 
 // Reads a card that no question refuses again from where it began, converts it, and ends the file that argument `to` names.
-fn convert_again(fd: i32, start: i64, k: usize, asked: Inquiry, to: usize, file: &[u8]) -> Status
+fn convert_again(
+    rt: &HostRuntime,
+    from: &mut Stream,
+    start: i64,
+    k: usize,
+    asked: Inquiry,
+    to: usize,
+    file: &[u8],
+) -> Status
     requires { (old_erasure_bytes ≤ k) × (k ≤ erasure_bytes) × Accepted k asked }
 {
-    if libc::lseek(fd, start, SEEK_SET) != start {
-        say_failure(Program::Convert, file);
+    let mut cause = no_cause();
+    if return_to(rt, from, start, &mut cause) != start {
+        say_failure(rt, Program::Convert, file, cause);
         return Status::NotDone;
     }
-    let mut out = io::buffer();
-    let mut temporary = io::buffer();
-    let target = open_target(Program::Convert, to, &mut out, &mut temporary);
+    let mut out = buffer();
+    let mut temporary = buffer();
+    let target = open_target(rt, Program::Convert, to, &mut out, &mut temporary);
     if !target.open {
         return Status::NotDone;
     }
@@ -312,12 +389,13 @@ fn convert_again(fd: i32, start: i64, k: usize, asked: Inquiry, to: usize, file:
     let n = target.temporary;
     let s = asked.findings;
     let slots = s.slots;
-    let c = copy_card(fd, target.fd, k, slots, file, front(&out, m));
+    let c = copy_card(rt, from, &target.stream, k, slots, file, front(&out, m));
     end_converting(
+        rt,
         c,
         k,
         slots,
-        target.fd,
+        target.stream,
         file,
         front(&out, m),
         front(&temporary, n),
@@ -325,15 +403,16 @@ fn convert_again(fd: i32, start: i64, k: usize, asked: Inquiry, to: usize, file:
 }
 
 // Asks the card, and converts it where no question refuses it.
-fn convert_card(fd: i32, k: usize, to: usize, file: &[u8]) -> Status
+fn convert_card(rt: &HostRuntime, from: &mut Stream, k: usize, to: usize, file: &[u8]) -> Status
     requires { (old_erasure_bytes ≤ k) × (k ≤ erasure_bytes) }
 {
-    let start = libc::lseek(fd, 0, SEEK_CUR);
+    let mut cause = no_cause();
+    let start = place_in(rt, from, &mut cause);
     if start < 0 {
-        say_failure(Program::Convert, file);
+        say_failure(rt, Program::Convert, file, cause);
         return Status::NotDone;
     }
-    let inquiry = ask_card(fd, k, file);
+    let inquiry = ask_card(rt, from, k, file);
     let input = inquiry.input;
     let s = inquiry.findings;
     let rest = inquiry.rest;
@@ -341,42 +420,43 @@ fn convert_card(fd: i32, k: usize, to: usize, file: &[u8]) -> Status
         return Status::NotDone;
     }
     match found_verdict(s, rest) {
-        Verdict::Passed => convert_again(fd, start, k, inquiry, to, file),
+        Verdict::Passed => convert_again(rt, from, start, k, inquiry, to, file),
         Verdict::Refused(q) => {
-            say_refused(found_number(s, rest), q, rest);
+            say_refused(rt, found_number(s, rest), q, rest);
             Status::NotDone
         }
     }
 }
 
 // Converts the card that argument `place` names into the file that argument `to` names.
-fn convert_named(k: usize, place: usize, to: usize) -> Status
+fn convert_named(rt: &HostRuntime, k: usize, place: usize, to: usize) -> Status
     requires { (old_erasure_bytes ≤ k) × (k ≤ erasure_bytes) }
 {
-    let mut name = io::buffer();
-    let file = open_card(Program::Convert, place, &mut name);
+    let mut name = buffer();
+    let mut file = open_card(rt, Program::Convert, place, &mut name);
     if !file.open {
         return Status::NotDone;
     }
     let n = file.len;
-    convert_card(file.fd, k, to, front(&name, n))
+    convert_card(rt, &mut file.stream, k, to, front(&name, n))
 }
 
 // The erasure bytes of a record of the card that argument `place` says to convert.
-fn edition_at(place: usize) -> usize
+fn edition_at(rt: &HostRuntime, place: usize) -> usize
     ensures { (result ≡ 0) ⊎ ((old_erasure_bytes ≤ result) × (result ≤ erasure_bytes)) }
 {
     let mut text = [0u8; 8];
-    let n = os::arg(place, &mut text);
+    let n = argument(rt, place, &mut text);
     edition_of(&text[..n])
 }
 
 // Converts by the arguments that have these roles.
-fn convert_asked(roles: &[u8]) -> Status {
+fn convert_asked(rt: &HostRuntime, roles: &[u8]) -> Status {
     let at = place_of(roles, OPERAND, 1);
-    let k = edition_at(at);
+    let k = edition_at(rt, at);
     if k == 0 {
         say_wrong(
+            rt,
             Program::Convert,
             b"the conversion is to-new or to-old, not ",
             at,
@@ -384,6 +464,7 @@ fn convert_asked(roles: &[u8]) -> Status {
         return Status::NotDone;
     }
     convert_named(
+        rt,
         k,
         place_of(roles, OPERAND, 2),
         place_of(roles, OUT_VALUE, 1),
@@ -391,7 +472,7 @@ fn convert_asked(roles: &[u8]) -> Status {
 }
 
 // The program.
-pub fn run() -> Status {
+pub fn run(rt: &HostRuntime) -> Status {
     let mut roles = [0u8; 32];
     let takes = Takes {
         out: true,
@@ -399,9 +480,9 @@ pub fn run() -> Status {
         least: 1,
         most: 2,
     };
-    let asked = ask(&mut roles, takes);
+    let asked = ask(rt, &mut roles, takes);
     match asked {
-        Asked::Run => convert_asked(&roles),
-        _ => explain(Program::Convert, asked),
+        Asked::Run => convert_asked(rt, &roles),
+        _ => explain(rt, Program::Convert, asked),
     }
 }

@@ -4,42 +4,45 @@ ghost use Rattle.std.specs.Prelude.{◌≡◌, true};
 ghost use Rattle.programs.specs.Write.{TakesText, all_taken, EndsWriting};
 
 use crate::arguments::{Asked, OPERAND, OUT_VALUE, Takes, ask, place_of};
-use crate::files::{discard, front, open_card, open_target, publish};
+use crate::files::{buffer, discard, front, open_card, open_target, publish};
 use crate::help::explain;
 use crate::intake::{Taken, goes_on, take_text};
-use crate::message::{Program, say, say_failure, say_name};
+use crate::message::{Program, say, say_decimal, say_failure, say_name};
 use crate::status::Status;
+use crate::stream::{Stream, no_cause, place_in, return_to};
 use card_csv::{Fault, TextVerdict};
-use libc::{SEEK_CUR, SEEK_SET};
 
 // Says which line is refused.
-fn say_line(file: &[u8], line: u64) {
-    say_name(Program::Write);
-    say(file);
-    say(b": line ");
-    io::print_decimal(libc::STDERR_FILENO, line);
+fn say_line(rt: &HostRuntime, file: &[u8], line: u64) {
+    say_name(rt, Program::Write);
+    say(rt, file);
+    say(rt, b": line ");
+    say_decimal(rt, line);
 }
 
 // Says what is wrong with a line.
-fn say_fault(file: &[u8], line: u64, fault: Fault) {
-    say_line(file, line);
+fn say_fault(rt: &HostRuntime, file: &[u8], line: u64, fault: Fault) {
+    say_line(rt, file, line);
     match fault {
-        Fault::Columns => say(b": the number of columns is not that of the header\n"),
-        Fault::Number => say(b": a column is no number\n"),
-        Fault::Date => say(b": the date does not exist, or no day sheet can hold it\n"),
-        Fault::Pump => say(b": the pump is above 127\n"),
-        Fault::Count => say(b": a count is above 127\n"),
+        Fault::Columns => say(rt, b": the number of columns is not that of the header\n"),
+        Fault::Number => say(rt, b": a column is no number\n"),
+        Fault::Date => say(
+            rt,
+            b": the date does not exist, or no day sheet can hold it\n",
+        ),
+        Fault::Pump => say(rt, b": the pump is above 127\n"),
+        Fault::Count => say(rt, b": a count is above 127\n"),
     }
 }
 
 // Says that a line is no header.
-fn say_header(file: &[u8], line: u64) {
-    say_line(file, line);
-    say(b": this is no header of day sheets\n");
+fn say_header(rt: &HostRuntime, file: &[u8], line: u64) {
+    say_line(rt, file, line);
+    say(rt, b": this is no header of day sheets\n");
 }
 
 // Says which line is refused, and why; a text without lines has no header. Where a write failed that is said instead.
-fn say_verdict(t: Taken, file: &[u8]) {
+fn say_verdict(rt: &HostRuntime, t: Taken, file: &[u8]) {
     let state = t.state;
     let input = t.input;
     let output = t.output;
@@ -51,14 +54,14 @@ fn say_verdict(t: Taken, file: &[u8]) {
     match verdict {
         TextVerdict::Fine => {
             if lines == 0 && input.ended() {
-                say_header(file, 1);
+                say_header(rt, file, 1);
             }
         }
-        TextVerdict::NoHeader => say_header(file, lines),
-        TextVerdict::Wrong(fault) => say_fault(file, lines, fault),
+        TextVerdict::NoHeader => say_header(rt, file, lines),
+        TextVerdict::Wrong(fault) => say_fault(rt, file, lines, fault),
         TextVerdict::TooLong => {
-            say_line(file, lines);
-            say(b": the line is longer than that of any sheet\n");
+            say_line(rt, file, lines);
+            say(rt, b": the line is longer than that of any sheet\n");
         }
     }
 }
@@ -76,17 +79,17 @@ fn is_accepted(t: Taken) -> bool
 }
 
 // Ends the card: the file gets its name where all lines were taken and written, and is removed where not.
-fn end_writing(t: Taken, to: i32, out: &[u8], temporary: &[u8]) -> Status
+fn end_writing(rt: &HostRuntime, t: Taken, to: Stream, out: &[u8], temporary: &[u8]) -> Status
     requires { TakesText true t }
     ensures { EndsWriting t result }
 {
     if !is_accepted(t) {
-        discard(to, temporary);
+        discard(rt, to, temporary);
         return Status::NotDone;
     }
     let input = t.input;
     let output = t.output;
-    if publish(Program::Write, input, output, to, out, temporary) {
+    if publish(rt, Program::Write, input, output, to, out, temporary) {
         Status::Done
     } else {
         Status::NotDone
@@ -94,54 +97,55 @@ fn end_writing(t: Taken, to: i32, out: &[u8], temporary: &[u8]) -> Status
 }
 
 // Writes the card of the text that is open into the file that argument `to` names.
-fn write_card(fd: i32, to: usize, file: &[u8]) -> Status {
-    let mut out = io::buffer();
-    let mut temporary = io::buffer();
-    let target = open_target(Program::Write, to, &mut out, &mut temporary);
+fn write_card(rt: &HostRuntime, from: &Stream, to: usize, file: &[u8]) -> Status {
+    let mut out = buffer();
+    let mut temporary = buffer();
+    let target = open_target(rt, Program::Write, to, &mut out, &mut temporary);
     if !target.open {
         return Status::NotDone;
     }
     let n = target.len;
     let k = target.temporary;
-    let t = take_text(fd, target.fd, true, file, front(&out, n));
-    say_verdict(t, file);
-    end_writing(t, target.fd, front(&out, n), front(&temporary, k))
+    let t = take_text(rt, from, &target.stream, true, file, front(&out, n));
+    say_verdict(rt, t, file);
+    end_writing(rt, t, target.stream, front(&out, n), front(&temporary, k))
 }
 
 // Reads the text a first time where it can be read twice, and goes back to where it began; answers whether its card may be written.
-fn is_asked(fd: i32, file: &[u8]) -> bool {
-    let start = libc::lseek(fd, 0, SEEK_CUR);
+fn is_asked(rt: &HostRuntime, from: &mut Stream, file: &[u8]) -> bool {
+    let mut cause = no_cause();
+    let start = place_in(rt, from, &mut cause);
     if start < 0 {
         return true;
     }
-    let asked = take_text(fd, -1, false, file, file);
-    say_verdict(asked, file);
+    let asked = take_text(rt, from, &Stream::Nothing, false, file, file);
+    say_verdict(rt, asked, file);
     if !is_accepted(asked) {
         return false;
     }
-    if libc::lseek(fd, start, SEEK_SET) != start {
-        say_failure(Program::Write, file);
+    if return_to(rt, from, start, &mut cause) != start {
+        say_failure(rt, Program::Write, file, cause);
         return false;
     }
     true
 }
 
 // Writes the card of the text that argument `place` names.
-fn write_named(place: usize, to: usize) -> Status {
-    let mut name = io::buffer();
-    let file = open_card(Program::Write, place, &mut name);
+fn write_named(rt: &HostRuntime, place: usize, to: usize) -> Status {
+    let mut name = buffer();
+    let mut file = open_card(rt, Program::Write, place, &mut name);
     if !file.open {
         return Status::NotDone;
     }
     let n = file.len;
-    if !is_asked(file.fd, front(&name, n)) {
+    if !is_asked(rt, &mut file.stream, front(&name, n)) {
         return Status::NotDone;
     }
-    write_card(file.fd, to, front(&name, n))
+    write_card(rt, &file.stream, to, front(&name, n))
 }
 
 // The program.
-pub fn run() -> Status {
+pub fn run(rt: &HostRuntime) -> Status {
     let mut roles = [0u8; 32];
     let takes = Takes {
         out: true,
@@ -149,9 +153,13 @@ pub fn run() -> Status {
         least: 0,
         most: 1,
     };
-    let asked = ask(&mut roles, takes);
+    let asked = ask(rt, &mut roles, takes);
     match asked {
-        Asked::Run => write_named(place_of(&roles, OPERAND, 1), place_of(&roles, OUT_VALUE, 1)),
-        _ => explain(Program::Write, asked),
+        Asked::Run => write_named(
+            rt,
+            place_of(&roles, OPERAND, 1),
+            place_of(&roles, OUT_VALUE, 1),
+        ),
+        _ => explain(rt, Program::Write, asked),
     }
 }

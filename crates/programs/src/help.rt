@@ -5,13 +5,20 @@ use crate::arguments::Asked;
 use crate::message::{Program, say, say_name, say_usage, say_wrong};
 use crate::output::{output_of, write_part};
 use crate::status::Status;
-use libc::STDOUT_FILENO;
+use crate::stream::{STDOUT_FILENO, Stream};
 
 // Writes a text on standard output.
-fn print(p: Program, text: &[u8]) -> Status
+fn print(rt: &HostRuntime, p: Program, text: &[u8]) -> Status
     ensures { Printed result }
 {
-    let o = write_part(output_of(STDOUT_FILENO), text, p, b"standard output");
+    let o = write_part(
+        rt,
+        &Stream::StandardOutput,
+        output_of(STDOUT_FILENO),
+        text,
+        p,
+        b"standard output",
+    );
     if o.ok() {
         Status::Done
     } else {
@@ -20,11 +27,12 @@ fn print(p: Program, text: &[u8]) -> Status
 }
 
 // How the program is called, and what it does.
-fn print_help(p: Program) -> Status
+fn print_help(rt: &HostRuntime, p: Program) -> Status
     ensures { Printed result }
 {
     match p {
         Program::List => print(
+            rt,
             p,
             b"usage: cardlist [FILE]
 Lists the records of the card FILE, a line for each: its number, its byte 0, the refusal number or 0,
@@ -33,6 +41,7 @@ Status: 0 listed; 2 not all of the card could be read, or not all of the listing
 ",
         ),
         Program::Restore => print(
+            rt,
             p,
             b"usage: cardrestore [-o OUT] [--reach 0|1|2] [FILE]
 Restores the records of the card FILE, and writes the restored card to standard output, or to the
@@ -42,6 +51,7 @@ Status: 0 every record restored; 1 done, but some record was refused and is as i
 ",
         ),
         Program::Check => print(
+            rt,
             p,
             b"usage: cardcheck [FILE]
 Checks the card FILE: prints ok, or the number of the first record that would be refused, its refusal
@@ -50,6 +60,7 @@ Status: 0 ok; 1 a record would be refused; 2 the card could not be read to its e
 ",
         ),
         Program::Convert => print(
+            rt,
             p,
             b"usage: cardconvert to-new|to-old [-o OUT] [FILE]
 Converts the card FILE into the new or the old edition, and writes it to standard output, or to the
@@ -59,6 +70,7 @@ Status: 0 converted; 2 not done.
 ",
         ),
         Program::Starts => print(
+            rt,
             p,
             b"usage: cardstarts FIRST END [FILE]
 Prints a table of the starts of each pump from the quarter hour FIRST until END (0 to 96, or hh:mm),
@@ -67,6 +79,7 @@ Status: 0 done; 2 not done.
 ",
         ),
         Program::Sheets => print(
+            rt,
             p,
             b"usage: cardsheets [FILE]
 Prints the day sheets of the card FILE as CSV: a header, then a line for each sheet with its slot, its
@@ -76,6 +89,7 @@ Status: 0 every record is a day sheet; 1 done, but some record is none; 2 not do
 ",
         ),
         Program::Write => print(
+            rt,
             p,
             b"usage: cardwrite [-o OUT] [FILE]
 Makes a card of the day sheets in the CSV text FILE: a header as cardsheets prints it, or without slot
@@ -86,6 +100,7 @@ Status: 0 written; 2 not done.
 ",
         ),
         Program::Look => print(
+            rt,
             p,
             b"usage: cardlook N [FILE]
 Shows record N of the card FILE: its width, erasures and syndromes, what restoring would change, place
@@ -95,6 +110,7 @@ Status: 0 shown; 1 shown, and the record would be refused; 2 not done.
 ",
         ),
         Program::Compare => print(
+            rt,
             p,
             b"usage: cardcompare N FILE M FILE
 Compares two day sheets of one pump and date: record N of the first FILE, the controller's card, and
@@ -108,37 +124,37 @@ Status: 0 compared, all counts are equal; 1 compared, some count differs; 2 not 
 }
 
 // The program's name and version.
-fn print_version(p: Program) -> Status
+fn print_version(rt: &HostRuntime, p: Program) -> Status
     ensures { Printed result }
 {
     match p {
-        Program::List => print(p, b"cardlist 0.1.0\n"),
-        Program::Restore => print(p, b"cardrestore 0.1.0\n"),
-        Program::Check => print(p, b"cardcheck 0.1.0\n"),
-        Program::Convert => print(p, b"cardconvert 0.1.0\n"),
-        Program::Starts => print(p, b"cardstarts 0.1.0\n"),
-        Program::Sheets => print(p, b"cardsheets 0.1.0\n"),
-        Program::Write => print(p, b"cardwrite 0.1.0\n"),
-        Program::Look => print(p, b"cardlook 0.1.0\n"),
-        Program::Compare => print(p, b"cardcompare 0.1.0\n"),
+        Program::List => print(rt, p, b"cardlist 0.1.0\n"),
+        Program::Restore => print(rt, p, b"cardrestore 0.1.0\n"),
+        Program::Check => print(rt, p, b"cardcheck 0.1.0\n"),
+        Program::Convert => print(rt, p, b"cardconvert 0.1.0\n"),
+        Program::Starts => print(rt, p, b"cardstarts 0.1.0\n"),
+        Program::Sheets => print(rt, p, b"cardsheets 0.1.0\n"),
+        Program::Write => print(rt, p, b"cardwrite 0.1.0\n"),
+        Program::Look => print(rt, p, b"cardlook 0.1.0\n"),
+        Program::Compare => print(rt, p, b"cardcompare 0.1.0\n"),
     }
 }
 
 // Answers arguments that ask for no run.
-pub fn explain(p: Program, asked: Asked) -> Status
+pub fn explain(rt: &HostRuntime, p: Program, asked: Asked) -> Status
     ensures { Explained asked result }
 {
     match asked {
-        Asked::Help => print_help(p),
-        Asked::Version => print_version(p),
+        Asked::Help => print_help(rt, p),
+        Asked::Version => print_version(rt, p),
         Asked::Wrong(i) => {
-            say_wrong(p, b"can't take the argument ", i);
+            say_wrong(rt, p, b"can't take the argument ", i);
             Status::NotDone
         }
         _ => {
-            say_name(p);
-            say(b"an argument is missing\n");
-            say_usage(p);
+            say_name(rt, p);
+            say(rt, b"an argument is missing\n");
+            say_usage(rt, p);
             Status::NotDone
         }
     }

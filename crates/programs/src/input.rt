@@ -1,13 +1,15 @@
 // Reading a card batch by batch. An `Input` is made by `input_of` and `read_batch` alone, since its fields are private: one that has ended
 // was read to its end.
-ghost use Rattle.std.specs.Prelude.{◌≡◌, true, false, ◌+◌, ◌<◌, ◌^◌, length};
+ghost use Rattle.std.specs.Prelude.{◌≡◌, true, false, ◌+◌, ◌<◌, ◌^◌, length, min};
 ghost use Rattle.programs.specs.Stream.{unread, has_ended, moved_of, Reads};
 ghost use Rattle.programs.specs.inner.Streams.{Fills};
 
 use crate::message::{Program, say_failure};
+use crate::stream::{Stream, is_interrupted, no_cause, read_once};
+use std::io;
 
 // How many bytes were read in all and in the last batch, whether the input may go on, and whether a read failed.
-#[derive(Drop)]
+#[derive(Clone, Copy)]
 pub struct Input {
     fd: i32,
     read: u64,
@@ -17,7 +19,7 @@ pub struct Input {
 }
 
 // What one read, or one write, has moved.
-#[derive(Drop)]
+#[derive(Clone, Copy)]
 pub enum Moved {
     Bytes(usize),
     Nothing,
@@ -84,7 +86,7 @@ pub(crate) fn moved_of(answer: isize, buf: &[u8]) -> Moved
     if answer < 0 {
         return Moved::Failed;
     }
-    let k = io::count(answer, buf);
+    let k = count_of(answer as usize, buf.len());
     if k == 0 {
         Moved::Nothing
     } else {
@@ -92,14 +94,21 @@ pub(crate) fn moved_of(answer: isize, buf: &[u8]) -> Moved
     }
 }
 
+// The bytes that an answer counts, of which there are no more than so many.
+fn count_of(answer: usize, most: usize) -> usize
+    ensures { result ≡ min answer most }
+{
+    if answer < most { answer } else { most }
+}
+
 // One read, repeated where a signal interrupted it.
-fn read_some(fd: i32, buf: &mut [u8]) -> Moved
+fn read_some(rt: &HostRuntime, from: &Stream, buf: &mut [u8], cause: &mut io::Error) -> Moved
     ensures { Fills buf.old result buf.new }
 {
     let mut tries: u64 = 0;
     while tries < MOST_TRIES {
-        let answer = libc::read(fd, buf);
-        if answer >= 0 || os::errno() != libc::EINTR {
+        let answer = read_once(rt, from, buf, cause);
+        if answer >= 0 || !is_interrupted(cause) {
             return moved_of(answer, buf);
         }
         tries += 1;
@@ -108,14 +117,22 @@ fn read_some(fd: i32, buf: &mut [u8]) -> Moved
 }
 
 // Reads until the buffer is full, the input ends or a read fails, which is said.
-pub fn read_batch(i: Input, buf: &mut [u8], p: Program, file: &[u8]) -> Input
+pub fn read_batch(
+    rt: &HostRuntime,
+    from: &Stream,
+    i: Input,
+    buf: &mut [u8],
+    p: Program,
+    file: &[u8],
+) -> Input
     requires { (i.going ≡ true) × (i.failed ≡ false) × (i.read + length buf.old < 2 ^ 64) }
     ensures { Reads i buf.old result buf.new }
 {
     let fd = i.fd;
+    let mut cause = no_cause();
     let mut count = 0;
     while count < buf.len() {
-        match read_some(fd, &mut buf[count..]) {
+        match read_some(rt, from, &mut buf[count..], &mut cause) {
             Moved::Bytes(k) => count += k,
             Moved::Nothing => {
                 return Input {
@@ -127,7 +144,7 @@ pub fn read_batch(i: Input, buf: &mut [u8], p: Program, file: &[u8]) -> Input
                 };
             }
             Moved::Failed => {
-                say_failure(p, file);
+                say_failure(rt, p, file, cause);
                 return Input {
                     fd,
                     read: i.read + count as u64,

@@ -10,6 +10,7 @@ ghost use Rattle.programs.specs.inner.Cuts.{MovesFront, ReadsOn, TakesParts, goe
 use crate::input::{Input, input_of, read_batch};
 use crate::message::Program;
 use crate::output::{Output, output_of, write_part};
+use crate::stream::{Stream, descriptor};
 use card_csv::making::{RECORDS, TEXT, is_fine, make_last, make_records};
 use card_csv::{TextState, TextVerdict};
 
@@ -17,7 +18,7 @@ use card_csv::{TextState, TextVerdict};
 const MOST_PARTS: u64 = 4398046511104;
 
 // How the text stands behind the lines that were taken, what was read and written, and how many bytes are kept of a line that has begun.
-#[derive(Drop)]
+#[derive(Clone, Copy)]
 pub struct Taken {
     pub state: TextState,
     pub input: Input,
@@ -26,22 +27,29 @@ pub struct Taken {
 }
 
 // Writes records of the card, behind those that were written.
-fn write_records(o: Output, bytes: &[u8], out: &[u8]) -> Output
+fn write_records(rt: &HostRuntime, to: &Stream, o: Output, bytes: &[u8], out: &[u8]) -> Output
     requires { CanWrite o (length bytes.now) × PartOfCard o bytes.now }
     ensures { Wrote o (length bytes.now) result }
 {
-    write_part(o, bytes, Program::Write, out)
+    write_part(rt, to, o, bytes, Program::Write, out)
 }
 
 // The same, where records are written.
-fn put_records(o: Output, bytes: &[u8], write: bool, out: &[u8]) -> Output
+fn put_records(
+    rt: &HostRuntime,
+    to: &Stream,
+    o: Output,
+    bytes: &[u8],
+    write: bool,
+    out: &[u8],
+) -> Output
     requires { write ≡ true → CanWrite o (length bytes.now) × PartOfCard o bytes.now }
     ensures { write ≡ true → Wrote o (length bytes.now) result }
 {
     if !write {
         return o;
     }
-    write_records(o, bytes, out)
+    write_records(rt, to, o, bytes, out)
 }
 
 // Moves the bytes from `from` up to `end` to the front of the buffer.
@@ -59,11 +67,18 @@ fn move_front(buf: &mut [u8], from: usize, end: usize)
 }
 
 // Reads on behind what is kept of a line.
-fn read_on(i: Input, buf: &mut [u8], kept: usize, file: &[u8]) -> Input
+fn read_on(
+    rt: &HostRuntime,
+    from: &Stream,
+    i: Input,
+    buf: &mut [u8],
+    kept: usize,
+    file: &[u8],
+) -> Input
     requires { CanRead i × (length buf.old ≡ text_size) × (kept ≤ text_size) }
     ensures { ReadsOn i kept buf.old result buf.new }
 {
-    read_batch(i, &mut buf[kept..], Program::Write, file)
+    read_batch(rt, from, i, &mut buf[kept..], Program::Write, file)
 }
 
 // Was no line refused, and has every write succeeded?
@@ -88,6 +103,9 @@ fn is_open(t: Taken) -> bool
 
 // Reads a part of the text, takes the lines that end there, and keeps the piece behind them.
 fn take_part(
+    rt: &HostRuntime,
+    from: &Stream,
+    to: &Stream,
     buf: &mut [u8],
     records: &mut [u8],
     t: Taken,
@@ -103,13 +121,13 @@ fn take_part(
     let before = t.input;
     let s = t.state;
     let o = t.output;
-    let input = read_on(before, buf, kept, file);
+    let input = read_on(rt, from, before, buf, kept, file);
     let n = kept + input.count();
     let made = make_records(&buf[..n], s, records);
     let taken = made.taken;
     let used = made.used;
     let state = made.state;
-    let output = put_records(o, &records[..used], write, out);
+    let output = put_records(rt, to, o, &records[..used], write, out);
     move_front(buf, taken, n);
     Taken {
         state,
@@ -121,6 +139,9 @@ fn take_part(
 
 // Takes the text part by part until it ends, a line is refused or has no end, or a read or write fails.
 fn take_parts(
+    rt: &HostRuntime,
+    from: &Stream,
+    to: &Stream,
     buf: &mut [u8],
     records: &mut [u8],
     begun: Taken,
@@ -138,14 +159,22 @@ fn take_parts(
         if !is_open(t) {
             return t;
         }
-        t = take_part(buf, records, t, write, file, out);
+        t = take_part(rt, from, to, buf, records, t, write, file, out);
         i += 1;
     }
     t
 }
 
 // Takes the last line of a text that has ended: it may come without its end.
-fn take_last(buf: &[u8], records: &mut [u8], t: Taken, write: bool, out: &[u8]) -> Taken
+fn take_last(
+    rt: &HostRuntime,
+    to: &Stream,
+    buf: &[u8],
+    records: &mut [u8],
+    t: Taken,
+    write: bool,
+    out: &[u8],
+) -> Taken
     requires records_len { (length records.old ≡ records_room) × TakesParts write (2 ^ 55) (2 ^ 62) t buf.now }
     requires t_value { (goes_further t ≡ true) × (has_ended t.input ≡ true) }
     ensures { TakesText write result }
@@ -157,7 +186,7 @@ fn take_last(buf: &[u8], records: &mut [u8], t: Taken, write: bool, out: &[u8]) 
     let made = make_last(&buf[..kept], s, records);
     let used = made.used;
     let state = made.state;
-    let output = put_records(o, &records[..used], write, out);
+    let output = put_records(rt, to, o, &records[..used], write, out);
     Taken {
         state,
         input,
@@ -187,7 +216,15 @@ fn refuse_long(t: Taken) -> Taken
 }
 
 // Takes what is kept behind the last part: the last line, a line that is too long, or nothing.
-fn take_rest(buf: &[u8], records: &mut [u8], t: Taken, write: bool, out: &[u8]) -> Taken
+fn take_rest(
+    rt: &HostRuntime,
+    to: &Stream,
+    buf: &[u8],
+    records: &mut [u8],
+    t: Taken,
+    write: bool,
+    out: &[u8],
+) -> Taken
     requires { (length records.old ≡ records_room) × TakesParts write (2 ^ 55) (2 ^ 62) t buf.now }
     ensures { TakesText write result }
 {
@@ -196,7 +233,7 @@ fn take_rest(buf: &[u8], records: &mut [u8], t: Taken, write: bool, out: &[u8]) 
         return t;
     }
     if input.ended() {
-        return take_last(buf, records, t, write, out);
+        return take_last(rt, to, buf, records, t, write, out);
     }
     if t.kept == TEXT {
         return refuse_long(t);
@@ -205,7 +242,14 @@ fn take_rest(buf: &[u8], records: &mut [u8], t: Taken, write: bool, out: &[u8]) 
 }
 
 // Takes the text; records are written where that is said.
-pub fn take_text(fd: i32, to: i32, write: bool, file: &[u8], out: &[u8]) -> Taken
+pub fn take_text(
+    rt: &HostRuntime,
+    from: &Stream,
+    to: &Stream,
+    write: bool,
+    file: &[u8],
+    out: &[u8],
+) -> Taken
     ensures { TakesText write result }
 {
     let mut buf = [0u8; TEXT];
@@ -216,10 +260,20 @@ pub fn take_text(fd: i32, to: i32, write: bool, file: &[u8], out: &[u8]) -> Take
             lines: 0,
             verdict: TextVerdict::Fine,
         },
-        input: input_of(fd),
-        output: output_of(to),
+        input: input_of(descriptor(from)),
+        output: output_of(descriptor(to)),
         kept: 0,
     };
-    let t = take_parts(&mut buf, &mut records, begun, write, file, out);
-    take_rest(&buf, &mut records, t, write, out)
+    let t = take_parts(
+        rt,
+        from,
+        to,
+        &mut buf,
+        &mut records,
+        begun,
+        write,
+        file,
+        out,
+    );
+    take_rest(rt, to, &buf, &mut records, t, write, out)
 }

@@ -1,4 +1,6 @@
 // The bodies of the command-line programs: each answers its status.
+#![tactic(auto)]
+
 pub mod arguments;
 pub mod cardcheck;
 pub mod cardcompare;
@@ -17,4 +19,5 @@ pub mod message;
 pub mod output;
 pub mod seek;
 pub mod status;
+pub mod stream;
 pub mod turn;

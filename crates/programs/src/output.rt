@@ -6,9 +6,11 @@ ghost use Rattle.programs.specs.inner.Streams.{MovedWithin};
 
 use crate::input::{Input, MOST_TRIES, Moved, moved_of};
 use crate::message::{Program, say_failure};
+use crate::stream::{Stream, is_interrupted, no_cause, write_once};
+use std::io;
 
 // How many bytes were written in all, and whether every write succeeded.
-#[derive(Drop)]
+#[derive(Clone, Copy)]
 pub struct Output {
     fd: i32,
     written: u64,
@@ -36,13 +38,13 @@ impl Output {
 }
 
 // One write, repeated where a signal interrupted it.
-fn write_some(fd: i32, part: &[u8]) -> Moved
+fn write_some(rt: &HostRuntime, to: &Stream, part: &[u8], cause: &mut io::Error) -> Moved
     ensures { MovedWithin result (length part.now) }
 {
     let mut tries: u64 = 0;
     while tries < MOST_TRIES {
-        let answer = libc::write(fd, part);
-        if answer >= 0 || os::errno() != libc::EINTR {
+        let answer = write_once(rt, to, part, cause);
+        if answer >= 0 || !is_interrupted(cause) {
             return moved_of(answer, part);
         }
         tries += 1;
@@ -51,17 +53,25 @@ fn write_some(fd: i32, part: &[u8]) -> Moved
 }
 
 // Writes all of the part, or up to a write that fails, which is said.
-pub fn write_part(o: Output, part: &[u8], p: Program, file: &[u8]) -> Output
+pub fn write_part(
+    rt: &HostRuntime,
+    to: &Stream,
+    o: Output,
+    part: &[u8],
+    p: Program,
+    file: &[u8],
+) -> Output
     requires { (o.ok ≡ true) × (o.written + length part.now < 2 ^ 64) }
     ensures { Wrote o (length part.now) result }
 {
     let fd = o.fd;
+    let mut cause = no_cause();
     let mut done = 0;
     while done < part.len() {
-        match write_some(fd, &part[done..]) {
+        match write_some(rt, to, &part[done..], &mut cause) {
             Moved::Bytes(k) => done += k,
             _ => {
-                say_failure(p, file);
+                say_failure(rt, p, file, cause);
                 return Output {
                     fd,
                     written: o.written,

@@ -7,9 +7,11 @@ ghost use Rattle.programs.specs.Seek.{most_before, number_in};
 ghost use Rattle.programs.specs.inner.Turns.{CanRead};
 ghost use Rattle.programs.specs.inner.Seeks.{SeeksBatch, SeeksSlot};
 
+use crate::arguments::argument;
 use crate::files::front;
 use crate::input::{Input, input_of, read_batch};
 use crate::message::{Program, say, say_name};
+use crate::stream::{Stream, descriptor};
 use card::cards::{record_count, record_from};
 use card::records::RECORD;
 use card::text::put_bytes;
@@ -18,7 +20,7 @@ use card::{BATCH, BATCH_SLOTS, MOST_BATCHES};
 use field::Question;
 
 // The length of the slot that was found, 0 where none was, and what was read.
-#[derive(Drop)]
+#[derive(Clone, Copy)]
 pub struct Sought {
     pub len: usize,
     pub input: Input,
@@ -51,9 +53,9 @@ fn number_in(text: &[u8]) -> u64
 }
 
 // The number of a record that argument i names, 0 where it names none. One of more than 16 bytes names none, as an empty one.
-pub(crate) fn number_at(i: usize) -> u64 {
+pub(crate) fn number_at(rt: &HostRuntime, i: usize) -> u64 {
     let mut text = [0u8; 16];
-    let n = os::arg(i, &mut text);
+    let n = argument(rt, i, &mut text);
     number_in(&text[..n])
 }
 
@@ -69,26 +71,42 @@ fn keep_slot(batch: &[u8], k: u64, row: &mut [u8]) -> usize
 }
 
 // Reads a batch, and keeps slot k of it.
-fn seek_batch(p: Program, i: Input, k: u64, row: &mut [u8], file: &[u8]) -> Sought
+fn seek_batch(
+    rt: &HostRuntime,
+    from: &Stream,
+    p: Program,
+    i: Input,
+    k: u64,
+    row: &mut [u8],
+    file: &[u8],
+) -> Sought
     requires { CanRead i × (length row.old ≡ record_size) }
     ensures { SeeksBatch k i result row.new }
 {
     let mut batch = [0u8; BATCH];
-    let input = read_batch(i, &mut batch, p, file);
+    let input = read_batch(rt, from, i, &mut batch, p, file);
     let n = input.count();
     let len = keep_slot(&batch[..n], k, row);
     Sought { len, input }
 }
 
 // Reads batch after batch up to slot k of the card, counted from 0.
-pub(crate) fn seek(p: Program, fd: i32, k: u64, row: &mut [u8], file: &[u8]) -> Sought
+pub(crate) fn seek(
+    rt: &HostRuntime,
+    from: &Stream,
+    p: Program,
+    k: u64,
+    row: &mut [u8],
+    file: &[u8],
+) -> Sought
     requires { length row.old ≡ record_size }
     ensures { SeeksSlot k result row.new }
 {
+    let fd = descriptor(from);
     let mut input = input_of(fd);
     let mut i: u64 = 0;
     while i < MOST_BATCHES {
-        let next = seek_batch(p, input, k - i * BATCH_SLOTS as u64, row, file);
+        let next = seek_batch(rt, from, p, input, k - i * BATCH_SLOTS as u64, row, file);
         let len = next.len;
         input = next.input;
         if len > 0 {
@@ -103,11 +121,11 @@ pub(crate) fn seek(p: Program, fd: i32, k: u64, row: &mut [u8], file: &[u8]) -> 
 }
 
 // Says that record n of the card is refused.
-pub(crate) fn say_refused(p: Program, file: &[u8], n: u64, q: Question) {
+pub(crate) fn say_refused(rt: &HostRuntime, p: Program, file: &[u8], n: u64, q: Question) {
     let mut out = [0u8; 105];
     let used = put_refusal(&mut out, 0, n, q);
-    say_name(p);
-    say(file);
-    say(b": ");
-    say(front(&out, used));
+    say_name(rt, p);
+    say(rt, file);
+    say(rt, b": ");
+    say(rt, front(&out, used));
 }

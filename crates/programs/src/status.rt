@@ -3,7 +3,7 @@ ghost use Rattle.std.specs.Prelude.{◌≡◌, cond, ◌≤◌};
 ghost use Rattle.programs.specs.Status.{status_number};
 ghost use Rattle.programs.specs.declared.status.Status.TheVariants.{Done, NotDone};
 
-#[derive(Drop)]
+#[derive(Clone, Copy)]
 pub enum Status {
     // done
     Done,

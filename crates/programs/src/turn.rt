@@ -7,7 +7,7 @@ use crate::output::{Output, output_of};
 use card::{Progress, Totals};
 
 // How far the counting of slots has come, and what was read and written.
-#[derive(Drop)]
+#[derive(Clone, Copy)]
 pub struct Turn {
     pub progress: Progress,
     pub input: Input,

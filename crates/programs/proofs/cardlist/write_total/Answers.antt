@@ -1,0 +1,17 @@
+-- `programs::cardlist::write_total` meets its contract. Assumes nothing.
+use Rattle.field.proofs.Base.{ap, ◌∙◌, ℕ, ◌+◌, arith, List, length, length-take-le}
+use Rattle.card.proofs.Writing.{writes-fits, writes-length}
+use Rattle.programs.proofs.Batches.{front-text}
+use Rattle.programs.proofs.cardlist.write_total.Goals as goal
+
+pub slice_bounds-out-end : goal.slice_bounds-out-end
+slice_bounds-out-end c = writes-fits c.put_total-used.ensures
+
+pub write_part-requires : goal.write_part-requires
+write_part-requires c =
+    let x = c.put_total-used in
+    let l = length-take-le x.result x.new.out (writes-fits x.ensures) in
+    (c.requires.ok, omega (arith, c.requires.small, l, writes-fits x.ensures, writes-length x.ensures))
+
+pub returns : goal.returns
+returns c = λ p. c.write_part.ensures p ∙ ap (λ (xs : List ℕ). c.args.o.written + length xs) (front-text c.put_total-used.ensures)
