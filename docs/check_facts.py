@@ -137,7 +137,8 @@ def sentences(tree):
         for pattern, why in REFUTED.items():
             yield not re.search(pattern, text), document, why
         for sentence in re.findall(r"[^.]*\b[Nn]ames?\b[^.]*\btwo\s+(?:things|meanings)\b[^.]*", text):
-            left = sorted(name for name in twice if name not in sentence)
+            # an older entry of CHANGELOG.md has its names as they were spelled then
+            left = sorted(name for name in twice if name not in sentence and re.sub(r"_(\w)", lambda found: found[1].upper(), name) not in sentence)
             yield not left, document, f"of names with two meanings {', '.join(left)} is left out: {' '.join(sentence.split())}"
 
 

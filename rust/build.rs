@@ -18,8 +18,8 @@ fn named() -> Option<PathBuf> {
 fn built() -> Option<PathBuf> {
     let root = std::env::var_os("CARGO_MANIFEST_DIR").expect("cargo sets this");
     let folder = Path::new(&root).join("../target/staticlib");
-    println!("cargo:rerun-if-changed={}", folder.join("libexports.a").display());
-    folder.join("libexports.a").exists().then_some(folder)
+    println!("cargo:rerun-if-changed={}", folder.join("libxrs.a").display());
+    folder.join("libxrs.a").exists().then_some(folder)
 }
 
 /// The folder of an installed package, if pkg-config knows one.
@@ -30,28 +30,25 @@ fn installed() -> Option<PathBuf> {
     (said.status.success() && !folder.trim().is_empty()).then(|| PathBuf::from(folder.trim()))
 }
 
-/// Links the archive of this name in the folder, or says that it is not there.
-fn link(folder: &Path, name: &str) {
-    let archive = folder.join(format!("lib{name}.a"));
+/// Links the archive in the folder, or says that it is not there.
+fn link(folder: &Path) {
+    let archive = folder.join("libxrs.a");
     if !archive.exists() {
         eprintln!("{MISSING}\n    {} does not exist.", archive.display());
         exit(1);
     }
     println!("cargo:rerun-if-changed={}", archive.display());
     println!("cargo:rustc-link-search=native={}", folder.display());
-    println!("cargo:rustc-link-lib=static={name}");
+    println!("cargo:rustc-link-lib=static=xrs");
 }
 
 fn main() {
     println!("cargo:rerun-if-changed=build.rs");
-    if let Some(folder) = named() {
-        link(&folder, "xrs");
-    } else if let Some(folder) = built() {
-        link(&folder, "exports");
-    } else if let Some(folder) = installed() {
-        link(&folder, "xrs");
-    } else {
-        eprintln!("{MISSING}");
-        exit(1);
+    match named().or_else(built).or_else(installed) {
+        Some(folder) => link(&folder),
+        None => {
+            eprintln!("{MISSING}");
+            exit(1);
+        }
     }
 }

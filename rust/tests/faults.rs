@@ -3,9 +3,10 @@
 
 use crate::{reference, tools};
 use reference::card::{list, record_of, size, to_new, to_old, MARKS, OLD_MARKS, OLD_RECORD, RECORD};
+use std::fs::{self, File};
 use std::path::Path;
 use tools::answers::{done, restored_card, words, LONGEST};
-use tools::programs::{folder_with, Ended, Fault, Folder, Run, BATCH_SLOTS, EAGAIN, EIO, ENOSPC};
+use tools::programs::{folder_with, Ended, Fault, Folder, Run, BATCH_SLOTS, EAGAIN, EINVAL, EIO, ENOSPC};
 use tools::sheets::five_slots;
 use tools::wear::{codeword, worn};
 use tools::Chance;
@@ -77,7 +78,7 @@ fn each_read_of_a_listing() {
     let folder = folder_with("card", &card);
     each("read", READS, EIO, || run(&folder, "cardlist", &[]), |at| failed_read("cardlist", list(before(&card, at))));
     let wanted = |at| failed("cardlist", list(before(&card, at)), "standard input", "Input/output error");
-    let open = || std::fs::File::open(folder.join("card")).expect("the card");
+    let open = || File::open(folder.join("card")).expect("the card");
     each("read", READS, EIO, || Run::new("cardlist", &[]).within(&folder).input(open()), wanted);
 }
 
@@ -167,13 +168,19 @@ fn the_write_of_a_check_and_of_a_table() {
     each("write", 1, ENOSPC, || run(&worn, "cardcheck", &[]), |_| failed_write("cardcheck", ""));
 }
 
-/// Some systems tell of a failed write only where the file is closed.
+/// Some systems tell of a failed write only where the file is flushed. A pipe is not flushed, and a file that can't be is taken as it is.
 #[test]
-fn a_close_that_fails() {
+fn a_flush_that_fails() {
     let card = fine_card(MARKS, SLOTS);
     let folder = folder_with("card", &card);
     for (name, operands) in CALLS {
-        each("close", 1, ENOSPC, || run(&folder, name, operands), |_| failed_write(name, done(name, &card, "card").out));
+        let into = || run(&folder, name, operands).output(File::create(folder.join("out")).expect("a file"));
+        let whole = || fs::read(folder.join("out")).expect("the output") == done(name, &card, "card").out;
+        each("fsync", 1, ENOSPC, into, |_| failed_write(name, ""));
+        assert!(whole(), "{name}");
+        assert_eq!(into().fault(Fault::error("fsync", 1, EINVAL)).end(), Ended { out: Vec::new(), ..done(name, &card, "card") });
+        assert!(whole(), "{name}");
+        each("fsync", 0, ENOSPC, || run(&folder, name, operands), |_| failed_write(name, ""));
     }
 }
 

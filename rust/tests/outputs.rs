@@ -2,7 +2,9 @@
 
 use crate::{reference, tools};
 use reference::card::{record, record_of, to_new, to_old, MARKS, OLD_MARKS, OLD_RECORD, RECORD};
+use std::ffi::OsStr;
 use std::fs::{self, File};
+use std::os::unix::ffi::OsStrExt;
 use std::os::unix::fs::PermissionsExt;
 use std::path::Path;
 use tools::answers::{hint, restored, words, LONGEST};
@@ -151,6 +153,11 @@ fn files_that_cannot_be_made() {
             assert_eq!((ended.status, ended.out.len()), (Some(2), 0));
             assert!(ended.said.starts_with(&format!("{}: {out}.", case.name)) && ended.said.ends_with(&format!(": {why}\n")), "{ended:?}");
         }
+        let foreign = Run::new(case.name, case.operands).argument("-o").argument(OsStr::from_bytes(b"out\xff"));
+        let ended = foreign.argument("card").within(&folder).end();
+        assert_eq!((ended.status, ended.out.len()), (Some(2), 0));
+        let (begin, why) = (format!("{}: out\u{fffd}.", case.name), ": Invalid or incomplete multibyte or wide character\n");
+        assert!(ended.said.starts_with(&begin) && ended.said.ends_with(why), "{ended:?}");
         for length in [4000, 4090, 4095, 4096, 5000] {
             let ended = case.run(&folder, &"a".repeat(length)).end();
             assert_eq!((ended.status, ended.out.len()), (Some(2), 0));
@@ -219,10 +226,10 @@ fn a_card_that_changes() {
     }
 }
 
-/// The calls of a run with -o: how often each is made.
-fn calls(case: &Case) -> [(&'static str, usize); 5] {
+/// The calls of a run with -o that may fail: how often each is made. A failed close is not told.
+fn calls(case: &Case) -> [(&'static str, usize); 4] {
     let (reads, writes) = if case.name == "cardrestore" { (4, 3) } else { (10, 5) };
-    [("read", reads), ("write", writes), ("fsync", 1), ("close", 1), ("rename", 1)]
+    [("read", reads), ("write", writes), ("fsync", 1), ("rename", 1)]
 }
 
 /// Each call fails in turn, a read with an error of the device and another with a full disk: the file is as it was, also where it is the
@@ -248,12 +255,13 @@ fn each_call_that_fails() {
     }
 }
 
-/// The program is killed before each call in turn: the file is as it was, also where it is the card. What was begun may stay beside it.
+/// The program is killed before each call in turn, and before the new file is closed: the file is as it was, also where it is the card. What
+/// was begun may stay beside it.
 #[test]
 fn each_call_before_which_it_is_killed() {
     for case in cases() {
         let folder = case.folder("killed");
-        for (call, times) in calls(&case) {
+        for (call, times) in calls(&case).into_iter().chain([("close", 1)]) {
             for at in 1..=times {
                 for out in ["out", "card"] {
                     let ended = case.run(&folder, out).fault(Fault::kill(call, at)).end();

@@ -1,13 +1,18 @@
 //! The packaged programs as a shell runs them: arguments, statuses, what they say of bad input, closed descriptors, devices, and a small stack.
 
-use crate::{reference, tools};
+use crate::{csv, reference, tools};
+use csv::reading::COLUMNS;
+use csv::{random_sheets, records_of, text_of};
 use reference::card::{record, record_of, to_new, OLD_MARKS, RECORD};
+use std::ffi::OsStr;
 use std::fs::{self, File, Permissions};
 use std::io::{stderr, Seek, Write};
+use std::os::unix::ffi::OsStrExt;
 use std::os::unix::fs::PermissionsExt;
+use std::path::Path;
 use std::process::Command;
 use tools::answers::{done, hint, words};
-use tools::programs::{folder, folder_with, full, names, nobody_is_there, path, repository, Ended, Run, PROGRAMS};
+use tools::programs::{folder, folder_with, full, names, nobody_is_there, path, repository, Ended, Folder, Run, PROGRAMS};
 use tools::sheets::five_slots;
 use tools::wear::codeword;
 use tools::Chance;
@@ -197,6 +202,18 @@ fn cards_that_cannot_be_opened() {
     }
 }
 
+/// A file whose name is no UTF-8 is not opened. An argument may be any bytes.
+#[test]
+fn names_that_are_no_utf_8() {
+    for call in &CALLS {
+        let folder = folder_with("foreign", &sheets(1));
+        let run = |argument: &[u8]| call.run(&[]).argument(OsStr::from_bytes(argument)).within(&folder).end();
+        fs::rename(folder.join("card"), folder.join(OsStr::from_bytes(b"card\xff"))).expect("a new name");
+        assert_eq!(run(b"card\xff"), call.fails("card\u{fffd}", "Invalid or incomplete multibyte or wide character", ""));
+        assert_eq!(run(b"-\xff"), call.refuses("can't take the argument -\u{fffd}"));
+    }
+}
+
 /// A folder opens, and cannot be read.
 #[test]
 fn a_folder() {
@@ -207,31 +224,71 @@ fn a_folder() {
     }
 }
 
-/// Where the tests may read the card all the same, as root may, the programs run as nobody. They are copied into the folder of the card,
-/// which nobody need not find: it is the current one. Another process copies them, since no file can be run that is open for writing, also
-/// in a process that another test begins meanwhile.
-#[test]
-fn a_card_without_permission() {
-    let folder = folder_with("closed", &sheets(1));
-    let set = |name: &str, mode: u32| fs::set_permissions(folder.join(name), Permissions::from_mode(mode)).expect("its mode");
-    set("", 0o755);
-    set("card", 0o000);
+/// A file that was opened, and that nobody may open again. Where these tests may all the same, as root may, programs run as nobody.
+struct Closed {
+    folder: Folder,
+    opened: File,
+    opens: bool,
+}
+
+/// The file `card` with these bytes. None where the tests may open it, and can't run a program as nobody.
+fn closed(bytes: &[u8]) -> Option<Closed> {
+    let folder = folder_with("closed", bytes);
+    let opened = File::open(folder.join("card")).expect("the card");
+    set_mode(&folder, "", 0o755);
+    set_mode(&folder, "card", 0o000);
     let opens = File::open(folder.join("card")).is_ok();
     if opens && !nobody_is_there() {
         let _ = writeln!(stderr(), "NOT TRIED: a card without permission: these tests may read it, and can't run a program as nobody");
-        return;
+        return None;
     }
-    for call in &CALLS {
-        let mut run = call.run(&["card"]);
-        if opens {
-            let copied = Command::new("cp").arg(path(call.name)).arg(&*folder).status().expect("cp");
-            assert!(copied.success(), "{} is built by `./package`", call.name);
-            set(call.name, 0o755);
-            let mut command = Command::new(format!("./{}", call.name));
-            command.args(call.with(&["card"]));
-            run = Run::of(command).by_nobody();
+    Some(Closed { folder, opened, opens })
+}
+
+fn set_mode(folder: &Path, name: &str, mode: u32) {
+    fs::set_permissions(folder.join(name), Permissions::from_mode(mode)).expect("its mode");
+}
+
+impl Closed {
+    /// The program, without the right to open the card. To run as nobody it is copied into the folder of the card, which nobody need not
+    /// find: it is the current one. Another process copies it, since no file can be run that is open for writing, also in a process that
+    /// another test begins meanwhile.
+    fn run(&self, name: &str, arguments: &[&str]) -> Run {
+        let run = if self.opens {
+            let copied = Command::new("cp").arg(path(name)).arg(&*self.folder).status().expect("cp");
+            assert!(copied.success(), "{name} is built by `./package`");
+            set_mode(&self.folder, name, 0o755);
+            let mut command = Command::new(format!("./{name}"));
+            command.args(arguments);
+            Run::of(command).by_nobody()
+        } else {
+            Run::new(name, arguments)
+        };
+        run.within(&self.folder)
+    }
+}
+
+#[test]
+fn a_card_without_permission() {
+    if let Some(closed) = closed(&sheets(1)) {
+        for call in &CALLS {
+            let ended = closed.run(call.name, &call.with(&["card"])).end();
+            assert_eq!(ended, call.fails("card", "Permission denied", ""));
         }
-        assert_eq!(run.within(&folder).end(), call.fails("card", "Permission denied", ""));
+    }
+}
+
+/// To be read twice standard input must be opened again. Where it can't be, a card is not converted, and a text is taken as from a pipe.
+#[test]
+fn standard_input_that_cannot_be_opened_again() {
+    let lines = random_sheets(&mut Chance::new(), 2);
+    let text = text_of(&lines, true) + "x\n";
+    let input = |closed: &Closed| closed.opened.try_clone().expect("the same file");
+    if let (Some(card), Some(text)) = (closed(&sheets(1)), closed(text.as_bytes())) {
+        let ended = card.run("cardconvert", &["to-old"]).input(input(&card)).end();
+        assert_eq!(ended, Ended::new(2, "", "cardconvert: standard input: Permission denied\n"));
+        let ended = text.run("cardwrite", &[]).input(input(&text)).end();
+        assert_eq!(ended, Ended::new(2, records_of(&lines), format!("cardwrite: standard input: line 4: {COLUMNS}\n")));
     }
 }
 
@@ -244,7 +301,7 @@ fn closed_standard_input() {
     }
 }
 
-/// A failed write and a failed close may both be told.
+/// That the write failed and that it is closed may both be told.
 #[test]
 fn closed_standard_output() {
     let folder = folder_with("unheard", &sheets(900));
@@ -291,10 +348,10 @@ fn a_full_device() {
     }
 }
 
-/// A pipe that nobody reads any more, where the signal is ignored that would end the program.
+/// A pipe that nobody reads any more. The signal that tells of it does not end a program.
 #[test]
 fn a_reader_that_has_left() {
-    let line = "mkfifo pipe && exec 3<>pipe 4>pipe && exec 3<&- && trap '' PIPE && exec \"$0\" \"$@\" >&4 4>&-";
+    let line = "mkfifo pipe && exec 3<>pipe 4>pipe && exec 3<&- && exec \"$0\" \"$@\" >&4 4>&-";
     for call in &CALLS {
         let folder = folder_with("left", &sheets(900));
         assert_eq!(call.shell(line, &["card"]).within(&folder).end(), call.unwritten("Broken pipe"));

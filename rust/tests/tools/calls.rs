@@ -1,7 +1,9 @@
 //! What every program that prints on standard output must do of its arguments, and where a call fails.
 
 use super::programs::{full, Ended, Fault, Run, ENOSPC};
+use std::ffi::OsStr;
 use std::fs::{self, File};
+use std::os::unix::ffi::OsStrExt;
 use std::path::Path;
 
 /// A program that could not do it ends with 2, and says why: behind these operands, on a file of this folder that it takes. It has written
@@ -10,6 +12,8 @@ pub fn fails_as_it_should(name: &str, operands: &[&str], folder: &Path, file: &s
     let fails = |what: &str, out: &str| Ended::new(2, out, format!("{name}: {what}\n"));
     let with = |file: &str| Run::new(name, operands).argument(file).within(folder);
     assert_eq!(with("nowhere").end(), fails("nowhere: No such file or directory", ""));
+    let foreign = Run::new(name, operands).argument(OsStr::from_bytes(b"card\xff")).within(folder).end();
+    assert_eq!(foreign, fails("card\u{fffd}: Invalid or incomplete multibyte or wide character", ""));
     assert_eq!(with(".").end(), fails(".: Is a directory", begun));
     let unread = with("-").input(File::open(folder).expect("a folder")).end();
     assert_eq!(unread, fails("standard input: Is a directory", begun));
@@ -19,10 +23,13 @@ pub fn fails_as_it_should(name: &str, operands: &[&str], folder: &Path, file: &s
     let closed = Run::shell("exec \"$0\" \"$@\" >&-", name, operands).argument(file).within(folder).end();
     assert_eq!(closed, fails("standard output: Bad file descriptor", ""));
     let whole = with(file).end().out;
-    let late = with(file).fault(Fault::error("close", 1, ENOSPC)).end();
-    assert_eq!(late, Ended { out: whole, ..fails("standard output: No space left on device", "") });
+    let into = File::create(folder.join("whole")).expect("a file");
+    let late = with(file).output(into).fault(Fault::error("fsync", 1, ENOSPC)).end();
+    assert_eq!(late, fails("standard output: No space left on device", ""));
+    assert_eq!(fs::read(folder.join("whole")).expect("the output"), whole);
+    fs::remove_file(folder.join("whole")).expect("the output");
     let shell = |line: &str, file: &str| Run::shell(line, name, operands).argument(file).within(folder).end();
-    let left = "rm -f pipe; mkfifo pipe && exec 3<>pipe 4>pipe && exec 3<&- && trap '' PIPE && exec \"$0\" \"$@\" >&4 4>&-";
+    let left = "rm -f pipe; mkfifo pipe && exec 3<>pipe 4>pipe && exec 3<&- && exec \"$0\" \"$@\" >&4 4>&-";
     assert_eq!(shell(left, file), fails("standard output: Broken pipe", ""));
     fs::remove_file(folder.join("pipe")).expect("the pipe");
 }

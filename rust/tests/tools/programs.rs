@@ -22,6 +22,7 @@ pub const BATCH_SLOTS: usize = 400;
 pub const EINTR: i32 = 4;
 pub const EIO: i32 = 5;
 pub const EAGAIN: i32 = 11;
+pub const EINVAL: i32 = 22;
 pub const ENOSPC: i32 = 28;
 
 const ROOT: &str = concat!(env!("CARGO_MANIFEST_DIR"), "/..");
