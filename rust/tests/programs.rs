@@ -317,6 +317,14 @@ fn closed_standard_output() {
     }
 }
 
+/// Where nothing is to be written too, and though standard input was opened again to be read a second time.
+#[test]
+fn closed_standard_output_of_nothing() {
+    let folder = folder_with("unheard_nothing", b"");
+    let ended = Run::shell("exec \"$0\" \"$@\" <card >&-", "cardconvert", &["to-old"]).within(&folder).end();
+    assert_eq!(ended, Ended::new(2, "", "cardconvert: standard output: Bad file descriptor\n"));
+}
+
 /// Nobody hears what is said; the status and the output are the same.
 #[test]
 fn closed_standard_error() {

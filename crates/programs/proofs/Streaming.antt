@@ -1,11 +1,11 @@
 -- What the answer of a read or write means, reading and writing part by part, and numbers that C answers. Assumes nothing.
 use Rattle.field.proofs.Base.{◌≡◌, refl, sym, subst, ap, ◌∙◌, true, false, false≢true, true≢false, List, ℕ, zero, suc, ◌+◌, ◌-◌, ◌^◌, ◌≤◌, ◌<◌, min}
-use Rattle.field.proofs.Base.{arith, ltb-true, length, take, drop, length-drop, length-take-le}
-use native.Mathlib.Nat.{min-le_right}
+use Rattle.field.proofs.Base.{arith, ltb-true, length, take, drop, length-drop, length-take-le, T, lit<}
+use native.Mathlib.Nat.{min-le_right, lt_of_le_of_lt}
 use lib.IntN.{ℤ, pos, negsuc, nat_abs}
-use lib.Signed.{lt_z}
-use mir.Syntax.{w64}
-use mir.Val.{SFits, to_z, of_z}
+use lib.Signed.{lt_z, non_neg, nat_abs-le}
+use mir.Syntax.{w32, w64}
+use mir.Val.{Fits, SFits, to_z, of_z}
 use mir.ValLaws.{to_z-of_z}
 use Rattle.programs.specs.Stream.{moved_bytes, moved_of, Reads, unwritten}
 use Rattle.programs.specs.declared.output.Output.{Output}
@@ -88,3 +88,14 @@ module _ (i : Input) (old : List ℕ) (j : Input) (new : List ℕ) (size : lengt
 -- the first part that is written
 pub first_part : (o : Output) (fd : ℤ) (n : ℕ) → o ≡ unwritten fd → n < 2 ^ 64 → (o.ok ≡ true) × (o.written + n < 2 ^ 64)
 first_part o fd n e h = (ap (λ (x : Output). x.ok) e, omega (arith, ap (λ (x : Output). x.written) e))
+
+-- ---- numbers that C answers
+
+plain-number : (z : ℤ) → SFits w32 z → lt_z z (pos 0) ≡ false → T (non_neg z) × Fits w64 (nat_abs z)
+plain-number (pos k) fits h = (tt, record { fits = lt_of_le_of_lt (nat_abs-le (pos k) fits.sfits) (lit< tt) })
+plain-number (negsuc k) fits h = absurd (true≢false h)
+
+-- one of 32 bits that is not negative, as the machine reads it back, can be cast
+pub number-casts : (z : ℤ) → SFits w32 z → lt_z (to_z w32 (of_z w32 z)) (pos 0) ≡ false
+    → T (non_neg (to_z w32 (of_z w32 z))) × Fits w64 (nat_abs (to_z w32 (of_z w32 z)))
+number-casts z fits h = rw (to_z-of_z w32 z fits) (plain-number z fits (rw (to_z-of_z w32 z fits) at h))

@@ -20,6 +20,8 @@ pub const STDIN_FILENO: i32 = 0;
 
 pub const STDOUT_FILENO: i32 = 1;
 
+const STDERR_FILENO: i32 = 2;
+
 // Linux's numbers of causes.
 const EBADF: i32 = 9;
 
@@ -160,15 +162,14 @@ fn place(rt: &HostRuntime, s: &Stream) -> io::Result<u64> {
     }
 }
 
-// The place of standard input, where it is a file that can be opened again.
+// The place of standard input, where it is a file that can be opened again. One file at most is open for that at a time.
 fn place_of_input(rt: &HostRuntime) -> io::Result<u64> {
     check_open(rt, &Stream::StandardInput)?;
     let kind = fs::metadata(rt, INPUT)?.file_type();
     if kind.is_fifo() || kind.is_socket() {
         return Err(io::Error::from_raw_os_error(ESPIPE));
     }
-    let mut again = fs::open(rt, INPUT)?;
-    again.seek(SeekFrom::Current(0))?;
+    check_seek(rt)?;
     let mut about = fs::open(rt, ABOUT_INPUT)?;
     let mut text = [0u8; 256];
     let n = about.read(&mut text)?;
@@ -176,6 +177,13 @@ fn place_of_input(rt: &HostRuntime) -> io::Result<u64> {
         Some(at) => Ok(at),
         None => Err(io::Error::from_raw_os_error(ESPIPE)),
     }
+}
+
+// Fails where standard input can't be opened again, or has no place.
+fn check_seek(rt: &HostRuntime) -> io::Result<()> {
+    let mut again = fs::open(rt, INPUT)?;
+    again.seek(SeekFrom::Current(0))?;
+    Ok(())
 }
 
 // The place that the first line says.
@@ -204,12 +212,25 @@ pub(crate) fn return_to(rt: &HostRuntime, s: &mut Stream, at: i64, cause: &mut i
 
 fn seek(rt: &HostRuntime, s: &mut Stream, at: u64) -> io::Result<u64> {
     if matches!(s, Stream::StandardInput) {
-        *s = Stream::Named(fs::open(rt, INPUT)?);
+        *s = Stream::Named(open_again(rt)?);
     }
     match s {
         Stream::Named(file) => file.seek(SeekFrom::Start(at)),
         _ => Err(not_open()),
     }
+}
+
+// Standard input opened again, under none of the numbers of the standard streams: one that is closed stays closed.
+fn open_again(rt: &HostRuntime) -> io::Result<File> {
+    let first = fs::open(rt, INPUT)?;
+    if first.as_raw_fd() > STDERR_FILENO {
+        return Ok(first);
+    }
+    let second = fs::open(rt, INPUT)?;
+    if second.as_raw_fd() > STDERR_FILENO {
+        return Ok(second);
+    }
+    fs::open(rt, INPUT)
 }
 
 // ---- standard streams
@@ -225,8 +246,16 @@ pub(crate) fn is_closed(rt: &HostRuntime, s: &Stream, cause: &mut io::Error) -> 
     }
 }
 
-// Fails where the standard stream is closed.
+// Fails where the standard stream is closed. That there is no number left for a copy tells that it is open.
 fn check_open(rt: &HostRuntime, s: &Stream) -> io::Result<()> {
+    match copied(rt, s) {
+        Err(e) if e.raw_os_error() == Some(EBADF) => Err(e),
+        _ => Ok(()),
+    }
+}
+
+// A copy of the standard stream's descriptor is made, and closed again.
+fn copied(rt: &HostRuntime, s: &Stream) -> io::Result<()> {
     match s {
         Stream::StandardInput => {
             rt.stdin().as_fd().try_clone_to_owned()?;
