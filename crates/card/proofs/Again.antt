@@ -1,23 +1,20 @@
 -- Restoring is idempotent: a restored record restores to itself, with 0 changed, at every reach allowed; and what stands in it. Assumes
 -- nothing.
+use Rattle.std.proofs.Common.{Ok, Err}
+use Rattle.field.specs.Question.{Verdict}
 use Rattle.field.proofs.Base.{eq-eqb, ◌≡◌, refl, sym, ap, ◌∙◌, true, List, [], ◌++◌, ℕ, zero, suc, ◌-◌, ◌≤◌, le_refl, arith, length, drop, replicate}
 use Rattle.field.proofs.Base.{length-append, length-replicate, take_at, drop_at, drop-drop}
 use lib.Dec.{leb-zero}
 use Rattle.field.specs.Question.{Outcome, accepted, refused, after, is_width}
-use Rattle.field.specs.declared.Verdict.{Verdict}
-use Rattle.field.specs.declared.Verdict.TheVariants.{Passed, Refused}
 use Rattle.code.specs.Word.{places, longest, Codeword}
 use Rattle.code.specs.Near.{radius}
 use Rattle.code.specs.Call.{within_of, within_written}
 use Rattle.code.proofs.Lengths.{places-most}
 use Rattle.code.proofs.Demands.{accepts, codeword-stays}
-use Rattle.card.specs.declared.RestoredCopy.{RestoredCopy}
 use Rattle.card.specs.Record.{erasure_bytes, record_size, width_of, erasures_of, word_of, all_are, allowed_in, asked_in}
 use Rattle.card.specs.inner.Parts.{header_size, tail_of}
 use Rattle.card.specs.Record.{record_asked, clear_record, on_accept, record_within_of, record_within_written, reach_of, record_of, record_written}
-use Rattle.card.specs.Record.{copy_written, RestoresCopy}
 use Rattle.card.proofs.Layouts.{Asked, asked}
-use Rattle.card.proofs.Recording.{copy-accepted, copy-refused}
 
 -- ---- a record that holds a codeword and has no erasures
 
@@ -35,7 +32,7 @@ module _ (m : ℕ) (h : is_width m ≡ true) (c : List ℕ) (C : Codeword m c) w
   clear-tail : tail_of (clear_record m c) ≡ replicate (longest - length c) 0
   clear-tail = sym (drop-drop (places m) header_size (clear_record m c)) ∙ drop_at c (replicate (longest - length c) 0) (places m) C.size
 
-  clear-asked : record_asked (clear_record m c) ≡ Passed
+  clear-asked : record_asked (clear_record m c) ≡ (Ok tt)
   unfolding asked_in
   clear-asked =
       simp (
@@ -65,16 +62,16 @@ module _ (m : ℕ) (h : is_width m ≡ true) (c : List ℕ) (C : Codeword m c) w
 
 -- ---- an accepted record, and a refused one
 
-pub accepted-means : (v : Verdict) (o : Outcome) (k : ℕ) → after v o ≡ accepted k → (v ≡ Passed) × (o ≡ accepted k)
-accepted-means Passed o k e = (refl, e)
-accepted-means (Refused q) o k e = let z : ◌≡◌ {A = ℕ} 0 1 = cc in absurd (omega arith)
+pub accepted-means : (v : Verdict) (o : Outcome) (k : ℕ) → after v o ≡ accepted k → (v ≡ (Ok tt)) × (o ≡ accepted k)
+accepted-means (Ok tt) o k e = (refl, e)
+accepted-means (Err q) o k e = let z : ◌≡◌ {A = ℕ} 0 1 = cc in absurd (omega arith)
 
 module _ (r : List ℕ) (reach k : ℕ) (e : record_within_of r reach ≡ accepted k) where
   -- the word that restoring finds
   abbrev found : List ℕ
   found = within_written (width_of r) (word_of r) (erasures_of r) reach
 
-  means : (record_asked r ≡ Passed) × (within_of (width_of r) (word_of r) (erasures_of r) reach ≡ accepted k)
+  means : (record_asked r ≡ (Ok tt)) × (within_of (width_of r) (word_of r) (erasures_of r) reach ≡ accepted k)
   unfolding record_within_of
   means = accepted-means (record_asked r) (within_of (width_of r) (word_of r) (erasures_of r) reach) k e
 
@@ -156,12 +153,3 @@ written-again r = go (record_of r) refl
     go : (o : Outcome) → record_of r ≡ o → record_written (record_written r) ≡ record_written r
     go (accepted k) e = (restored-again r k e).1
     go (refused n) e = ap record_written (refused-stays r n e)
-
--- ---- a copy
-
-pub copy-size : (r : List ℕ) (x : RestoredCopy) → RestoresCopy r x → length x.bytes ≡ record_size
-copy-size r x R = ap length R.content ∙ go (record_of r) refl
-  where
-    go : (o : Outcome) → o ≡ record_of r → length (copy_written r) ≡ record_size
-    go (accepted k) e = ap length (sym (copy-accepted r k e)) ∙ written-size r ∙ accepted-whole r k (sym e)
-    go (refused n) e = ap length (sym (copy-refused r n e)) ∙ length-replicate {A = ℕ} record_size 0

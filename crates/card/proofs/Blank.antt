@@ -1,9 +1,9 @@
 -- Blank slots: what is not, and what a blank slot gets when it is taken as a record. Assumes nothing.
+use Rattle.std.proofs.Common.{Err}
 use Rattle.field.proofs.Base.{◌≡◌, refl, sym, ap, ◌∙◌, ◌⊎◌, inl, inr, Bool, true, false, ◌&&◌, ◌||◌, false≢true, List, [], ◌∷◌, ℕ, ◌<◌, arith, eq-eqb}
 use Rattle.field.proofs.Base.{ne_eqb, eqb-true, eqb, length}
 use Rattle.field.specs.Question.{Outcome, accepted, refused, is_width}
 use Rattle.field.specs.declared.Question.TheVariants.{Width}
-use Rattle.field.specs.declared.Verdict.TheVariants.{Refused as RefusedBy}
 use Rattle.field.proofs.Ask.{and-true-left, and-true-right}
 use Rattle.card.specs.Record.{size_of, erasure_bytes, record_size, width_of, all_are, asked_in, reach_of, record_of, record_written}
 use Rattle.card.specs.Record.{record_within_of, record_within_written, reach_up_to, record_up_to, record_written_up_to}
@@ -29,13 +29,6 @@ short-not-blank slot h = sym (blank-no erasure_bytes slot (λ e. omega arith))
 
 -- ---- the card check's slots
 
-module _ (slot : List ℕ) (b : Bool) (e : b ≡ is_blank slot) where
-  pub fine-blank : b ≡ true → true ≡ fine slot
-  fine-blank t = ap (λ (x : Bool). x || passes slot) (sym t ∙ e)
-
-  pub fine-record : (c : Bool) → b ≡ false → c ≡ passes slot → c ≡ fine slot
-  fine-record c t f = f ∙ ap (λ (x : Bool). x || passes slot) (sym t ∙ e)
-
 -- what it means to be fine, or not: blank or accepted, or else a record that would be refused
 accepted-is : (o : Outcome) → is_accepted o ≡ true → (k : ℕ) × (o ≡ accepted k)
 accepted-is (accepted k) t = (k, refl)
@@ -55,7 +48,7 @@ blank-width [] l h = absurd (omega arith)
 blank-width (x ∷ xs) l h = eqb-true x 255 (and-true-left (eqb x 255) (all_are 255 xs) h)
 
 -- question 1 is answered no
-pub blank-asked : (k : ℕ) (slot : List ℕ) → blank_in k slot ≡ true → RefusedBy Width ≡ asked_in k slot
+pub blank-asked : (k : ℕ) (slot : List ℕ) → blank_in k slot ≡ true → Err Width ≡ asked_in k slot
 unfolding blank_in
 blank-asked k slot h =
     let size = eqb-true (length slot) (size_of k) (and-true-left (eqb (length slot) (size_of k)) (all_are 255 slot) h) in
@@ -66,7 +59,7 @@ blank-asked k slot h =
 module _ (slot : List ℕ) (h : is_blank slot ≡ true) where
   pub blank-within : (reach : ℕ) → (record_within_of slot reach ≡ refused 1) × (record_within_written slot reach ≡ slot)
   blank-within reach =
-      let R = restores-refused slot reach (RefusedBy Width) Width (blank-asked erasure_bytes slot h) refl slot refl in
+      let R = restores-refused slot reach (Err Width) Width (blank-asked erasure_bytes slot h) refl (Err Width) refl slot refl in
       (sym R.answer, sym R.content)
 
   pub blank-refused : (record_of slot ≡ refused 1) × (record_written slot ≡ slot)

@@ -3,13 +3,9 @@ use Rattle.field.proofs.Base.{◌≡◌, refl, sym, ap, ◌∙◌, subst, Bool, 
 use Rattle.field.proofs.Base.{arith, not-true, not-false, length, take, drop, length-drop, take_all}
 use mathlib.Core.Logic.{◌↔◌}
 use borrow.Author.Count.{below_more}
-use Rattle.field.specs.declared.Question.{Question}
-use Rattle.code.specs.Call.{repair}
-use Rattle.code.specs.declared.Repair.{Repair}
-use Rattle.code.specs.declared.Repair.TheVariants.{Restored, Refused}
-use Rattle.card.specs.Record.{erasure_bytes, record_size, record_of}
+use Rattle.card.specs.Record.{erasure_bytes, record_size}
 use Rattle.card.specs.Slots.{record_count, record_at, over_first}
-use Rattle.card.specs.Card.{is_accepted, passes, fine, Check, no_bad, bad, Search, passed, named, sought, searched, answer, first_refused}
+use Rattle.card.specs.Card.{fine, Check, no_bad, bad, Search, passed, named, sought, searched, answer, first_refused}
 use Rattle.card.specs.Card.{FirstBad, NoneBad, Checks}
 
 -- a shorter last piece
@@ -18,20 +14,6 @@ pub last-piece : (card : List ℕ) (at : ℕ) → length card - at < record_size
 last-piece card at h =
     take_all (length card - at) (drop at card) (simp length-drop (omega arith))
     ∙ sym (take_all record_size (drop at card) (simp length-drop (omega arith)))
-
--- a whole slot
-pub whole-piece : (card : List ℕ) (at : ℕ) → take (at + record_size - at) (drop at card) ≡ take record_size (drop at card)
-whole-piece card at = ap (λ (n : ℕ). take n (drop at card)) back
-  where
-    back : at + record_size - at ≡ record_size
-    back = omega arith
-
--- what the answer of `probe` says of the record
-pub pass-yes : (x : Repair) (k : ℕ) (bytes : List ℕ) → repair x ≡ record_of bytes → x ≡ Restored k → true ≡ passes bytes
-pass-yes x k bytes e p = ap (λ (y : Repair). is_accepted (repair y)) (sym p) ∙ ap is_accepted e
-
-pub pass-no : (x : Repair) (q : Question) (bytes : List ℕ) → repair x ≡ record_of bytes → x ≡ Refused q → false ≡ passes bytes
-pass-no x q bytes e p = ap (λ (y : Repair). is_accepted (repair y)) (sym p) ∙ ap is_accepted e
 
 -- ---- the first slot that is not fine
 
@@ -114,17 +96,11 @@ pub record Walked (card : List ℕ) (at i : ℕ) : Type 0 where
   pub place : at ≡ i * record_size
   pub before : (j : ℕ) → j < i → fine (record_at card j) ≡ true
 
-pub walked_start : (card : List ℕ) → Walked card 0 0
-walked_start card = record { place = refl; before = λ j h. absurd (omega arith) }
-
 -- b is what `is_fine` said of the slot at byte `at`
 module _ (card : List ℕ) (at i : ℕ) (W : Walked card at i) (b : Bool) (slot : List ℕ) (eb : b ≡ fine slot)
     (er : slot ≡ take record_size (drop at card)) where
   this : b ≡ fine (record_at card i)
   this = eb ∙ ap fine (er ∙ ap (λ (n : ℕ). take record_size (drop n card)) W.place)
-
-  pub walked_on : not b ≡ false → Walked card (at + record_size) (i + 1)
-  walked_on t = record { place = omega (arith, W.place); before = below_more _ i W.before (sym this ∙ not-false b t) }
 
   pub checks-refused : at < length card → not b ≡ true → bad (i + 1) ≡ first_refused card
   checks-refused h t =

@@ -1,7 +1,7 @@
 -- A slot written in the other edition, and the slots of the output. k and j are the numbers of erasure bytes, n that of slots. Assumes nothing.
 use Rattle.field.proofs.Base.{◌≡◌, sym, ap, ap₂, ◌∙◌, List, [], ◌∷◌, ◌++◌, append_assoc, append-nil, ℕ, ◌+◌, ◌-◌, ◌*◌, ◌≤◌, ◌<◌, min, ℕ_discrete}
 use Rattle.field.proofs.Base.{zero-mul, add-one, arith, length, take, drop, replicate, length-append, length-take, length-drop, length-replicate}
-use Rattle.field.proofs.Base.{drop_of_length-le, take_all, take_at, drop_at, length-take-le, drop-drop}
+use Rattle.field.proofs.Base.{take_all, take_at, drop_at, length-take-le, drop-drop}
 use native.Mathlib.Nat.{suc-mul}
 use Rattle.card.specs.Record.{header_of, size_of, erasure_bytes}
 use Rattle.card.specs.Slots.{slot_in, over_first}
@@ -50,13 +50,6 @@ module _ (k j : ℕ) (card : List ℕ) where
   pub converted-start : (out : List ℕ) → out ≡ converted_slots k j card 0 ++ drop (0 * size_of j) out
   unfolding over_first
   converted-start out = sym (ap (λ (x : ℕ). drop x out) (zero-mul (size_of j)))
-
-  pub converted-end : (n : ℕ) (out new : List ℕ) → length out ≡ n * size_of j → new ≡ converted_slots k j card n ++ drop (n * size_of j) out
-      → new ≡ converted_slots k j card n
-  converted-end n out new l e =
-      e
-      ∙ ap (λ (x : List ℕ). converted_slots k j card n ++ x) (drop_of_length-le out {i = n * size_of j} (omega arith))
-      ∙ append-nil (converted_slots k j card n)
 
   -- each slot has its size
   module _ (sized : (r : List ℕ) → length r ≡ size_of k → length (converted k j r) ≡ size_of j) (n : ℕ)

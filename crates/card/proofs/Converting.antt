@@ -1,20 +1,18 @@
 -- From the answers of the questions to the contracts of the two calls. Assumes nothing.
+use Rattle.std.proofs.Common.{Ok, Err}
+use Rattle.field.specs.Question.{Verdict}
 use Rattle.field.proofs.Base.{◌≡◌, refl, sym, ap, ◌∙◌, Bool, true, false, ◌&&◌, ◌||◌, List, ℕ, zero, suc, ◌*◌, ◌/◌, ◌%◌, ◌<◌, ℕ_discrete, arith}
 use Rattle.field.proofs.Base.{eq-eqb, ne_eqb, eqb-true, eqb, length}
 use native.Mathlib.Nat.{div-add-mod'}
 use Rattle.field.specs.Question.{ask}
-use Rattle.field.specs.declared.Question.{Question}
 use Rattle.field.specs.declared.Question.TheVariants.{Width, Length, ErasureCount, Padding}
-use Rattle.field.specs.declared.Verdict.{Verdict}
-use Rattle.field.specs.declared.Verdict.TheVariants.{Passed, Refused}
 use Rattle.field.proofs.Ask.{ask-yes, and-true-left, and-true-right}
-use Rattle.code.specs.Call.{written, done}
 use Rattle.card.specs.Record.{size_of, has_width, few_in, padded_in, erasure_bytes}
 use Rattle.card.specs.Slots.{slot_in, blank_in, slot_count, over_first}
-use Rattle.card.specs.Conversion.{old_erasure_bytes, converted_card, lengths_fit, blank_or, every_record, at_most_four}
-use Rattle.card.specs.inner.Leading.{converted_slots, every, card_passes}
+use Rattle.card.specs.Conversion.{old_erasure_bytes, lengths_fit, blank_or, every_record, at_most_four}
+use Rattle.card.specs.inner.Leading.{every, card_passes}
 use Rattle.card.specs.Leading.{verdict_at}
-use Rattle.card.specs.Conversion.{card_asked, four_asked, Converts, to_new_asked, to_old_asked}
+use Rattle.card.specs.Conversion.{card_asked, four_asked, to_new_asked, to_old_asked}
 use Rattle.card.proofs.Layouts.{asked-late, few-fit}
 use Rattle.card.proofs.Leading.{verdict-card}
 
@@ -48,7 +46,7 @@ module _ (k j : ℕ) (card : List ℕ) (m : ℕ) where
       ask (every_record k has_width card) Width
       (ask (every_record k (few_in k) card) ErasureCount (ask (every_record k (padded_in k) card) Padding (four_asked k card)))
 
-  pub asked-refused : lengths_fit k j (length card) m ≡ false → Refused Length ≡ card_asked k j card m (four_asked k card)
+  pub asked-refused : lengths_fit k j (length card) m ≡ false → Err Length ≡ card_asked k j card m (four_asked k card)
   unfolding all_asked
   asked-refused h = ap (λ (x : Bool). ask x Length all_asked) (sym h)
 
@@ -63,7 +61,7 @@ module _ (k j : ℕ) (card : List ℕ) (m : ℕ) where
       ∙ ap (λ (x : Bool). ask x Length all_asked) (sym h)
 
 -- what was passed tells of the lengths
-module _ (k j : ℕ) (card : List ℕ) (m : ℕ) (next : Verdict) (p : card_asked k j card m next ≡ Passed) where
+module _ (k j : ℕ) (card : List ℕ) (m : ℕ) (next : Verdict) (p : card_asked k j card m next ≡ (Ok tt)) where
   fitting : lengths_fit k j (length card) m ≡ true
   fitting = ask-yes (lengths_fit k j (length card) m) Length _ p
 
@@ -82,31 +80,9 @@ module _ (k j : ℕ) (card : List ℕ) (m : ℕ) (next : Verdict) (p : card_aske
 
 module _ (k j : ℕ) (card old : List ℕ) (v : Verdict) (e : v ≡ card_asked k j card (length old) (four_asked k card)) where
   -- s is the size of a slot
-  module _ (p : v ≡ Passed) (s : ℕ) (es : s ≡ size_of k) where
-    asked : card_asked k j card (length old) (four_asked k card) ≡ Passed
+  module _ (p : v ≡ (Ok tt)) (s : ℕ) (es : s ≡ size_of k) where
+    asked : card_asked k j card (length old) (four_asked k card) ≡ (Ok tt)
     asked = sym e ∙ p
-
-    pub converts-slots : (length card ≡ length card / s * size_of k) × (length old ≡ length card / s * size_of j)
-    converts-slots = (
-      passed-card k j card (length old) (four_asked k card) asked ∙ ap (λ (y : ℕ). length card / y * size_of k) (sym es),
-      passed-out k j card (length old) (four_asked k card) asked ∙ ap (λ (y : ℕ). length card / y * size_of j) (sym es),
-    )
-
-    pub converts : (new : List ℕ) → new ≡ converted_slots k j card (length card / s)
-        → Converts k j (card_asked k j card (length old) (four_asked k card)) card old Passed new
-    converts new h =
-        record {
-          answer = sym (ap done asked);
-          output = h
-              ∙ ap (λ (y : ℕ). converted_slots k j card (length card / y)) es
-              ∙ sym (ap (λ (x : Verdict). written x old (converted_card k j card)) asked);
-        }
-
-  pub converts-refused : (q : Question) → v ≡ Refused q
-      → Converts k j (card_asked k j card (length old) (four_asked k card)) card old (Refused q) old
-  converts-refused q p =
-      let f = sym p ∙ e in
-      record { answer = ap done f; output = ap (λ (x : Verdict). written x old (converted_card k j card)) f }
 
 -- ---- a question, put to slot after slot
 

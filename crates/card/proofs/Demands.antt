@@ -1,23 +1,21 @@
 -- The statements of specs/Demands.antt, each under its name in small letters. Assumes nothing.
+use Rattle.std.proofs.Common.{None, Option, Some}
+use Rattle.std.proofs.Common.{Ok, Result}
+use Rattle.field.specs.Question.{Verdict}
 use Rattle.field.proofs.Base.{◌≡◌, refl, sym, ap, ap₂, ◌∙◌, subst, ◌≢◌, ◌⊎◌, inl, inr, Bool, true, false, cond, ◌||◌, false≢true, List, [], ℕ, zero}
 use Rattle.field.proofs.Base.{suc, ◌+◌, ◌-◌, ◌/◌, ◌<◌, min, arith, eqb, length, take, drop, replicate, length-take, length-drop, take_at}
 use Rattle.field.specs.Question.{Outcome, accepted, refused, refusal, ask, after}
 use Rattle.field.specs.declared.Question.{Question}
 use Rattle.field.specs.declared.Question.TheVariants.{Width, Length, ErasureCount, Padding}
-use Rattle.field.specs.declared.Verdict.{Verdict}
-use Rattle.field.specs.declared.Verdict.TheVariants.{Passed}
 use Rattle.code.specs.Word.{places, longest}
 use Rattle.code.specs.Near.{radius}
 use Rattle.code.specs.Call.{repair, within_of, within_written}
 use Rattle.code.specs.Demands.{Nearest}
-use Rattle.code.specs.declared.Repair.{Repair}
 use Rattle.code.proofs.Demands.{accepts, refuses-seven, refuses-fourteen, same-restored, repair-tells}
 use Rattle.code.proofs.Members.{same_length}
 use Rattle.code.proofs.calls.Passing.{passes-radius}
 use Rattle.card.specs.declared.Totals.{Totals}
 use Rattle.card.specs.declared.Progress.{Progress}
-use Rattle.card.specs.declared.CardCheck.{CardCheck}
-use Rattle.card.specs.declared.CardCheck.TheVariants.{AllAccepted, Refused}
 use Rattle.card.specs.Record.{erasure_bytes, record_size, width_of, word_of, erasures_of, has_width, few_in, padded_in, asked_in, record_asked, clear_record}
 use Rattle.card.specs.Record.{record_within_of, record_within_written, RestoresRecordWithin, reach_of, record_of, record_written, RestoresRecord}
 use Rattle.card.specs.Slots.{record_count, record_at, is_blank, over_first}
@@ -39,18 +37,18 @@ use Rattle.card.proofs.Lines as Lines
 -- ---- demand 3 at a record
 
 -- a question of the record itself has another number
-own-step : (n : ℕ) (b : Bool) (q : Question) (v : Verdict) (o : Outcome) → refusal q ≢ n → (after v o ≡ refused n → v ≡ Passed)
-    → after (ask b q v) o ≡ refused n → ask b q v ≡ Passed
+own-step : (n : ℕ) (b : Bool) (q : Question) (v : Verdict) (o : Outcome) → refusal q ≢ n → (after v o ≡ refused n → v ≡ (Ok tt))
+    → after (ask b q v) o ≡ refused n → ask b q v ≡ (Ok tt)
 own-step n true q v o d h e = h e
 own-step n false q v o d h e = absurd (d (cc))
 
-own-passed : (r : List ℕ) (o : Outcome) (n : ℕ) → 2 ≢ n → 1 ≢ n → 3 ≢ n → 8 ≢ n → after (record_asked r) o ≡ refused n → record_asked r ≡ Passed
+own-passed : (r : List ℕ) (o : Outcome) (n : ℕ) → 2 ≢ n → 1 ≢ n → 3 ≢ n → 8 ≢ n → after (record_asked r) o ≡ refused n → record_asked r ≡ (Ok tt)
 unfolding asked_in
 own-passed r o n a b c d =
     own-step n (eqb (length r) record_size) Length _ o a
     (own-step n (has_width r) Width _ o b
     (own-step n (few_in erasure_bytes r) ErasureCount _ o c
-    (own-step n (padded_in erasure_bytes r) Padding Passed o d (λ e. refl))))
+    (own-step n (padded_in erasure_bytes r) Padding (Ok tt) o d (λ e. refl))))
 
 -- a record without erasures tells the word that it holds
 holds-tells : (m : ℕ) (c d r : List ℕ) → HoldsWord m c r → HoldsWord m d r → c ≡ d
@@ -68,15 +66,15 @@ module _ (r : List ℕ) (reach : ℕ) where
   abbrev inner : Outcome
   inner = within_of m (word_of r) (erasures_of r) reach
 
-  on : record_asked r ≡ Passed → record_within_of r reach ≡ inner
+  on : record_asked r ≡ (Ok tt) → record_within_of r reach ≡ inner
   unfolding record_within_of
   on p = ap (λ (v : Verdict). after v inner) p
 
-  accepted-on : (k : ℕ) → record_within_of r reach ≡ accepted k → (record_asked r ≡ Passed) × (inner ≡ accepted k)
+  accepted-on : (k : ℕ) → record_within_of r reach ≡ accepted k → (record_asked r ≡ (Ok tt)) × (inner ≡ accepted k)
   unfolding record_within_of
   accepted-on k e = accepted-means (record_asked r) inner k e
 
-  late-on : (n : ℕ) → 2 ≢ n → 1 ≢ n → 3 ≢ n → 8 ≢ n → record_within_of r reach ≡ refused n → record_asked r ≡ Passed
+  late-on : (n : ℕ) → 2 ≢ n → 1 ≢ n → 3 ≢ n → 8 ≢ n → record_within_of r reach ≡ refused n → record_asked r ≡ (Ok tt)
   unfolding record_within_of
   late-on n a b c d e = own-passed r inner n a b c d e
 
@@ -126,7 +124,7 @@ record-reach-decodes r reach a u R =
     }
 
 -- who names no reach has named the longest
-longest-named : (r : List ℕ) (a : Repair) (u : List ℕ) → RestoresRecord r a u → RestoresRecordWithin r (reach_of r) a u
+longest-named : (r : List ℕ) (a : Result ℕ Question) (u : List ℕ) → RestoresRecord r a u → RestoresRecordWithin r (reach_of r) a u
 unfolding record_of record_written
 longest-named r a u R = record { answer = R.answer; content = R.content }
 
@@ -159,7 +157,7 @@ pub record-unchanged : RecordUnchanged
 record-unchanged r a u R = (record-decodes r a u R).refused-unchanged
 
 -- both records are whole, so that their words are of one length
-same-words : (r r' : List ℕ) → record_asked r ≡ Passed → record_asked r' ≡ Passed → width_of r ≡ width_of r' → length (word_of r) ≡ length (word_of r')
+same-words : (r r' : List ℕ) → record_asked r ≡ (Ok tt) → record_asked r' ≡ (Ok tt) → width_of r ≡ width_of r' → length (word_of r) ≡ length (word_of r')
 same-words r r' p p' w =
     let n : length r ≡ length r' = (asked r p).size ∙ sym (asked r' p').size in
     simp (length-take, length-drop) (rw (w, n))
@@ -218,20 +216,20 @@ short-not-blank = never-blank
 -- ---- the card check
 
 -- an answer is given back by what it says
-check-tells : (x y : CardCheck) → check_of x ≡ check_of y → x ≡ y
-check-tells AllAccepted AllAccepted e = refl
-check-tells AllAccepted (Refused k) e = let z : ◌≡◌ {A = ℕ} 0 1 = cc in absurd (omega arith)
-check-tells (Refused j) AllAccepted e = let z : ◌≡◌ {A = ℕ} 0 1 = cc in absurd (omega arith)
-check-tells (Refused j) (Refused k) e = ap Refused (cc)
+check-tells : (x y : Option ℕ) → check_of x ≡ check_of y → x ≡ y
+check-tells None None e = refl
+check-tells None (Some k) e = let z : ◌≡◌ {A = ℕ} 0 1 = cc in absurd (omega arith)
+check-tells (Some j) None e = let z : ◌≡◌ {A = ℕ} 0 1 = cc in absurd (omega arith)
+check-tells (Some j) (Some k) e = ap Some (cc)
 
 pub lowest-refused : LowestRefused
 lowest-refused card x C k = (
   λ e. (first_some card k).0 (sym C ∙ ap check_of e),
-  λ B. check-tells x (Refused k) (C ∙ (first_some card k).1 B),
+  λ B. check-tells x (Some k) (C ∙ (first_some card k).1 B),
 )
 
 pub none-refused : NoneRefused
-none-refused card x C = (λ e. (first-none card).0 (sym C ∙ ap check_of e), λ N. check-tells x AllAccepted (C ∙ (first-none card).1 N))
+none-refused card x C = (λ e. (first-none card).0 (sym C ∙ ap check_of e), λ N. check-tells x None (C ∙ (first-none card).1 N))
 
 pub check-kept : CheckKept
 check-kept card x C = rw C (checks card)

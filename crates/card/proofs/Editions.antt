@@ -1,12 +1,12 @@
 -- A slot of the old edition, and the same slot in the new one. Assumes nothing.
+use Rattle.std.proofs.Common.{Ok}
+use Rattle.field.specs.Question.{Verdict}
 use Rattle.field.proofs.Base.{◌≡◌, refl, sym, ap, ap₂, ◌∙◌, Bool, true, false, ◌&&◌, ◌||◌, List, [], ◌∷◌, ℕ, zero, suc, ◌+◌, ◌-◌, ◌≤◌, ◌<◌, min}
 use Rattle.field.proofs.Base.{arith, eq-eqb, le-leb, leb-true, eqb, length, get_or, take, drop, length-take, length-drop, drop-drop, get_or-take}
 use Rattle.field.proofs.Base.{get_or-drop}
 use lib.ListN.{get_or-replicate}
 use Rattle.field.specs.Question.{Outcome, ask, after, is_width}
 use Rattle.field.specs.declared.Question.TheVariants.{Width, Length, ErasureCount, Padding}
-use Rattle.field.specs.declared.Verdict.{Verdict}
-use Rattle.field.specs.declared.Verdict.TheVariants.{Passed}
 use Rattle.field.proofs.Ask.{and-true-left, and-true-right}
 use Rattle.code.specs.Word.{places}
 use Rattle.code.specs.Call.{max_erasures, restore_of}
@@ -209,10 +209,10 @@ module _ (r : List ℕ) (size : length r ≡ size_of old_erasure_bytes) where
   same_asked h =
       let few = few_in erasure_bytes (to_new r) in
       let padded = padded_in erasure_bytes (to_new r) in
-      ap₂ (λ (x y : Bool). ask x Length (ask y Width (ask few ErasureCount (ask padded Padding Passed))))
+      ap₂ (λ (x y : Bool). ask x Length (ask y Width (ask few ErasureCount (ask padded Padding (Ok tt)))))
       (eq-eqb (length (to_new r)) (size_of erasure_bytes) size-new ∙ sym (eq-eqb (length r) (size_of old_erasure_bytes) size)) same-wide
       ∙ ap₂
-      (λ (x y : Bool). ask (eqb (length r) (size_of old_erasure_bytes)) Length (ask (has_width r) Width (ask x ErasureCount (ask y Padding Passed))))
+      (λ (x y : Bool). ask (eqb (length r) (size_of old_erasure_bytes)) Length (ask (has_width r) Width (ask x ErasureCount (ask y Padding (Ok tt)))))
       (few-new h ∙ sym h) (same-padded (old-count h))
 
   same_word : word_in erasure_bytes (to_new r) ≡ word_in old_erasure_bytes r

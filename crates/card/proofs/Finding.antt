@@ -1,39 +1,14 @@
 -- The card check of a card that comes in parts. Assumes nothing.
-use Rattle.field.proofs.Base.{◌≡◌, refl, sym, ap, ap₂, ◌∙◌, subst, Bool, true, false, cond, true≢false, List, [], ℕ, zero, suc, ◌+◌, ◌-◌, ◌≤◌}
+use Rattle.std.proofs.Common.{None, Option, Some}
+use Rattle.field.proofs.Base.{rules, ◌≡◌, refl, sym, ap, ap₂, ◌∙◌, subst, Bool, true, false, cond, true≢false, List, ℕ, zero, suc, ◌+◌, ◌-◌, ◌≤◌}
 use Rattle.field.proofs.Base.{add-zero, arith, length}
-use Rattle.field.specs.Question.{refusal}
-use Rattle.field.specs.declared.Question.{Question}
-use Rattle.code.specs.Call.{repair}
-use Rattle.code.specs.declared.Repair.{Repair}
-use Rattle.code.specs.declared.Repair.TheVariants.{Restored, Refused as RefusedBy}
 use Rattle.card.specs.Record.{erasure_bytes, record_of}
 use Rattle.card.specs.Slots.{record_count, record_at, over_first, over_slots}
 use Rattle.card.specs.Card.{fine, no_bad, bad, check_of, Search, passed, named, sought, searched, answer, first_refused}
-use Rattle.card.specs.Placed.{placed, Writes}
-use Rattle.card.specs.Words.{refusal_line}
+use Rattle.card.specs.Text.{Written, Appends}
 use Rattle.card.specs.Checked.{outcome_line, found_line, names, Finds, behind, or_else, FirstInParts}
-use Rattle.card.specs.declared.checked.Found.{Found}
-use Rattle.card.specs.declared.CardCheck.{CardCheck}
-use Rattle.card.specs.declared.CardCheck.TheVariants.{AllAccepted, Refused}
 use Rattle.card.proofs.Folding.{over-map, in_parts, count-first}
 use Rattle.card.proofs.Checking.{Means, searched-means, first_some}
-use Rattle.card.proofs.Writing.{writes-none}
-
--- ---- the line of one record
-
-module _ (x : Repair) (bytes : List ℕ) (e : repair x ≡ record_of bytes) (n : ℕ) where
-  line-by : outcome_line n (repair x) ≡ outcome_line n (record_of bytes)
-  line-by = ap (outcome_line n) e
-
-  pub outcome-none : (k : ℕ) → x ≡ Restored k → (out : List ℕ) → Writes out 0 (outcome_line n (record_of bytes)) out 0
-  outcome-none k p out =
-      subst (λ (l : List ℕ). Writes out 0 l out 0) (ap (λ (y : Repair). outcome_line n (repair y)) (sym p) ∙ line-by)
-      (writes-none out 0 (omega arith))
-
-  pub outcome-some : (q : Question) → x ≡ RefusedBy q → {old new : List ℕ} {r : ℕ}
-      → Writes old 0 (refusal_line n (refusal q)) new r → Writes old 0 (outcome_line n (record_of bytes)) new r
-  outcome-some q p {old} {new} {r} w =
-      subst (λ (l : List ℕ). Writes old 0 l new r) (ap (λ (y : Repair). outcome_line n (repair y)) (sym p) ∙ line-by) w
 
 -- ---- a search behind j slots, and one that has named a record
 
@@ -89,7 +64,7 @@ first-in-parts a b j whole = ap answer (in_parts sought a b j whole (passed 0)) 
 -- ---- one part, where so many slots stand before it
 
 -- where the record stands that the check names
-module _ (part : List ℕ) (x : CardCheck) (e : check_of x ≡ first_refused part) (k : ℕ) (p : x ≡ Refused k) where
+module _ (part : List ℕ) (x : Option ℕ) (e : check_of x ≡ first_refused part) (k : ℕ) (p : x ≡ Some k) where
   is-named : first_refused part ≡ bad k
   is-named = sym e ∙ ap check_of p
 
@@ -99,27 +74,27 @@ module _ (part : List ℕ) (x : CardCheck) (e : check_of x ≡ first_refused par
   pub named-high : k ≤ record_count (length part)
   named-high = ((first_some part k).0 is-named).inside
 
-module _ (before : ℕ) (part : List ℕ) (x : CardCheck) (e : check_of x ≡ first_refused part) where
-  pub finds-none : x ≡ AllAccepted → (out : List ℕ) → Finds (searched before part) out (record { any = false; used = 0 }) out
+module _ (before : ℕ) (part : List ℕ) (x : Option ℕ) (e : check_of x ≡ first_refused part) where
+  pub finds-none : x ≡ None → (out : Written) → Finds (searched before part) out false out
   unfolding later
   finds-none p out = rw (searched-later before part) (go (searched 0 part) (sym (ap check_of (sym p) ∙ e)))
     where
-      go : (u : Search) → answer u ≡ no_bad → Finds (later before u) out (record { any = false; used = 0 }) out
-      go (passed n) f = record { any = refl; text = writes-none out 0 (omega arith) }
+      go : (u : Search) → answer u ≡ no_bad → Finds (later before u) out false out
+      go (passed n) f = record { named = refl; text = search rules }
       go (named n r) f = let z : ◌≡◌ {A = ℕ} 0 1 = cc in absurd (omega arith)
 
-  pub finds-some : (k : ℕ) → x ≡ Refused k → (bytes : List ℕ) → bytes ≡ record_at part (k - 1) → {old new : List ℕ} {u : ℕ}
-      → Writes old 0 (outcome_line (before + k) (record_of bytes)) new u → Finds (searched before part) old (record { any = true; used = u }) new
+  pub finds-some : (k : ℕ) → x ≡ Some k → (bytes : List ℕ) → bytes ≡ record_at part (k - 1) → {old new : Written}
+      → Appends old (outcome_line (before + k) (record_of bytes)) new → Finds (searched before part) old true new
   unfolding later Means
-  finds-some k p bytes eb {old} {new} {u} w = rw (searched-later before part) (go (searched 0 part) (searched-means part) (is-named part x e k p))
+  finds-some k p bytes eb {old} {new} w = rw (searched-later before part) (go (searched 0 part) (searched-means part) (is-named part x e k p))
     where
-      go : (v : Search) → Means part (record_count (length part)) v → answer v ≡ bad k → Finds (later before v) old (record { any = true; used = u }) new
+      go : (v : Search) → Means part (record_count (length part)) v → answer v ≡ bad k → Finds (later before v) old true new
       go (passed n) M f = let z : ◌≡◌ {A = ℕ} 0 1 = cc in absurd (omega arith)
       go (named n r) M f =
           let same : n ≡ k = cc in
           record {
-            any = refl;
-            text = subst (λ (l : List ℕ). Writes old 0 l new u)
+            named = refl;
+            text = subst (λ (l : List ℕ). Appends old l new)
                 (ap₂ (λ (m : ℕ) (s : List ℕ). outcome_line (before + m) (record_of s)) (sym same)
                 (eb ∙ ap (λ (m : ℕ). record_at part (m - 1)) (sym same) ∙ sym M.2)) w;
           }
@@ -127,14 +102,10 @@ module _ (before : ℕ) (part : List ℕ) (x : CardCheck) (e : check_of x ≡ fi
 -- ---- what the text says of the search
 
 -- nothing is written where no record is named
-pub writes_nothing : {old new : List ℕ} {u : ℕ} → Writes old 0 [] new u → new ≡ old
-unfolding placed
-writes_nothing w = w.content
-
-module _ (u : Search) {old new : List ℕ} {r : Found} (F : Finds u old r new) where
-  pub found_none : r.any ≡ false → (names u ≡ false) × (new ≡ old)
-  found_none t = go u (sym F.any ∙ t) F.text
+module _ (u : Search) {old new : Written} {any : Bool} (F : Finds u old any new) where
+  pub found_none : any ≡ false → (names u ≡ false) × (new ≡ old)
+  found_none t = go u (sym F.named ∙ t) F.text
     where
-      go : (v : Search) → names v ≡ false → Writes old 0 (found_line v) new r.used → (names v ≡ false) × (new ≡ old)
-      go (passed n) h w = (refl, writes_nothing w)
+      go : (v : Search) → names v ≡ false → Appends old (found_line v) new → (names v ≡ false) × (new ≡ old)
+      go (passed n) h w = (refl, search rules)
       go (named n s) h w = absurd (true≢false h)

@@ -1,5 +1,6 @@
 -- The questions of a conversion over a card that comes in parts: what they find in parts is what they find in the whole card, and that is
 -- the conversion's verdict and the first offending record. Assumes nothing.
+use Rattle.std.proofs.Common.{Ok, Err}
 use Rattle.field.proofs.Base.{◌≡◌, refl, sym, ap, ◌∙◌, subst, Bool, true, false, List, [], ◌∷◌, ◌++◌, ◌⊎◌, inl, inr, ⊎_elim, ℕ, zero, suc, ◌+◌, ◌-◌}
 use Rattle.field.proofs.Base.{◌*◌, ◌/◌, ◌%◌, ◌≤◌, ◌<◌, min, ℕ_discrete, add-zero, arith, ltb-true, ltb-false, eq-eqb, ne_eqb, eqb-true, eqb, ltb}
 use Rattle.field.proofs.Base.{length, get_or}
@@ -7,7 +8,6 @@ use native.Mathlib.Nat.{div-mul-le_self}
 use borrow.Author.Count.{below_more}
 use Rattle.field.specs.Question.{ask}
 use Rattle.field.specs.declared.Question.TheVariants.{Length}
-use Rattle.field.specs.declared.Verdict.TheVariants.{Passed, Refused}
 use Rattle.field.proofs.Ask.{ask-yes, ask-next}
 use Rattle.card.specs.declared.parts.Findings.{Findings}
 use Rattle.card.specs.Record.{size_of, erasure_bytes}
@@ -15,7 +15,7 @@ use Rattle.card.specs.Slots.{slot_in, slot_count, over_first, appended}
 use Rattle.card.specs.Conversion.{old_erasure_bytes, converted, converted_card, blank_or, at_most_four, card_asked, four_asked}
 use Rattle.card.specs.inner.Leading.{every, card_passes}
 use Rattle.card.specs.Leading.{leading, answers, slot_passes, verdict_at}
-use Rattle.card.specs.Findings.{nothing_found, slot_found, part_found, found_verdict, found_number, slot_answer}
+use Rattle.card.specs.Findings.{nothing_found, slot_found, part_found, found_verdict, slot_answer}
 use Rattle.card.specs.Findings.{FoundInParts, NumberIs, ToNewInParts, ToOldInParts}
 use Rattle.card.proofs.Folding.{whole_parts, rest-two, each-front}
 use Rattle.card.proofs.Leading.{passed_start, one_more_lem}
@@ -122,7 +122,7 @@ found-in-parts k s a b w = whole_parts k (slot_found k) a b (slot_count k (lengt
 
 -- ---- the verdict
 
-pub verdict-rest : (s : Findings) (rest : ℕ) → (rest ≡ 0 → ⊥) → Refused Length ≡ found_verdict s rest
+pub verdict-rest : (s : Findings) (rest : ℕ) → (rest ≡ 0 → ⊥) → Err Length ≡ found_verdict s rest
 verdict-rest s rest h = sym (ap (λ (x : Bool). ask x Length (verdict_at s.passed)) (ne_eqb rest 0 h))
 
 pub verdict-none : (s : Findings) (rest : ℕ) → rest ≡ 0 → verdict_at s.passed ≡ found_verdict s rest
@@ -151,7 +151,7 @@ module _ (k j : ℕ) (card : List ℕ) where
           sym (verdict-rest s (length card % size_of k) e)
           ∙ asked-refused k j card right (lengths-whole k (length card) (size_of k) refl j right e)
 
-verdict-four : (n : ℕ) → verdict_at n ≡ Passed → 4 ≤ n
+verdict-four : (n : ℕ) → verdict_at n ≡ (Ok tt) → 4 ≤ n
 verdict-four zero e = let z : ◌≡◌ {A = ℕ} 0 1 = cc in omega arith
 verdict-four (suc zero) e = let z : ◌≡◌ {A = ℕ} 0 1 = cc in omega arith
 verdict-four (suc (suc zero)) e = let z : ◌≡◌ {A = ℕ} 0 1 = cc in omega arith
@@ -163,18 +163,18 @@ module _ (k j : ℕ) (card : List ℕ) where
   n : ℕ
   n = slot_count k (length card)
 
-  passed-tells : (m : ℕ) → card_asked k j card m (four_asked k card) ≡ Passed → (length card % size_of k ≡ 0) × (4 ≤ card_passes k card n)
+  passed-tells : (m : ℕ) → card_asked k j card m (four_asked k card) ≡ (Ok tt) → (length card % size_of k ≡ 0) × (4 ≤ card_passes k card n)
   unfolding n right
   passed-tells m p =
       let s = part_found k nothing_found card in
       let rest = length card % size_of k in
       let e : right k j card ≡ m = sym (passed-out k j card m (four_asked k card) p) in
-      let v : found_verdict s rest ≡ Passed = verdict-is k j card ∙ ap (λ (x : ℕ). card_asked k j card x (four_asked k card)) e ∙ p in
+      let v : found_verdict s rest ≡ (Ok tt) = verdict-is k j card ∙ ap (λ (x : ℕ). card_asked k j card x (four_asked k card)) e ∙ p in
       let four = verdict-four s.passed (ask-next (eqb rest 0) Length (verdict_at s.passed) v) in
       (eqb-true rest 0 (ask-yes (eqb rest 0) Length (verdict_at s.passed) v), omega (arith, four, found_passed k card n))
 
   tells-passed : length card % size_of k ≡ 0 → 4 ≤ card_passes k card n
-      → card_asked k j card (right k j card) (four_asked k card) ≡ Passed
+      → card_asked k j card (right k j card) (four_asked k card) ≡ (Ok tt)
   unfolding n right
   tells-passed e h =
       let s = part_found k nothing_found card in
@@ -182,16 +182,16 @@ module _ (k j : ℕ) (card : List ℕ) where
       sym (verdict-is k j card) ∙ sym (verdict-none s (length card % size_of k) e) ∙ ap verdict_at four
 
 module _ (k j : ℕ) (a b : List ℕ) (m : ℕ) (w : length a % size_of k ≡ 0)
-    (p : card_asked k j (a ++ b) m (four_asked k (a ++ b)) ≡ Passed) where
+    (p : card_asked k j (a ++ b) m (four_asked k (a ++ b)) ≡ (Ok tt)) where
   told : (length (a ++ b) % size_of k ≡ 0) × (4 ≤ card_passes k (a ++ b) (slot_count k (length (a ++ b))))
   unfolding n
   told = passed-tells k j (a ++ b) m p
 
-  front-passes : card_asked k j a (slot_count k (length a) * size_of j) (four_asked k a) ≡ Passed
+  front-passes : card_asked k j a (slot_count k (length a) * size_of j) (four_asked k a) ≡ (Ok tt)
   unfolding n right
   front-passes = tells-passed k j a w (omega (arith, told.1, passes-two k a b w))
 
-  behind-passes : card_asked k j b (slot_count k (length b) * size_of j) (four_asked k b) ≡ Passed
+  behind-passes : card_asked k j b (slot_count k (length b) * size_of j) (four_asked k b) ≡ (Ok tt)
   unfolding n right
   behind-passes = tells-passed k j b (sym (rest-two k a b (slot_count k (length a)) (whole k a b w)) ∙ told.0) (omega (arith, told.1, passes-two k a b w))
 
@@ -222,12 +222,6 @@ to-old-in-parts = (
 )
 
 -- ---- the first offending record
-
-pub number-rest : (s : Findings) (rest : ℕ) → (rest ≡ 0 → ⊥) → s.slots + 1 ≡ found_number s rest
-number-rest s rest h = rw (ne_eqb rest 0 h)
-
-pub number-none : (s : Findings) (rest : ℕ) → rest ≡ 0 → s.first ≡ found_number s rest
-number-none s rest h = rw (eq-eqb rest 0 h)
 
 module _ (k : ℕ) (card : List ℕ) where
   passes : ℕ → ℕ

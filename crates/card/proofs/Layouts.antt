@@ -1,11 +1,11 @@
 -- The layout of a record, and what its own questions tell of it. Assumes nothing.
-use Rattle.field.proofs.Base.{◌≡◌, refl, sym, ap, ap₂, ◌∙◌, ◌≢◌, Bool, true, false, not, ◌&&◌, List, [], ◌∷◌, ℕ, zero, suc, ◌+◌, ◌-◌, ◌≤◌, ◌<◌}
-use Rattle.field.proofs.Base.{add-one, arith, eq-eqb, ne_eqb, eqb-true, le-leb, lt-leb, leb-true, not-true, not-false, eqb, leb, length, get_or, take}
-use Rattle.field.proofs.Base.{drop, replicate, drop_of_length-le, length-drop, drop-cons, take_all}
+use Rattle.std.proofs.Common.{Ok, Err}
+use Rattle.field.proofs.Base.{◌≡◌, refl, sym, ap, ap₂, ◌∙◌, ◌≢◌, Bool, true, false, not, ◌&&◌, List, [], ◌∷◌, ℕ, ◌+◌, ◌-◌, ◌≤◌, ◌<◌, add-one, arith}
+use Rattle.field.proofs.Base.{eq-eqb, ne_eqb, eqb-true, le-leb, lt-leb, leb-true, not-true, not-false, eqb, leb, length, get_or, take, drop}
+use Rattle.field.proofs.Base.{replicate, drop-cons}
 use lib.Seq.{take-take}
 use Rattle.field.specs.Question.{ask, is_width}
 use Rattle.field.specs.declared.Question.TheVariants.{Width, Length, ErasureCount, Padding, FourErasures}
-use Rattle.field.specs.declared.Verdict.TheVariants.{Passed, Refused}
 use Rattle.field.proofs.Ask.{ask-yes, ask-next, and-true-left, and-true-right}
 use Rattle.code.specs.Word.{places, word_length}
 use Rattle.code.proofs.Lengths.{width_some, width-none, length-is, places-most}
@@ -24,52 +24,10 @@ module _ (x : ℕ) (ys : List ℕ) (i : ℕ) (e : all_are x ys ≡ all_are x (dr
       one : drop i ys ≡ get_or ys i 0 ∷ drop (i + 1) ys
       one = rw (add-one, drop-cons ys i 0)
 
-  pub all-on : i < length ys → get_or ys i 0 ≡ x → all_are x ys ≡ all_are x (drop (i + 1) ys)
-  all-on h t = step h ∙ simp (eq-eqb _ _ t)
-
-  pub all-stop : i < length ys → (get_or ys i 0 ≡ x → ⊥) → false ≡ all_are x ys
-  all-stop h t = sym (step h ∙ simp (ne_eqb _ _ t))
-
-  pub all_end : length ys ≤ i → true ≡ all_are x ys
-  all_end h = sym (e ∙ ap (all_are x) (drop_of_length-le ys h))
-
 pub all_replicate : (x : ℕ) (ys : List ℕ) → all_are x ys ≡ true → ys ≡ replicate (length ys) x
 all_replicate x [] h = refl
 all_replicate x (y ∷ ys) h =
     ap₂ ◌∷◌ (eqb-true y x (and-true-left (eqb y x) (all_are x ys) h)) (all_replicate x ys (and-true-right (eqb y x) (all_are x ys) h))
-
--- ---- parts
-
--- a part up to the end
-pub tail-part : (n : ℕ) (r : List ℕ) → take (length r - n) (drop n r) ≡ drop n r
-tail-part n r = take_all (length r - n) (drop n r) (simp length-drop (omega arith))
-
-module _ (k : ℕ) (r : List ℕ) (n e : ℕ) (b c : Bool) (l : n ≤ k) (eb : b ≡ all_are 255 (take (header_of k - (2 + n)) (drop (2 + n) r))) where
-  unused : b ≡ all_are 255 (take (k - n) (drop (2 + n) r))
-  unused = eb ∙ ap (λ (x : ℕ). all_are 255 (take x (drop (2 + n) r))) less
-    where
-      less : header_of k - (2 + n) ≡ k - n
-      less = omega arith
-
-  -- question 4: the unused erasure bytes, a part up to the header's end, and then the tail
-  pub padded-yes : b ≡ true → c ≡ all_are 0 (take (length r - e) (drop e r))
-      → c ≡ (all_are 255 (take (k - n) (drop (2 + n) r)) && all_are 0 (drop e r))
-  padded-yes t ec = ec ∙ ap (all_are 0) (tail-part e r) ∙ ap (λ (x : Bool). x && all_are 0 (drop e r)) (sym t ∙ unused)
-
-  pub padded-no : b ≡ false → false ≡ (all_are 255 (take (k - n) (drop (2 + n) r)) && all_are 0 (drop e r))
-  padded-no t = ap (λ (x : Bool). x && all_are 0 (drop e r)) (sym t ∙ unused)
-
--- the erasure bytes, read one by one
-pub five-bytes : (r : List ℕ) → header_size ≤ length r
-    → ◌≡◌ {A = List ℕ} (get_or r 2 0 ∷ get_or r 3 0 ∷ get_or r 4 0 ∷ get_or r 5 0 ∷ get_or r 6 0 ∷ []) (take erasure_bytes (drop 2 r))
-five-bytes [] h = absurd (omega arith)
-five-bytes (a ∷ []) h = absurd (omega arith)
-five-bytes (a ∷ b ∷ []) h = absurd (omega arith)
-five-bytes (a ∷ b ∷ c ∷ []) h = absurd (omega arith)
-five-bytes (a ∷ b ∷ c ∷ d ∷ []) h = absurd (omega arith)
-five-bytes (a ∷ b ∷ c ∷ d ∷ e ∷ []) h = absurd (omega arith)
-five-bytes (a ∷ b ∷ c ∷ d ∷ e ∷ f ∷ []) h = absurd (omega arith)
-five-bytes (a ∷ b ∷ c ∷ d ∷ e ∷ f ∷ g ∷ r) h = refl
 
 -- ---- the record's own questions, one by one
 
@@ -88,9 +46,6 @@ module _ (k most : ℕ) (r : List ℕ) (n : ℕ) (en : n ≡ word_length (width_
 
     -- a is question 3's bound
     module _ (a : ℕ) (ea : a ≡ allowed_in k r) where
-      pub count_fits : count_of r ≤ a → count_of r ≤ k
-      count_fits h = omega (arith, ea)
-
       pub passes-one : a < count_of r → 1 ≡ record_passes k most r
       unfolding record_passes
       passes-one h = simp (width, lt-leb (count_of r) (allowed_in k r) (rw ea at h))
@@ -122,15 +77,8 @@ module _ (k most : ℕ) (r : List ℕ) (n : ℕ) (en : n ≡ word_length (width_
 
 -- ---- the verdict
 
-pub verdict-passed : (n : ℕ) → n ≢ 0 → n ≢ 1 → n ≢ 2 → n ≢ 3 → Passed ≡ verdict_at n
-verdict-passed zero a b c d = absurd (a refl)
-verdict-passed (suc zero) a b c d = absurd (b refl)
-verdict-passed (suc (suc zero)) a b c d = absurd (c refl)
-verdict-passed (suc (suc (suc zero))) a b c d = absurd (d refl)
-verdict-passed (suc (suc (suc (suc n)))) a b c d = refl
-
 pub verdict-asked : (a b c d : Bool)
-    → verdict_at (leading (a ∷ b ∷ c ∷ d ∷ [])) ≡ ask a Width (ask b ErasureCount (ask c Padding (ask d FourErasures Passed)))
+    → verdict_at (leading (a ∷ b ∷ c ∷ d ∷ [])) ≡ ask a Width (ask b ErasureCount (ask c Padding (ask d FourErasures (Ok tt))))
 verdict-asked true true true true = refl
 verdict-asked true true true false = refl
 verdict-asked true true false d = refl
@@ -139,8 +87,8 @@ verdict-asked false b c d = refl
 
 -- where question 3 does not allow more, question 15 is passed
 pub asked-late : (a b c d : Bool) → (b ≡ true → d ≡ true)
-    → ask a Width (ask b ErasureCount (ask c Padding (ask d FourErasures Passed))) ≡ ask a Width (ask b ErasureCount (ask c Padding Passed))
-asked-late a true c d f = ap (λ (x : Bool). ask a Width (ask c Padding (ask x FourErasures Passed))) (f refl)
+    → ask a Width (ask b ErasureCount (ask c Padding (ask d FourErasures (Ok tt)))) ≡ ask a Width (ask b ErasureCount (ask c Padding (Ok tt)))
+asked-late a true c d f = ap (λ (x : Bool). ask a Width (ask c Padding (ask x FourErasures (Ok tt)))) (f refl)
 asked-late a false c d f = refl
 
 -- no more erasures than there are bytes for
@@ -148,11 +96,11 @@ pub few-fit : (k : ℕ) (r : List ℕ) → few_in k r ≡ true → leb (count_of
 few-fit k r h = le-leb (count_of r) k (omega (arith, leb-true (count_of r) (allowed_in k r) h))
 
 module _ (k : ℕ) (r : List ℕ) where
-  pub length-no : (length r ≡ size_of k → ⊥) → Refused Length ≡ asked_in k r
+  pub length-no : (length r ≡ size_of k → ⊥) → Err Length ≡ asked_in k r
   unfolding asked_in
   length-no n = simp (ne_eqb (length r) (size_of k) n)
 
-  pub width-no : length r ≡ size_of k → is_width (width_of r) ≡ false → Refused Width ≡ asked_in k r
+  pub width-no : length r ≡ size_of k → is_width (width_of r) ≡ false → Err Width ≡ asked_in k r
   unfolding asked_in
   width-no size w = simp (eq-eqb (length r) (size_of k) size, w)
 
@@ -162,7 +110,7 @@ module _ (k : ℕ) (r : List ℕ) where
       ap verdict_at e
       ∙ verdict-asked (has_width r) (few_in k r) (padded_in k r) (leb (count_of r) k)
       ∙ asked-late (has_width r) (few_in k r) (padded_in k r) (leb (count_of r) k) (few-fit k r)
-      ∙ sym (ap (λ (x : Bool). ask x Length (ask (has_width r) Width (ask (few_in k r) ErasureCount (ask (padded_in k r) Padding Passed))))
+      ∙ sym (ap (λ (x : Bool). ask x Length (ask (has_width r) Width (ask (few_in k r) ErasureCount (ask (padded_in k r) Padding (Ok tt)))))
       (eq-eqb (length r) (size_of k) size))
 
 -- ---- a record that passed them
@@ -173,7 +121,7 @@ pub record Asked (r : List ℕ) : Type 0 where
   pub few : count_of r ≤ erasure_bytes
   pub tail : all_are 0 (tail_of r) ≡ true
 
-pub asked : (r : List ℕ) → record_asked r ≡ Passed → Asked r
+pub asked : (r : List ℕ) → record_asked r ≡ (Ok tt) → Asked r
 unfolding asked_in
 asked r p1 =
     let p2 = ask-next (eqb (length r) record_size) Length _ p1 in
@@ -184,7 +132,7 @@ asked r p1 =
       width = ask-yes (is_width (width_of r)) Width _ p2;
       few = omega (arith, leb-true (count_of r) (allowed_in erasure_bytes r) (ask-yes (leb (count_of r) (allowed_in erasure_bytes r)) ErasureCount _ p3));
       tail = and-true-right (all_are 255 (unused_of r)) (all_are 0 (tail_of r))
-          (ask-yes (all_are 255 (unused_of r) && all_are 0 (tail_of r)) Padding Passed p4);
+          (ask-yes (all_are 255 (unused_of r) && all_are 0 (tail_of r)) Padding (Ok tt) p4);
     }
 
 module _ (r : List ℕ) (A : Asked r) (n : ℕ) (en : n ≡ word_length (width_of r)) where

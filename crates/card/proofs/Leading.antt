@@ -1,8 +1,8 @@
 -- How many of a conversion's questions are passed: of one slot, of slot after slot, and the verdict. Assumes nothing.
+use Rattle.std.proofs.Common.{Ok}
 use Rattle.field.proofs.Base.{◌≡◌, refl, sym, ◌∙◌, Bool, true, false, ◌&&◌, List, [], ◌∷◌, ℕ, suc, min, arith}
 use Rattle.field.specs.Question.{ask}
 use Rattle.field.specs.declared.Question.TheVariants.{Width, ErasureCount, Padding, FourErasures}
-use Rattle.field.specs.declared.Verdict.TheVariants.{Passed}
 use Rattle.card.specs.Record.{has_width, few_in, padded_in}
 use Rattle.card.specs.Slots.{slot_in, blank_in, over_first}
 use Rattle.card.specs.Conversion.{old_erasure_bytes, blank_or, at_most_four}
@@ -55,7 +55,7 @@ pub verdict-card : (k : ℕ) (card : List ℕ) (n : ℕ)
     → verdict_at (card_passes k card n)
     ≡ ask (every k has_width card n) Width
     (ask (every k (few_in k) card n) ErasureCount
-    (ask (every k (padded_in k) card n) Padding (ask (every k at_most_four card n) FourErasures Passed)))
+    (ask (every k (padded_in k) card n) Padding (ask (every k at_most_four card n) FourErasures (Ok tt))))
 unfolding card_passes
 verdict-card k card n =
     verdict-asked (every k has_width card n) (every k (few_in k) card n) (every k (padded_in k) card n) (every k at_most_four card n)

@@ -10,7 +10,6 @@ pub mod Slots  -- slots one after the other, and of two parts
 pub mod Folding  -- the fold over slots: `in_parts`, and what texts put behind each other make
 pub mod Checking  -- the first record that would be refused: `first_some`, `first-none`, `checks`
 pub mod Writing  -- one text behind another is both in one; a number digit by digit
-pub mod Wording  -- refusals in words
 pub mod Lines  -- listing slot by slot, and in parts: `listing-batches`, `listing-short`, `listing-long`
 pub mod Finding  -- the card check in parts: `first-in-parts`
 pub mod Bounds  -- how long lines are, how far numbers grow, at every reach: `few-places`, `sum-most`

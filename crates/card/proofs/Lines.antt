@@ -1,80 +1,45 @@
 -- Listing slot by slot, and a listing in parts: the lines and the progress of two parts are those of the first and then those of the
 -- second. Assumes nothing.
-use Rattle.field.proofs.Base.{lt-ltb, le-ltb, ◌≡◌, refl, sym, ap, ap₂, ◌∙◌, subst, Bool, true, false, cond, List, [], ◌++◌, append_assoc, append-nil}
-use Rattle.field.proofs.Base.{ℕ, ◌+◌, ◌*◌, ◌≤◌, ◌<◌, arith, length, get_or, length-append, length-take, length-drop, take_all, take_at}
-use Rattle.field.specs.Question.{Outcome}
+use Rattle.field.proofs.Base.{lt-ltb, le-ltb, ◌≡◌, refl, sym, ap, ap₂, ◌∙◌, subst, Bool, cond, List, [], ◌++◌, append_assoc, append-nil, ℕ, ◌+◌, ◌*◌}
+use Rattle.field.proofs.Base.{◌≤◌, ◌<◌, arith, length, length-append, length-take, length-drop, take_all, take_at}
 use Rattle.card.specs.declared.Progress.{Progress}
-use Rattle.card.specs.declared.text.Listed.{Listed}
-use Rattle.card.specs.Record.{erasure_bytes, record_size, record_of}
-use Rattle.card.specs.Slots.{record_count, record_at, is_blank, over_first, over_slots}
-use Rattle.card.specs.Listing.{line_text, refusal_of, changes_of, record_line, blank_line, slot_line, counted, slot_further}
+use Rattle.card.specs.Record.{erasure_bytes, record_size}
+use Rattle.card.specs.Slots.{record_count, record_at, over_first, over_slots}
+use Rattle.card.specs.Listing.{slot_line, slot_further}
 use Rattle.card.specs.Listing.{Told, slot_told, untold, part_lines, part_progress, total_line, more_line, most_records, start, listing}
-use Rattle.card.specs.inner.Room.{further}
-use Rattle.card.specs.Batch.{ListsSlots}
+use Rattle.card.specs.Text.{Written, Appends}
 use Rattle.card.proofs.Slots.{slot-front, slot-behind}
 use Rattle.card.proofs.Folding.{over-more, over-map, in_parts}
-use Rattle.card.proofs.Writing.{writes-none, writes-on}
+use Rattle.card.proofs.Writing.{appends-on}
 
 -- ---- listing slot by slot
-
--- the line of a record, by what was answered
-pub line-answered : (n : ℕ) (bytes : List ℕ) {o : Outcome} {r k : ℕ} → o ≡ record_of bytes → r ≡ refusal_of o → k ≡ changes_of o
-    → line_text n (get_or bytes 0 0) r k ≡ record_line n bytes
-line-answered n bytes e p q = ap₂ (line_text n (get_or bytes 0 0)) (p ∙ ap refusal_of e) (q ∙ ap changes_of e)
 
 -- a slot of a batch has a byte
 pub piece-some : (batch bytes : List ℕ) (i : ℕ) → bytes ≡ record_at batch i → i < record_count (length batch) → 0 < length bytes
 piece-some batch bytes i e h = rw e (simp (length-take, length-drop) (omega arith))
 
--- a slot is listed as blank or as a record
-module _ (slot : List ℕ) (b : Bool) (e : b ≡ is_blank slot) (done : Listed) {next : Listed} {old new : List ℕ} where
-  pub lists-blank : b ≡ true
-      → ListsSlots done.used (blank_line done.progress.next) (further done.progress done.progress.totals) old next new
-      → ListsSlots done.used (slot_line done.progress.next slot) (slot_further done.progress slot) old next new
-  lists-blank t l = let f : is_blank slot ≡ true = sym e ∙ t in rw f l
-
-  pub lists-record : b ≡ false
-      → ListsSlots done.used (record_line done.progress.next slot) (further done.progress (counted done.progress.totals (record_of slot))) old next new
-      → ListsSlots done.used (slot_line done.progress.next slot) (slot_further done.progress slot) old next new
-  lists-record t l = let f : is_blank slot ≡ false = sym e ∙ t in rw f l
-
 -- with a slot more
-pub lists-on : (t : Told) (slot : List ℕ) {done next : Listed} {a b c : List ℕ} → ListsSlots 0 t.text t.progress a done b
-    → ListsSlots done.used (slot_line done.progress.next slot) (slot_further done.progress slot) b next c
-    → ListsSlots 0 (slot_told t slot).text (slot_told t slot).progress a next c
-lists-on t slot w v =
-    record {
-      text = rw (← w.progress) (writes-on w.text v.text);
-      progress = v.progress ∙ ap (λ (u : Progress). slot_further u slot) w.progress;
-    }
+lists-on : (t : Told) (slot : List ℕ) {u next : Progress} {a b c : Written} → Appends a t.text b → u ≡ t.progress
+    → Appends b (slot_line u.next slot) c → next ≡ slot_further u slot
+    → Appends a (slot_told t slot).text c × (next ≡ (slot_told t slot).progress)
+lists-on t slot w p v q = (rw (← p) (appends-on w v), q ∙ ap (λ (u : Progress). slot_further u slot) p)
 
 -- the first i slots of a batch
 module _ (s : Progress) (batch : List ℕ) where
   abbrev pub told_first : ℕ → Told
   told_first i = over_first erasure_bytes slot_told (untold s) batch i
 
-  pub lists-none : (out : List ℕ) → ListsSlots 0 (told_first 0).text (told_first 0).progress out (record { used = 0; progress = s }) out
-  unfolding over_first
-  lists-none out = record { text = writes-none out 0 (omega arith); progress = refl }
-
-  pub lists-more : (i : ℕ) (slot : List ℕ) → slot ≡ record_at batch i → {done next : Listed} {a b c : List ℕ}
-      → ListsSlots 0 (told_first i).text (told_first i).progress a done b
-      → ListsSlots done.used (slot_line done.progress.next slot) (slot_further done.progress slot) b next c
-      → ListsSlots 0 (told_first (i + 1)).text (told_first (i + 1)).progress a next c
-  lists-more i slot e {done} {next} {a} {b} {c} w v =
-      subst (λ (t : Told). ListsSlots 0 t.text t.progress a next c)
-      (ap (slot_told (told_first i)) e ∙ over-more erasure_bytes slot_told (untold s) batch i) (lists-on (told_first i) slot w v)
+  pub lists-more : (i : ℕ) (slot : List ℕ) → slot ≡ record_at batch i → {u next : Progress} {a b c : Written}
+      → Appends a (told_first i).text b × (u ≡ (told_first i).progress)
+      → Appends b (slot_line u.next slot) c → next ≡ slot_further u slot
+      → Appends a (told_first (i + 1)).text c × (next ≡ (told_first (i + 1)).progress)
+  lists-more i slot e {u} {next} {a} {b} {c} w v q =
+      subst (λ (t : Told). Appends a t.text c × (next ≡ t.progress))
+      (ap (slot_told (told_first i)) e ∙ over-more erasure_bytes slot_told (untold s) batch i) (lists-on (told_first i) slot w.0 w.1 v q)
 
   -- how far it has come
   pub told-progress : (i : ℕ) → (over_first erasure_bytes slot_told (untold s) batch i).progress ≡ over_first erasure_bytes slot_further s batch i
   told-progress i = over-map erasure_bytes slot_told slot_further (λ (t : Told). t.progress) (λ t slot. refl) (untold s) batch i
-
-  pub lists-end : (i : ℕ) → i ≡ record_count (length batch) → {r : Listed} {old new : List ℕ}
-      → ListsSlots 0 (told_first i).text (told_first i).progress old r new → ListsSlots 0 (part_lines s batch) (part_progress s batch) old r new
-  lists-end i e {r} {old} {new} L =
-      let M : ListsSlots 0 (told_first i).text (over_first erasure_bytes slot_further s batch i) old r new =
-      record { text = L.text; progress = L.progress ∙ told-progress i } in
-      rw e at M
 
 -- ---- two parts, the first of j whole slots
 

@@ -1,11 +1,11 @@
 -- A record restored up to a longest reach: as with its own r, or refused; restored again; and up to two. Assumes nothing.
+use Rattle.std.proofs.Common.{Ok, Result}
+use Rattle.field.specs.declared.Question.{Question}
 use Rattle.field.proofs.Base.{◌≡◌, refl, sym, ap, ◌∙◌, List, ℕ, ◌≤◌, ◌<◌, dec_lt, le_refl, arith, length}
 use mathlib.Core.Path.{fun_ext}
 use Rattle.field.specs.Question.{Outcome, accepted, refused}
-use Rattle.field.specs.declared.Verdict.TheVariants.{Passed}
 use Rattle.code.specs.Near.{distance}
 use Rattle.code.specs.Call.{within_of, within_written}
-use Rattle.code.specs.declared.Repair.{Repair}
 use Rattle.code.specs.Demands.{Passes}
 use Rattle.code.proofs.calls.Passing.{passes-within, within-passes}
 use Rattle.code.proofs.Demands.{accepts, longer-reach}
@@ -20,7 +20,7 @@ use Rattle.card.proofs.Again.{accepted-means, written-clear, within-again, again
 -- ---- what is restored at a reach is restored equally at the record's own r
 
 module _ (r : List ℕ) (reach k : ℕ) (e : record_within_of r reach ≡ accepted k) where
-  means : (record_asked r ≡ Passed) × (within_of (width_of r) (word_of r) (erasures_of r) reach ≡ accepted k)
+  means : (record_asked r ≡ (Ok tt)) × (within_of (width_of r) (word_of r) (erasures_of r) reach ≡ accepted k)
   unfolding record_within_of
   means = accepted-means (record_asked r) (within_of (width_of r) (word_of r) (erasures_of r) reach) k e
 
@@ -96,7 +96,7 @@ pub up-to-two : UpToTwo
 unfolding record_up_to record_written_up_to record_of record_written
 up-to-two r = (ap (record_within_of r) (reach-two r), ap (record_within_written r) (reach-two r))
 
-pub restores-two : (r : List ℕ) (x : Repair) (new : List ℕ) → RestoresRecordUpTo most_changes r x new → RestoresRecord r x new
+pub restores-two : (r : List ℕ) (x : Result ℕ Question) (new : List ℕ) → RestoresRecordUpTo most_changes r x new → RestoresRecord r x new
 restores-two r x new R = record { answer = R.answer ∙ (up-to-two r).0; content = R.content ∙ (up-to-two r).1 }
 
 pub progress-two : (s : Progress) (part : List ℕ) → progress_up_to most_changes s part ≡ part_progress s part

@@ -1,53 +1,50 @@
 -- The restored record. Assumes nothing.
+use Rattle.std.proofs.Common.{Ok, Err, Result}
+use Rattle.field.specs.Question.{Verdict}
 use Rattle.field.proofs.Base.{◌≡◌, refl, sym, ap, ap₂, ◌∙◌, List, ◌∷◌, ◌++◌, ℕ, ◌+◌, ◌-◌, min, arith, length, take, drop, replicate, take-append-drop}
 use Rattle.field.proofs.Base.{length-drop, drop_at, drop-drop, length-take-le}
 use mathlib.Core.Path.{subst₂}
 use Rattle.field.specs.Question.{Outcome, accepted, refused, refusal, after}
 use Rattle.field.specs.declared.Question.{Question}
 use Rattle.field.specs.declared.Question.TheVariants.{Length}
-use Rattle.field.specs.declared.Verdict.{Verdict}
-use Rattle.field.specs.declared.Verdict.TheVariants.{Passed, Refused as RefusedBy}
 use Rattle.code.specs.Word.{places, word_length, longest}
 use Rattle.code.specs.Near.{radius}
 use Rattle.code.specs.Call.{within_of, within_written, repair, RestoresWithin}
-use Rattle.code.specs.declared.Repair.{Repair}
-use Rattle.code.specs.declared.Repair.TheVariants.{Restored, Refused}
 use Rattle.code.proofs.Lengths.{places-most}
 use Rattle.code.proofs.Demands.{accepts, refused-unchanged}
 use Rattle.card.specs.Record.{erasure_bytes, record_size, width_of, count_of, word_of, erasures_of, record_asked, clear_record, on_accept, RestoresCopy}
-use Rattle.card.specs.inner.Parts.{header_size, tail_of, no_copy}
+use Rattle.card.specs.inner.Parts.{header_size, tail_of}
 use Rattle.card.specs.Record.{record_within_of, record_within_written, RestoresRecordWithin, reach_of, record_of, record_written, RestoresRecord, copy_written}
 use Rattle.card.specs.Record.{reach_up_to, record_up_to, record_written_up_to, RestoresRecordUpTo}
-use Rattle.card.specs.declared.RestoredCopy.{RestoredCopy}
 use Rattle.card.proofs.Layouts.{Asked, asked, all_replicate, length-no, word-part, erasures-part}
 
 -- the record's own questions were answered no
-within-refused : (r : List ℕ) (reach : ℕ) (v : Verdict) (q : Question) → v ≡ record_asked r → v ≡ RefusedBy q
+within-refused : (r : List ℕ) (reach : ℕ) (v : Verdict) (q : Question) → v ≡ record_asked r → v ≡ Err q
     → refused (refusal q) ≡ record_within_of r reach
 unfolding record_within_of
 within-refused r reach v q e p = ap (λ (u : Verdict). after u (within_of (width_of r) (word_of r) (erasures_of r) reach)) (sym p ∙ e)
 
-pub restores-refused : (r : List ℕ) (reach : ℕ) (v : Verdict) (q : Question) → v ≡ record_asked r → v ≡ RefusedBy q → (new : List ℕ) → new ≡ r
-    → RestoresRecordWithin r reach (Refused q) new
+pub restores-refused : (r : List ℕ) (reach : ℕ) (v : Verdict) (q : Question) → v ≡ record_asked r → v ≡ Err q → (a : Result ℕ Question) → a ≡ Err q
+    → (new : List ℕ) → new ≡ r → RestoresRecordWithin r reach a new
 unfolding record_within_written
-restores-refused r reach v q e p new h =
+restores-refused r reach v q e p a f new h =
     let o = within-refused r reach v q e p in
     record {
-      answer = o;
+      answer = ap repair f ∙ o;
       content = h
           ∙ ap (λ (x : Outcome). on_accept x r (clear_record (width_of r) (within_written (width_of r) (word_of r) (erasures_of r) reach))) o;
     }
 
 -- what the restorer did with the parts of the record, n the length of its word and es its erasure bytes
 pub restores-parts : (r : List ℕ) (A : Asked r) (n : ℕ) (en : n ≡ word_length (width_of r)) (es : List ℕ) → es ≡ take erasure_bytes (drop 2 r)
-    → (reach : ℕ) (x : Repair) (new : List ℕ)
+    → (reach : ℕ) (x : Result ℕ Question) (new : List ℕ)
     → RestoresWithin (width_of r) (take (header_size + n - header_size) (drop header_size r)) (take (count_of r) es) reach x new
     → RestoresWithin (width_of r) (word_of r) (erasures_of r) reach x new
 restores-parts r A n en es e reach x new R =
     subst₂ (λ (w ls : List ℕ). RestoresWithin (width_of r) w ls reach x new) (word-part r A n en) (erasures-part r A n en es e) R
 
 -- they were answered yes; R is what the restorer did with the word
-module _ (r : List ℕ) (P : record_asked r ≡ Passed) (reach : ℕ) (x : Repair) (new : List ℕ)
+module _ (r : List ℕ) (P : record_asked r ≡ (Ok tt)) (reach : ℕ) (x : Result ℕ Question) (new : List ℕ)
     (R : RestoresWithin (width_of r) (word_of r) (erasures_of r) reach x new) where
   answer : repair x ≡ record_within_of r reach
   unfolding record_within_of
@@ -62,14 +59,14 @@ module _ (r : List ℕ) (P : record_asked r ≡ Passed) (reach : ℕ) (x : Repai
         ∙ ap (λ (u : List ℕ). take header_size r ++ u) (take-append-drop n (drop header_size r))
         ∙ take-append-drop header_size r
 
-    pub word-refused : (q : Question) → x ≡ Refused q
-        → RestoresRecordWithin r reach (Refused q) (take header_size r ++ (new ++ drop n (drop header_size r)))
+    pub word-refused : (q : Question) → x ≡ Err q → (v : Result ℕ Question) → v ≡ Err q
+        → RestoresRecordWithin r reach v (take header_size r ++ (new ++ drop n (drop header_size r)))
     unfolding record_within_written
-    word-refused q e =
+    word-refused q e v g =
         let o : refused (refusal q) ≡ record_within_of r reach = ap repair (sym e) ∙ answer in
         let f : within_of (width_of r) (word_of r) (erasures_of r) reach ≡ refused (refusal q) = sym R.answer ∙ ap repair e in
         record {
-          answer = o;
+          answer = ap repair g ∙ o;
           content = same_word (R.word ∙ refused-unchanged (width_of r) (word_of r) (erasures_of r) reach (refusal q) f)
               ∙ ap (λ (y : Outcome). on_accept y r (clear_record (width_of r) (within_written (width_of r) (word_of r) (erasures_of r) reach))) o;
         }
@@ -80,9 +77,9 @@ module _ (r : List ℕ) (P : record_asked r ≡ Passed) (reach : ℕ) (x : Repai
     rest : drop n (drop header_size r) ≡ tail_of r
     rest = drop-drop n header_size r ∙ ap (λ (k : ℕ). drop (header_size + k) r) en
 
-    pub word-restored : (k : ℕ) → x ≡ Restored k → (final : List ℕ)
+    pub word-restored : (k : ℕ) → x ≡ Ok k → (final : List ℕ)
         → final ≡ (width_of r ∷ 0 ∷ replicate erasure_bytes 255) ++ drop header_size (take header_size r ++ (new ++ drop n (drop header_size r)))
-        → RestoresRecordWithin r reach (Restored k) final
+        → RestoresRecordWithin r reach (Ok k) final
     unfolding record_within_written
     word-restored k e final f =
         record {
@@ -110,7 +107,7 @@ module _ (r : List ℕ) (P : record_asked r ≡ Passed) (reach : ℕ) (x : Repai
 
 -- ---- who names a longest reach
 
-pub restores-up-to : (n : ℕ) (r : List ℕ) (reach : ℕ) → reach ≡ reach_up_to n r → (x : Repair) (new : List ℕ) → RestoresRecordWithin r reach x new
+pub restores-up-to : (n : ℕ) (r : List ℕ) (reach : ℕ) → reach ≡ reach_up_to n r → (x : Result ℕ Question) (new : List ℕ) → RestoresRecordWithin r reach x new
     → RestoresRecordUpTo n r x new
 unfolding record_up_to record_written_up_to
 restores-up-to n r reach e x new R =
@@ -127,7 +124,7 @@ reach-counted n r A k h =
 
 pub short-refused : (r : List ℕ) → (length r ≡ record_size → ⊥) → refused (refusal Length) ≡ record_of r
 unfolding record_of
-short-refused r n = within-refused r (reach_of r) (RefusedBy Length) Length (length-no erasure_bytes r n) refl
+short-refused r n = within-refused r (reach_of r) (Err Length) Length (length-no erasure_bytes r n) refl
 
 -- ---- a record restored in a copy
 
@@ -140,16 +137,15 @@ unfolding copy_written
 copy-refused r n e = ap (λ (o : Outcome). on_accept o (replicate record_size 0) (record_written r)) e
 
 -- the row is the record r, and restoring it made it `new`
-pub copied-yes : (r row : List ℕ) → row ≡ r → (x : Repair) (new : List ℕ) → RestoresRecord row x new → (k : ℕ) → x ≡ Restored k
-    → RestoresCopy r (record { answer = Restored k; bytes = new })
+pub copied-yes : (r row : List ℕ) → row ≡ r → (x : Result ℕ Question) (new : List ℕ) → RestoresRecord row x new → (k : ℕ) → x ≡ Ok k
+    → RestoresCopy r (Ok (record { changed = k; bytes = new }))
 copied-yes r row e x new R k p =
     let o : accepted k ≡ record_of r = ap repair (sym p) ∙ R.answer ∙ ap record_of e in
     record { answer = o; content = R.content ∙ ap record_written e ∙ copy-accepted r k o }
 
-pub row-refused : (r row : List ℕ) → row ≡ r → (x : Repair) (new : List ℕ) → RestoresRecord row x new → (q : Question) → x ≡ Refused q
+pub row-refused : (r row : List ℕ) → row ≡ r → (x : Result ℕ Question) (new : List ℕ) → RestoresRecord row x new → (q : Question) → x ≡ Err q
     → refused (refusal q) ≡ record_of r
 row-refused r row e x new R q p = ap repair (sym p) ∙ R.answer ∙ ap record_of e
 
-pub copied-no : (r : List ℕ) (q : Question) → refused (refusal q) ≡ record_of r → (x : RestoredCopy) → x ≡ no_copy q → RestoresCopy r x
-copied-no r q o x e =
-    record { answer = ap (λ (y : RestoredCopy). repair y.answer) e ∙ o; content = ap (λ (y : RestoredCopy). y.bytes) e ∙ copy-refused r (refusal q) o }
+pub copied-no : (r : List ℕ) (q : Question) → refused (refusal q) ≡ record_of r → RestoresCopy r (Err q)
+copied-no r q o = record { answer = o; content = copy-refused r (refusal q) o }

@@ -1,10 +1,10 @@
 -- The refusals that restoring a record can give: their numbers go up to 16, that of the reach. Assumes nothing.
+use Rattle.std.proofs.Common.{Ok}
+use Rattle.field.specs.Question.{Verdict}
 use Rattle.field.proofs.Base.{◌≡◌, subst, Bool, true, false, ◌&&◌, List, ℕ, ◌≤◌, arith, eqb, leb, length}
 use Rattle.field.specs.Question.{Outcome, refused, refusal, ask, after, is_width}
 use Rattle.field.specs.declared.Question.{Question}
 use Rattle.field.specs.declared.Question.TheVariants.{Width, Length, ErasureCount, Padding}
-use Rattle.field.specs.declared.Verdict.{Verdict}
-use Rattle.field.specs.declared.Verdict.TheVariants.{Passed}
 use Rattle.code.specs.Call.{within_of}
 use Rattle.code.proofs.Demands.{refusal-numbers}
 use Rattle.card.specs.Record.{erasure_bytes, record_size, width_of, count_of, erasures_of, word_of, all_are, allowed_in, asked_in}
@@ -28,7 +28,7 @@ low-record r reach =
     low-ask (eqb (length r) record_size) Length _ _ (omega arith)
     (low-ask (is_width (width_of r)) Width _ _ (omega arith)
     (low-ask (leb (count_of r) (allowed_in erasure_bytes r)) ErasureCount _ _ (omega arith)
-    (low-ask (all_are 255 (unused_of r) && all_are 0 (tail_of r)) Padding Passed _ (omega arith)
+    (low-ask (all_are 255 (unused_of r) && all_are 0 (tail_of r)) Padding (Ok tt) _ (omega arith)
     (low_word (width_of r) (word_of r) (erasures_of r) reach))))
 
 pub refusals-within : (r : List ℕ) (reach n : ℕ) → record_within_of r reach ≡ refused n → n ≤ 16

@@ -1,7 +1,7 @@
 -- Slots of a card, one after the other, and of two parts. k is the number of erasure bytes, n that of slots. Assumes nothing.
-use Rattle.field.proofs.Base.{◌≡◌, sym, ap, ◌∙◌, subst, false, List, ◌++◌, ℕ, ◌+◌, ◌-◌, ◌*◌, ◌/◌, ◌%◌, ◌≤◌, ◌<◌, ℕ_discrete, arith, eq-eqb, ne_eqb}
-use Rattle.field.proofs.Base.{eqb, length, take, drop, length-take, length-drop}
-use native.Mathlib.Nat.{suc-mul, add-mul, mul-le-mul_right, div-add-mod', mul-div_cancel}
+use Rattle.field.proofs.Base.{◌≡◌, sym, ap, ◌∙◌, subst, false, List, ◌++◌, ℕ, ◌+◌, ◌-◌, ◌*◌, ◌/◌, ◌≤◌, ◌<◌, arith, ne_eqb, eqb, length, take, drop}
+use Rattle.field.proofs.Base.{length-take, length-drop}
+use native.Mathlib.Nat.{suc-mul, add-mul, mul-le-mul_right, mul-div_cancel}
 use lib.Seq.{take-append-le, drop-append-le, drop-append-add}
 use Rattle.card.specs.Record.{size_of}
 use Rattle.card.specs.Slots.{slot_in}
@@ -14,16 +14,6 @@ slot-before s i n h = subst (λ (x : ℕ). x ≤ n * s) (suc-mul i s) (mul-le-mu
 
 -- m bytes make n slots exactly where the quotient is n and nothing is left
 module _ (m s n : ℕ) where
-  pub slots-left : m / s ≡ n → eqb (m % s) 0 ≡ eqb m (n * s)
-  slots-left q = go (ℕ_discrete (m % s) 0)
-    where
-      whole : n * s + m % s ≡ m
-      whole = ap (λ (x : ℕ). x * s + m % s) (sym q) ∙ div-add-mod' m s
-
-      go : Dec (m % s ≡ 0) → eqb (m % s) 0 ≡ eqb m (n * s)
-      go (yes e) = eq-eqb (m % s) 0 e ∙ sym (eq-eqb m (n * s) (omega (arith, whole)))
-      go (no e) = ne_eqb (m % s) 0 e ∙ sym (ne_eqb m (n * s) (λ x. e (omega (arith, whole))))
-
   pub slots-other : 0 < s → (m / s ≡ n → ⊥) → false ≡ eqb m (n * s)
   slots-other p q = sym (ne_eqb m (n * s) (λ e. q (ap (λ (x : ℕ). x / s) e ∙ mul-div_cancel n p)))
 
@@ -39,18 +29,12 @@ module _ (k : ℕ) (card : List ℕ) (n : ℕ) (fits : n * size_of k ≤ length 
   pub slot_whole : length (slot_in k card i) ≡ size_of k
   slot_whole = simp (length-take, length-drop) (omega (arith, fits, slot-before (size_of k) i n h))
 
-  pub slot-inside : (s : ℕ) → s ≡ size_of k → i * s + s ≤ length card
-  slot-inside s e = omega (arith, ap (λ (x : ℕ). i * x + x) e, fits, slot-before (size_of k) i n h)
-
 -- of n slots
 module _ (k : ℕ) (card : List ℕ) (n : ℕ) (size : length card ≡ n * size_of k) (i : ℕ) (h : i < n) where
   pub slot-size : length (slot_in k card i) ≡ size_of k
   slot-size = slot_whole k card n (omega arith) i h
 
   module _ (s : ℕ) (e : s ≡ size_of k) where
-    pub slot-room : i * s + s ≤ length card
-    slot-room = slot-inside k card n (omega arith) i h s e
-
     pub slot-part : take (i * s + s - i * s) (drop (i * s) card) ≡ slot_in k card i
     slot-part = slot-cut k card i s e
 

@@ -1,4 +1,6 @@
 -- There and back, over whole cards. Assumes nothing.
+use Rattle.std.proofs.Common.{Ok, Err}
+use Rattle.field.specs.Question.{Verdict}
 use Rattle.field.proofs.Base.{◌≡◌, refl, sym, ap, ap₂, ◌∙◌, subst, Bool, true, ◌&&◌, List, ◌++◌, ℕ, zero, suc, ◌*◌, ◌/◌, ◌%◌, ◌≤◌, ◌<◌, zero-mul}
 use Rattle.field.proofs.Base.{arith, eq-eqb, eqb, length, take, take_all}
 use native.Mathlib.Nat.{suc-mul, mul-div_cancel, mul-mod_left}
@@ -6,8 +8,6 @@ use lib.Seq.{take-add}
 use Rattle.field.specs.Question.{accepted, ask}
 use Rattle.field.specs.declared.Question.{Question}
 use Rattle.field.specs.declared.Question.TheVariants.{Width, Length, ErasureCount, Padding, FourErasures}
-use Rattle.field.specs.declared.Verdict.{Verdict}
-use Rattle.field.specs.declared.Verdict.TheVariants.{Passed, Refused}
 use Rattle.field.proofs.Ask.{ask-yes, ask-next}
 use Rattle.code.specs.Call.{written, done}
 use Rattle.card.specs.Record.{size_of, has_width, few_in, padded_in, erasure_bytes}
@@ -45,7 +45,7 @@ record Asked (k j : ℕ) (card : List ℕ) (m n : ℕ) : Type 0 where
   slots : (i : ℕ) → i < n → Slot k (slot_in k card i)
 
 module _ (k j : ℕ) (card : List ℕ) (m : ℕ) (next : Verdict) where
-  asked-tells : card_asked k j card m next ≡ Passed → Asked k j card m (slot_count k (length card))
+  asked-tells : card_asked k j card m next ≡ (Ok tt) → Asked k j card m (slot_count k (length card))
   asked-tells p =
       let p1 = ask-next (lengths_fit k j (length card) m) Length _ p in
       let p2 = ask-next (every_record k has_width card) Width _ p1 in
@@ -61,7 +61,7 @@ module _ (k j : ℕ) (card : List ℕ) (m : ℕ) (next : Verdict) where
         };
       }
 
-  next-tells : card_asked k j card m next ≡ Passed → next ≡ Passed
+  next-tells : card_asked k j card m next ≡ (Ok tt) → next ≡ (Ok tt)
   next-tells p =
       let p1 = ask-next (lengths_fit k j (length card) m) Length _ p in
       let p2 = ask-next (every_record k has_width card) Width _ p1 in
@@ -107,10 +107,10 @@ module _ (old new : List ℕ) (n : ℕ) (C : Cards old new n) where
   old-slot i h = slot-size old_erasure_bytes old n C.old-size i h
 
   -- each is accepted, and converted into the other
-  new-passes : (m : ℕ) → m ≡ n * size_of erasure_bytes → to_new_asked old m ≡ Passed
+  new-passes : (m : ℕ) → m ≡ n * size_of erasure_bytes → to_new_asked old m ≡ (Ok tt)
   unfolding to_new_asked
   new-passes m size =
-      asked-passes old_erasure_bytes erasure_bytes old m n (record { card-size = C.old-size; out-size = size; slots = C.slots }) Passed
+      asked-passes old_erasure_bytes erasure_bytes old m n (record { card-size = C.old-size; out-size = size; slots = C.slots }) (Ok tt)
 
   new_is : converted_card old_erasure_bytes erasure_bytes old ≡ new
   new_is =
@@ -122,13 +122,13 @@ module _ (old new : List ℕ) (n : ℕ) (C : Cards old new n) where
       × (blank_or erasure_bytes at_most_four (to_new (slot_in old_erasure_bytes old i)) ≡ true)
   taken i h = slot-new (slot_in old_erasure_bytes old i) (old-slot i h) (C.slots i h)
 
-  old-passes : (m : ℕ) → m ≡ n * size_of old_erasure_bytes → to_old_asked new m ≡ Passed
+  old-passes : (m : ℕ) → m ≡ n * size_of old_erasure_bytes → to_old_asked new m ≡ (Ok tt)
   unfolding to_old_asked
   old-passes m size =
       asked-passes erasure_bytes old_erasure_bytes new m n
       (record { card-size = C.new-size; out-size = size; slots = λ i h. subst (Slot erasure_bytes) (sym (C.twin i h)) (taken i h).0 })
       (four_asked erasure_bytes new)
-      ∙ pass (every_record erasure_bytes at_most_four new) FourErasures Passed
+      ∙ pass (every_record erasure_bytes at_most_four new) FourErasures (Ok tt)
       (every-slot erasure_bytes at_most_four new n C.new-size (λ i h. ap (blank_or erasure_bytes at_most_four) (C.twin i h) ∙ (taken i h).1))
 
   old-is : converted_card erasure_bytes old_erasure_bytes new ≡ old
@@ -144,13 +144,13 @@ module _ (old new : List ℕ) (n : ℕ) (C : Cards old new n) where
       (same-slot (slot_in old_erasure_bytes old i) (old-slot i l) (C.slots i l))
 
 -- an old card that is accepted, and its conversion
-new-cards : (card : List ℕ) (m : ℕ) → to_new_asked card m ≡ Passed
+new-cards : (card : List ℕ) (m : ℕ) → to_new_asked card m ≡ (Ok tt)
     → Cards card (converted_card old_erasure_bytes erasure_bytes card) (slot_count old_erasure_bytes (length card))
 unfolding to_new_asked
 new-cards card m p =
     let k = old_erasure_bytes in
     let n = slot_count k (length card) in
-    let A = asked-tells k erasure_bytes card m Passed p in
+    let A = asked-tells k erasure_bytes card m (Ok tt) p in
     let sized = converted-size k erasure_bytes refl (omega arith) (omega arith) in
     record {
       old-size = A.card-size;
@@ -160,11 +160,11 @@ new-cards card m p =
     }
 
 -- a new card that is accepted, and its conversion
-module _ (card : List ℕ) (m : ℕ) (p : to_old_asked card m ≡ Passed) where
+module _ (card : List ℕ) (m : ℕ) (p : to_old_asked card m ≡ (Ok tt)) where
   n : ℕ
   n = slot_count erasure_bytes (length card)
 
-  asked : card_asked erasure_bytes old_erasure_bytes card m (four_asked erasure_bytes card) ≡ Passed
+  asked : card_asked erasure_bytes old_erasure_bytes card m (four_asked erasure_bytes card) ≡ (Ok tt)
   unfolding to_old_asked
   asked = p
 
@@ -182,7 +182,7 @@ module _ (card : List ℕ) (m : ℕ) (p : to_old_asked card m ≡ Passed) where
   unfolding n
   four =
       every-at erasure_bytes at_most_four card n
-      (ask-yes (every_record erasure_bytes at_most_four card) FourErasures Passed
+      (ask-yes (every_record erasure_bytes at_most_four card) FourErasures (Ok tt)
       (next-tells erasure_bytes old_erasure_bytes card m (four_asked erasure_bytes card) asked))
 
   slot : (i : ℕ) → i < n
@@ -206,9 +206,9 @@ module _ (card : List ℕ) (m : ℕ) (p : to_old_asked card m ≡ Passed) where
 
 -- ---- the demands
 
-accepted-passed : (v : Verdict) → done v ≡ accepted 0 → v ≡ Passed
-accepted-passed Passed e = refl
-accepted-passed (Refused q) e = cc
+accepted-passed : (v : Verdict) → done v ≡ accepted 0 → v ≡ (Ok tt)
+accepted-passed (Ok tt) e = refl
+accepted-passed (Err q) e = cc
 
 pub there_and_back : ThereAndBack
 there_and_back card out back h l =

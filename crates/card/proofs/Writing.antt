@@ -1,69 +1,11 @@
--- Writing text into a buffer: one text behind another is both in one, and a number's digits one by one. Assumes nothing.
-use Rattle.field.proofs.Base.{lt-ltb, le-ltb, ◌≡◌, refl, sym, ap, ap₂, ◌∙◌, Bool, cond, true, false, List, [], ◌∷◌, ◌++◌, append_assoc, ℕ, zero, suc}
-use Rattle.field.proofs.Base.{◌+◌, ◌/◌, ◌%◌, ◌^◌, ◌≤◌, zero-le, ◌<◌, add-zero, add-one, arith, ltb, length, get_or, set, take, drop, take-append-drop}
-use Rattle.field.proofs.Base.{length-append, length-take, length-drop, take_all, take_at, drop-drop}
+-- Texts that grow: one behind another is both in one, and a number's digits one by one. Assumes nothing.
+use Rattle.field.proofs.Base.{rules, lt-ltb, le-ltb, ◌≡◌, sym, ap, subst, ◌∙◌, Bool, cond, true, false, List, [], ◌∷◌, ◌++◌, append_assoc, append-nil}
+use Rattle.field.proofs.Base.{ℕ, zero, suc, ◌+◌, ◌/◌, ◌%◌, ◌^◌, ◌≤◌, zero-le, ◌<◌, arith, ltb, length, take, drop, ◌-◌, length-append, length-take}
+use Rattle.field.proofs.Base.{length-drop, take_at, drop_at, drop-drop}
 use Prim.Native.Nat.{suc-le-suc}
 use native.Mathlib.Nat.{pow-suc, div-lt_iff_lt-mul}
-use lib.Seq.{take-suc, drop-append-add, set_split}
 use Rattle.card.specs.Listing.{digits_from, decimal}
-use Rattle.card.specs.Placed.{placed, Writes}
-
--- ---- text in a buffer
-
-pub length-placed : (out : List ℕ) (at : ℕ) (xs : List ℕ) → at + length xs ≤ length out → length (placed out at xs) ≡ length out
-unfolding placed
-length-placed out at xs h = simp (length-append, length-take, length-drop) (omega arith)
-
--- the text xs, and the text ys behind it
-pub placed-placed : (out : List ℕ) (at : ℕ) (xs ys : List ℕ) → at ≤ length out
-    → placed (placed out at xs) (at + length xs) ys ≡ placed out at (xs ++ ys)
-unfolding placed
-placed-placed out at xs ys h =
-    let head = take at out ++ xs in
-    let rest = drop (at + length xs) out in
-    let long : length head ≡ at + length xs = simp (length-append, length-take) (omega arith) in
-    let both : at + length xs + length ys ≡ at + length (xs ++ ys) = omega (arith, length-append xs ys) in
-    ap (λ (l : List ℕ). take (at + length xs) l ++ (ys ++ drop (at + length xs + length ys) l)) (sym (append_assoc (take at out) xs rest))
-    ∙ ap₂ (λ (l r : List ℕ). l ++ (ys ++ r))
-    (take_at head rest (at + length xs) long)
-    (ap (λ (n : ℕ). drop (n + length ys) (head ++ rest)) (sym long)
-    ∙ drop-append-add head rest (length ys)
-    ∙ drop-drop (length ys) (at + length xs) out
-    ∙ ap (λ (n : ℕ). drop n out) both)
-    ∙ simp append_assoc
-
-pub writes_byte : (out : List ℕ) (at b : ℕ) → at < length out → Writes out at (b ∷ []) (set out at b) (at + 1)
-unfolding placed
-writes_byte out at b h =
-    record { content = set_split out at b h ∙ rw (add-one at); behind = refl; room = omega arith }
-
-pub writes-none : (out : List ℕ) (at : ℕ) → at ≤ length out → Writes out at [] out at
-unfolding placed
-writes-none out at h = record { content = sym (rw (add-zero at) (take-append-drop at out)); behind = omega arith; room = h }
-
-pub writes-length : {a b xs : List ℕ} {i j : ℕ} → Writes a i xs b j → length b ≡ length a
-writes-length {a} {b} {xs} {i} w = ap length w.content ∙ length-placed a i xs (omega arith)
-
-pub writes-fits : {a b xs : List ℕ} {i j : ℕ} → Writes a i xs b j → j ≤ length b
-writes-fits w = omega (arith, writes-length w, w.room)
-
--- one text behind another is both in one
-pub writes-on : {a b c xs ys : List ℕ} {i j k : ℕ} → Writes a i xs b j → Writes b j ys c k → Writes a i (xs ++ ys) c k
-writes-on {a} {b} {c} {xs} {ys} {i} {j} {k} w v =
-    let long = writes-length w in
-    record {
-      content = v.content ∙ ap₂ (λ (l : List ℕ) (n : ℕ). placed l n ys) w.content w.behind ∙ placed-placed a i xs ys (omega arith);
-      behind = omega (arith, length-append xs ys);
-      room = omega arith;
-    }
-
--- a loop that writes the list xs byte by byte
-module _ {a b : List ℕ} (xs : List ℕ) {i j : ℕ} (n : ℕ) (w : Writes a i (take n xs) b j) where
-  pub writes_more : {c : List ℕ} {k : ℕ} → n < length xs → Writes b j (get_or xs n 0 ∷ []) c k → Writes a i (take (n + 1) xs) c k
-  writes_more h v = rw (add-one n, take-suc xs n 0) (writes-on w v)
-
-  pub writes-all : length xs ≤ n → Writes a i xs b j
-  writes-all h = rw (take_all n xs h) at w
+use Rattle.card.specs.Text.{Written, Appends, Covers}
 
 -- ---- the digits of a number
 
@@ -94,11 +36,8 @@ decimal-one = digits-one 19
 pub decimal-more : (n : ℕ) → 10 ≤ n → n < 2 ^ 64 → decimal n ≡ decimal (n / 10) ++ last_digit n
 decimal-more n large h = digits_more 19 n large ∙ ap (λ (l : List ℕ). l ++ last_digit n) (sym (digits_same 18 (n / 10) (omega arith)))
 
-pub length-one : (n : ℕ) → n < 10 → length (decimal n) ≡ 1
-length-one n h = ap length (decimal-one n h)
-
-pub length_more : (n : ℕ) → 10 ≤ n → n < 2 ^ 64 → length (decimal n) ≡ length (decimal (n / 10)) + 1
-length_more n large h = ap length (decimal-more n large h) ∙ length-append (decimal (n / 10)) (last_digit n)
+pub length_one : (n : ℕ) → n < 10 → length (decimal n) ≡ 1
+length_one n h = ap length (decimal-one n h)
 
 length_digits : (k n : ℕ) → length (digits_from k n) ≤ k
 unfolding digits_from
@@ -111,3 +50,73 @@ length_digits (suc k) n = either (ltb n 10) (48 + n) (48 + n % 10) (digits_from 
 
 pub length-decimal : (n : ℕ) → length (decimal n) ≤ 20
 length-decimal = length_digits 20
+
+-- ---- text behind text
+
+-- what stands behind both of two texts
+pub rest_both : (a b : ℕ) (r : List ℕ) → drop (a + b) r ≡ drop b (drop a r)
+rest_both a b r = sym (drop-drop b a r)
+
+-- what the functions that write text need of it
+pub ruleset appending = (length-decimal, length-append, append_assoc, append-nil, rest_both)
+
+-- and of the digits of a number
+pub ruleset digits = (appending, decimal-one, decimal-more)
+
+-- one text behind another is both in one
+pub appends-on : {a b c : Written} {xs ys : List ℕ} → Appends a xs b → Appends b ys c → Appends a (xs ++ ys) c
+appends-on w v = search (rules, appending)
+
+-- no text
+pub appends-none : (a : Written) → Appends a [] a
+appends-none a = search (rules, appending)
+
+-- the same text, said in another way
+pub appends-as : {a b : Written} {xs ys : List ℕ} → xs ≡ ys → Appends a xs b → Appends a ys b
+appends-as {a} {b} {xs} {ys} e w = subst (λ (zs : List ℕ). Appends a zs b) e w
+
+-- the bytes xs put into the memory bs behind its first n
+module _ (bs xs l : List ℕ) (n : ℕ) (h : n + length xs ≤ length bs) (e : l ≡ take n bs ++ (xs ++ drop (n + length xs) bs)) where
+  head-long : length (take n bs ++ xs) ≡ n + length xs
+  head-long = simp (length-append, length-take) (omega arith)
+
+  put-split : l ≡ (take n bs ++ xs) ++ drop (n + length xs) bs
+  put-split = e ∙ sym (append_assoc (take n bs) xs (drop (n + length xs) bs))
+
+  put-front : take (n + length xs) l ≡ take n bs ++ xs
+  put-front = ap (take (n + length xs)) put-split ∙ take_at (take n bs ++ xs) (drop (n + length xs) bs) (n + length xs) head-long
+
+  put-rest : drop (n + length xs) l ≡ drop (length xs) (drop n bs)
+  put-rest =
+      ap (drop (n + length xs)) put-split
+      ∙ drop_at (take n bs ++ xs) (drop (n + length xs) bs) (n + length xs) head-long
+      ∙ rest_both n (length xs) bs
+
+  put-long : length l ≡ length bs
+  put-long = ap length put-split ∙ length-append (take n bs ++ xs) (drop (n + length xs) bs) ∙ simp length-drop (omega (arith, head-long))
+
+  pub appends-put : (v : Written) → record { bytes = take n bs; room = length bs - n; rest = drop n bs } ≡ v → (m : ℕ) → m ≡ n + length xs
+      → Appends v xs (record { bytes = take m l; room = length l - m; rest = drop m l })
+  appends-put v f m g = record {
+    bytes = ap (λ (k : ℕ). take k l) g ∙ put-front ∙ ap (λ (w : Written). w.bytes ++ xs) f;
+    room = sym (ap (λ (w : Written). w.room) f) ∙ omega (arith, put-long, g, h);
+    rest = ap (λ (k : ℕ). drop k l) g ∙ put-rest ∙ ap (λ (w : Written). drop (length xs) w.rest) f;
+  }
+
+-- the byte b put over the one behind the first n
+pub covers-put : (bs l : List ℕ) (b n : ℕ) → n + 1 ≤ length bs → l ≡ take n bs ++ (b ∷ drop (n + 1) bs)
+    → (v : Written) → record { bytes = take n bs; room = length bs - n; rest = drop n bs } ≡ v → (m : ℕ) → m ≡ n
+    → Covers v (record { bytes = take m l; room = length l - m; rest = drop m l })
+covers-put bs l b n h e v f m g = record {
+  bytes =
+      ap (λ (k : ℕ). take k l) g
+      ∙ ap (take n) e
+      ∙ take_at (take n bs) (b ∷ drop (n + 1) bs) n (simp length-take (omega arith))
+      ∙ ap (λ (w : Written). w.bytes) f;
+  room = omega (arith, put-long bs (b ∷ []) l n h e, g) ∙ ap (λ (w : Written). w.room) f;
+  rest =
+      ap (λ (k : ℕ). drop 1 (drop k l)) g
+      ∙ sym (rest_both n 1 l)
+      ∙ put-rest bs (b ∷ []) l n h e
+      ∙ ap (λ (w : Written). drop 1 w.rest) f;
+}

@@ -1,11 +1,10 @@
 -- A card by the numbers of its records, and the card check. Assumes nothing.
+use Rattle.std.specs.Prelude.{None, Option, Some}
 use Rattle.std.specs.Prelude.{◌≡◌, Bool, true, false, cond, ◌&&◌, ◌||◌, List, ℕ, ◌+◌, ◌-◌, ◌≤◌, ◌<◌, leb, length}
 use Rattle.std.specs.Borrow.{Bor}
 use Rattle.field.specs.Question.{Outcome, accepted, refused}
 use Rattle.card.specs.Record.{record_of}
 use Rattle.card.specs.Slots.{record_count, record_at, is_blank, over_slots}
-use Rattle.card.specs.declared.CardCheck.{CardCheck}
-use Rattle.card.specs.declared.CardCheck.TheVariants.{AllAccepted, Refused}
 
 -- the part r lies in the lent card itself, from its byte a on: in the card's own memory, not in a copy of it
 pub record LiesAt (card : Bor (List ℕ)) (a : ℕ) (r : Bor (List ℕ)) : Type 0 where
@@ -39,9 +38,9 @@ pub data Check : Type 0 where
   bad : ℕ → Check
 
 -- by the cases of the program's answer
-abbrev pub check_of : CardCheck → Check
-check_of AllAccepted = no_bad
-check_of (Refused k) = bad k
+abbrev pub check_of : (Option ℕ) → Check
+check_of None = no_bad
+check_of (Some k) = bad k
 
 -- the search for the first slot that is not fine: so many are passed, or it is named, by its number, counted from 1, and with its bytes
 pub data Search : Type 0 where

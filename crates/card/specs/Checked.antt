@@ -3,10 +3,9 @@ use Rattle.std.specs.Prelude.{◌≡◌, Bool, true, false, List, [], ◌++◌, 
 use Rattle.field.specs.Question.{Outcome, accepted, refused}
 use Rattle.card.specs.Record.{record_size, record_of}
 use Rattle.card.specs.Card.{Check, no_bad, bad, Search, passed, named, searched, first_refused}
-use Rattle.card.specs.Placed.{Writes}
+use Rattle.card.specs.Text.{Written, Appends}
 use Rattle.card.specs.Listing.{bytes_of}
 use Rattle.card.specs.Words.{refusal_line}
-use Rattle.card.specs.declared.checked.Found.{Found}
 
 -- the line of a record that would be refused
 abbrev pub outcome_line : ℕ → Outcome → List ℕ
@@ -37,9 +36,9 @@ names (passed n) = false
 names (named n r) = true
 
 -- what a search has come to: whether it has named a record, whose line is then written
-pub record Finds (u : Search) (old : List ℕ) (r : Found) (new : List ℕ) : Type 0 where
-  pub any : r.any ≡ names u
-  pub text : Writes old 0 (found_line u) new r.used
+pub record Finds (u : Search) (old : Written) (any : Bool) (new : Written) : Type 0 where
+  pub named : any ≡ names u
+  pub text : Appends old (found_line u) new
 
 -- ---- a card in parts; proofs/Finding.antt proves it
 

@@ -1,10 +1,10 @@
 -- Old cards into new, new into old: document 02's request (f). k and j are the erasure bytes of a record in the card and in the output.
 -- Assumes nothing.
+use Rattle.std.specs.Prelude.{Ok}
+use Rattle.field.specs.Question.{Verdict}
 use Rattle.std.specs.Prelude.{◌≡◌, Bool, true, false, ◌&&◌, ◌||◌, List, [], ◌++◌, ℕ, ◌-◌, ◌*◌, ◌%◌, ◌<◌, min, eqb, leb, length, take, drop, replicate}
 use Rattle.field.specs.Question.{Outcome, accepted, ask, after}
 use Rattle.field.specs.declared.Question.TheVariants.{Width, Length, ErasureCount, Padding, FourErasures}
-use Rattle.field.specs.declared.Verdict.{Verdict}
-use Rattle.field.specs.declared.Verdict.TheVariants.{Passed}
 use Rattle.code.specs.Call.{written, done, restore_of}
 use Rattle.card.specs.Record.{header_of, size_of, width_of, count_of, erasures_of, word_in, has_width, few_in, padded_in, asked_in}
 use Rattle.card.specs.Record.{erasure_bytes, record_of}
@@ -57,7 +57,7 @@ card_asked k j card m next =
 
 -- question 15
 abbrev pub four_asked : ℕ → List ℕ → Verdict
-four_asked k card = ask (every_record k at_most_four card) FourErasures Passed
+four_asked k card = ask (every_record k at_most_four card) FourErasures (Ok tt)
 
 -- a call's promise, where the questions gave a verdict: what it answers and leaves in the output
 pub record Converts (k j : ℕ) (asked : Verdict) (card old : List ℕ) (v : Verdict) (new : List ℕ) : Type 0 where
@@ -68,7 +68,7 @@ pub record Converts (k j : ℕ) (asked : Verdict) (card old : List ℕ) (v : Ver
 
 -- the questions, put to a card and an output of m bytes
 unfoldable pub to_new_asked : List ℕ → ℕ → Verdict
-to_new_asked card m = card_asked old_erasure_bytes erasure_bytes card m Passed
+to_new_asked card m = card_asked old_erasure_bytes erasure_bytes card m (Ok tt)
 
 -- what the call answers
 abbrev pub to_new_of : List ℕ → List ℕ → Outcome

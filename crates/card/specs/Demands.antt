@@ -1,16 +1,15 @@
 -- Demand 3 at a record, and what is asked of card check, blank slots and listing, as statements; proofs/Demands.antt proves each under its
 -- name in small letters. Where a statement has a `Repair` or a `CardCheck`, it is about every call with that contract. Assumes nothing.
+use Rattle.std.specs.Prelude.{None, Option, Some}
+use Rattle.std.specs.Prelude.{Ok, Result}
+use Rattle.field.specs.declared.Question.{Question}
 use Rattle.std.specs.Prelude.{◌≡◌, ◌↔◌, ◌≢◌, ◌⊎◌, true, false, cond, List, [], ◌++◌, ℕ, ◌+◌, ◌*◌, ◌%◌, ◌≤◌, ◌<◌, min, length}
 use Rattle.field.specs.Question.{accepted, refused}
-use Rattle.field.specs.declared.Verdict.TheVariants.{Passed}
 use Rattle.code.specs.Word.{places}
 use Rattle.code.specs.Near.{Near}
 use Rattle.code.specs.Call.{repair}
 use Rattle.code.specs.Demands.{Passes, PassesWithin, Nearest, TwoNear, SameErasures, AgreeOutside}
-use Rattle.code.specs.declared.Repair.{Repair}
 use Rattle.card.specs.declared.Progress.{Progress}
-use Rattle.card.specs.declared.CardCheck.{CardCheck}
-use Rattle.card.specs.declared.CardCheck.TheVariants.{AllAccepted, Refused}
 use Rattle.card.specs.Record.{record_size, width_of, word_of, erasures_of, record_asked, clear_record, reach_of, most_changes}
 use Rattle.card.specs.Record.{RestoresRecordWithin, RestoresRecord}
 use Rattle.card.specs.Slots.{record_count, record_at, is_blank, over_slots}
@@ -21,12 +20,12 @@ use Rattle.card.specs.Listing.{part_lines, part_progress, total_line, more_line,
 
 -- the record passes its own questions, length, 1, 3 and 4, and its word with its erasures those before question 8
 pub record RecordPasses (r : List ℕ) : Type 0 where
-  pub own : record_asked r ≡ Passed
+  pub own : record_asked r ≡ (Ok tt)
   pub word : Passes (width_of r) (word_of r) (erasures_of r)
 
 -- and with a reach
 pub record RecordPassesWithin (r : List ℕ) (reach : ℕ) : Type 0 where
-  pub own : record_asked r ≡ Passed
+  pub own : record_asked r ≡ (Ok tt)
   pub word : PassesWithin (width_of r) (word_of r) (erasures_of r) reach
 
 -- the record r holds the word c of the width m, and no erasures: byte 1 is 0, and the erasure bytes are 255
@@ -36,7 +35,7 @@ pub record HoldsWord (m : ℕ) (c r : List ℕ) : Type 0 where
 
 -- Of a call that was lent the record r, answered a and left u in its place: what demand 3 says of it at a reach. `passes` says that the
 -- record passes the questions before question 8
-pub record RecordDecoded (passes : Type 0) (r : List ℕ) (reach : ℕ) (a : Repair) (u : List ℕ) : Type 0 where
+pub record RecordDecoded (passes : Type 0) (r : List ℕ) (reach : ℕ) (a : Result ℕ Question) (u : List ℕ) : Type 0 where
   pub restored : (k : ℕ) (c : List ℕ)
       → ((repair a ≡ accepted k) × HoldsWord (width_of r) c u) ↔ (passes × Nearest (width_of r) (word_of r) (erasures_of r) reach c k)
   pub none-near : (repair a ≡ refused 7) ↔ (passes × ((c : List ℕ) → Near (width_of r) (erasures_of r) (word_of r) reach c → ⊥))
@@ -46,54 +45,54 @@ pub record RecordDecoded (passes : Type 0) (r : List ℕ) (reach : ℕ) (a : Rep
 -- every call that keeps the contract of the calls with a reach does so
 abbrev pub RecordReachDecodes : Type 0
 RecordReachDecodes =
-    (r : List ℕ) (reach : ℕ) (a : Repair) (u : List ℕ) → RestoresRecordWithin r reach a u
+    (r : List ℕ) (reach : ℕ) (a : Result ℕ Question) (u : List ℕ) → RestoresRecordWithin r reach a u
     → RecordDecoded (RecordPassesWithin r reach) r reach a u
 
 -- and every one of the calls without a reach
 abbrev pub RecordDecodes : Type 0
-RecordDecodes = (r : List ℕ) (a : Repair) (u : List ℕ) → RestoresRecord r a u → RecordDecoded (RecordPasses r) r (reach_of r) a u
+RecordDecodes = (r : List ℕ) (a : Result ℕ Question) (u : List ℕ) → RestoresRecord r a u → RecordDecoded (RecordPasses r) r (reach_of r) a u
 
 -- a sentence each: k places are restored and the record ends with the word c, without erasures, exactly when it passes and c is the one
 -- near codeword, with k its count
 abbrev pub RecordAccepts : Type 0
 RecordAccepts =
-    (r : List ℕ) (a : Repair) (u : List ℕ) → RestoresRecord r a u → (k : ℕ) (c : List ℕ)
+    (r : List ℕ) (a : Result ℕ Question) (u : List ℕ) → RestoresRecord r a u → (k : ℕ) (c : List ℕ)
     → ((repair a ≡ accepted k) × HoldsWord (width_of r) c u) ↔ (RecordPasses r × Nearest (width_of r) (word_of r) (erasures_of r) (reach_of r) c k)
 
 -- refused with 7 exactly when it passes and no codeword is near
 abbrev pub RecordRefusesSeven : Type 0
 RecordRefusesSeven =
-    (r : List ℕ) (a : Repair) (u : List ℕ) → RestoresRecord r a u
+    (r : List ℕ) (a : Result ℕ Question) (u : List ℕ) → RestoresRecord r a u
     → (repair a ≡ refused 7) ↔ (RecordPasses r × ((c : List ℕ) → Near (width_of r) (erasures_of r) (word_of r) (reach_of r) c → ⊥))
 
 -- a refused record is as it was, every byte
 abbrev pub RecordUnchanged : Type 0
-RecordUnchanged = (r : List ℕ) (a : Repair) (u : List ℕ) → RestoresRecord r a u → (n : ℕ) → repair a ≡ refused n → u ≡ r
+RecordUnchanged = (r : List ℕ) (a : Result ℕ Question) (u : List ℕ) → RestoresRecord r a u → (n : ℕ) → repair a ≡ refused n → u ≡ r
 
 -- records of one width that pass their own questions and whose words agree outside the same erasures get the same answers and, if they
 -- are accepted, end equal, every byte
 abbrev pub SameRecord : Type 0
 SameRecord =
-    (r r' : List ℕ) (a a' : Repair) (u u' : List ℕ) → RestoresRecord r a u → RestoresRecord r' a' u'
-    → record_asked r ≡ Passed → record_asked r' ≡ Passed → width_of r ≡ width_of r'
+    (r r' : List ℕ) (a a' : Result ℕ Question) (u u' : List ℕ) → RestoresRecord r a u → RestoresRecord r' a' u'
+    → record_asked r ≡ (Ok tt) → record_asked r' ≡ (Ok tt) → width_of r ≡ width_of r'
     → SameErasures (erasures_of r) (erasures_of r') → AgreeOutside (erasures_of r) (word_of r) (word_of r')
     → (a ≡ a') × ((k : ℕ) → repair a ≡ accepted k → u ≡ u')
 
 -- what is not 139 bytes is refused with 2, whatever the bytes are, and stays
 abbrev pub PieceRefused : Type 0
 PieceRefused =
-    (r : List ℕ) (a : Repair) (u : List ℕ) → RestoresRecord r a u → length r ≢ record_size → (repair a ≡ refused 2) × (u ≡ r)
+    (r : List ℕ) (a : Result ℕ Question) (u : List ℕ) → RestoresRecord r a u → length r ≢ record_size → (repair a ≡ refused 2) × (u ≡ r)
 
 -- a record that is accepted has at most two places changed
 abbrev pub FewPlaces : Type 0
-FewPlaces = (r : List ℕ) (a : Repair) (u : List ℕ) → RestoresRecord r a u → (k : ℕ) → repair a ≡ accepted k → k ≤ most_changes
+FewPlaces = (r : List ℕ) (a : Result ℕ Question) (u : List ℕ) → RestoresRecord r a u → (k : ℕ) → repair a ≡ accepted k → k ≤ most_changes
 
 -- ---- blank slots
 
 -- a blank slot taken as a record is refused with 1, and stays
 abbrev pub BlankRefused : Type 0
 BlankRefused =
-    (r : List ℕ) (a : Repair) (u : List ℕ) → RestoresRecord r a u → is_blank r ≡ true → (repair a ≡ refused 1) × (u ≡ r)
+    (r : List ℕ) (a : Result ℕ Question) (u : List ℕ) → RestoresRecord r a u → is_blank r ≡ true → (repair a ≡ refused 1) × (u ≡ r)
 
 -- a shorter last piece is never blank, whatever its bytes are
 abbrev pub ShortNotBlank : Type 0
@@ -103,15 +102,15 @@ ShortNotBlank = (slot : List ℕ) → length slot < record_size → is_blank slo
 
 -- the number k is given exactly when record k is the lowest that would be refused: every record before it would be accepted or is blank
 abbrev pub LowestRefused : Type 0
-LowestRefused = (card : List ℕ) (x : CardCheck) → check_of x ≡ first_refused card → (k : ℕ) → (x ≡ Refused k) ↔ FirstBad card k
+LowestRefused = (card : List ℕ) (x : Option ℕ) → check_of x ≡ first_refused card → (k : ℕ) → (x ≡ Some k) ↔ FirstBad card k
 
 -- the card passes exactly when no record would be refused
 abbrev pub NoneRefused : Type 0
-NoneRefused = (card : List ℕ) (x : CardCheck) → check_of x ≡ first_refused card → (x ≡ AllAccepted) ↔ NoneBad card
+NoneRefused = (card : List ℕ) (x : Option ℕ) → check_of x ≡ first_refused card → (x ≡ None) ↔ NoneBad card
 
 -- document 01's card check, which leaves the choice of the number open, is kept too
 abbrev pub CheckKept : Type 0
-CheckKept = (card : List ℕ) (x : CardCheck) → check_of x ≡ first_refused card → Checks card (check_of x)
+CheckKept = (card : List ℕ) (x : Option ℕ) → check_of x ≡ first_refused card → Checks card (check_of x)
 
 -- a slot to pass over: it is blank, or its record passes and one codeword alone is near
 pub record OneNear (r : List ℕ) : Type 0 where
@@ -123,16 +122,16 @@ pub record OneNear (r : List ℕ) : Type 0 where
 -- demand 3 at each record of a card: it passes exactly when every slot is blank or has a record that passes with one near codeword
 abbrev pub CardDecodes : Type 0
 CardDecodes =
-    (card : List ℕ) (x : CardCheck) → check_of x ≡ first_refused card
-    → (x ≡ AllAccepted) ↔ ((i : ℕ) → i < record_count (length card) → (is_blank (record_at card i) ≡ true) ⊎ OneNear (record_at card i))
+    (card : List ℕ) (x : Option ℕ) → check_of x ≡ first_refused card
+    → (x ≡ None) ↔ ((i : ℕ) → i < record_count (length card) → (is_blank (record_at card i) ≡ true) ⊎ OneNear (record_at card i))
 
 -- an empty card passes
 abbrev pub EmptyPasses : Type 0
-EmptyPasses = (x : CardCheck) → check_of x ≡ first_refused [] → x ≡ AllAccepted
+EmptyPasses = (x : Option ℕ) → check_of x ≡ first_refused [] → x ≡ None
 
 -- a card with a shorter last piece does not, even where the bytes of that piece are all 255
 abbrev pub PieceFails : Type 0
-PieceFails = (card : List ℕ) (x : CardCheck) → check_of x ≡ first_refused card → length card % record_size ≢ 0 → x ≢ AllAccepted
+PieceFails = (card : List ℕ) (x : Option ℕ) → check_of x ≡ first_refused card → length card % record_size ≢ 0 → x ≢ None
 
 -- ---- the listing
 

@@ -1,10 +1,10 @@
 -- The questions of a conversion, put to a card that comes in parts. Each part is whole slots; behind the last there may be a piece of a slot.
 -- k and j are the erasure bytes of a record in the card and in the output. Assumes nothing.
+use Rattle.std.specs.Prelude.{Ok}
+use Rattle.field.specs.Question.{Verdict}
 use Rattle.std.specs.Prelude.{◌≡◌, Bool, true, false, cond, List, ◌++◌, ℕ, ◌+◌, ◌-◌, ◌*◌, ◌%◌, ◌≤◌, ◌<◌, eqb, ltb, length, get_or}
 use Rattle.field.specs.Question.{ask}
 use Rattle.field.specs.declared.Question.TheVariants.{Length}
-use Rattle.field.specs.declared.Verdict.{Verdict}
-use Rattle.field.specs.declared.Verdict.TheVariants.{Passed}
 use Rattle.card.specs.declared.parts.Findings.{Findings}
 use Rattle.card.specs.Record.{size_of, erasure_bytes}
 use Rattle.card.specs.Slots.{slot_in, slot_count, over_whole}
@@ -67,13 +67,13 @@ NumberIs =
 
 -- where the whole card passes, so does each part, and their conversions, one behind the other, are that of the card
 pub record PartsPass (k j : ℕ) (asked : List ℕ → ℕ → Verdict) (a b : List ℕ) : Type 0 where
-  pub front : asked a (slot_count k (length a) * size_of j) ≡ Passed
-  pub behind : asked b (slot_count k (length b) * size_of j) ≡ Passed
+  pub front : asked a (slot_count k (length a) * size_of j) ≡ (Ok tt)
+  pub behind : asked b (slot_count k (length b) * size_of j) ≡ (Ok tt)
   pub both : converted_card k j (a ++ b) ≡ converted_card k j a ++ converted_card k j b
 
 abbrev pub ConvertsInParts : ℕ → ℕ → (List ℕ → ℕ → Verdict) → Type 0
 ConvertsInParts k j asked =
-    (a b : List ℕ) (m : ℕ) → length a % size_of k ≡ 0 → asked (a ++ b) m ≡ Passed → PartsPass k j asked a b
+    (a b : List ℕ) (m : ℕ) → length a % size_of k ≡ 0 → asked (a ++ b) m ≡ (Ok tt) → PartsPass k j asked a b
 
 -- old to new, and new to old
 abbrev pub ToNewInParts : Type 0

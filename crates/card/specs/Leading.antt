@@ -1,9 +1,9 @@
 -- How many of the questions that are put to records are passed, one after the other, before the first that is not: the words in which the
 -- functions that put them speak. Assumes nothing.
+use Rattle.std.specs.Prelude.{Ok, Err}
+use Rattle.field.specs.Question.{Verdict}
 use Rattle.std.specs.Prelude.{Bool, true, false, List, [], ◌∷◌, ℕ, zero, suc}
 use Rattle.field.specs.declared.Question.TheVariants.{Width, ErasureCount, Padding, FourErasures}
-use Rattle.field.specs.declared.Verdict.{Verdict}
-use Rattle.field.specs.declared.Verdict.TheVariants.{Passed, Refused}
 use Rattle.card.specs.Record.{has_width, few_in, padded_in}
 use Rattle.card.specs.Conversion.{blank_or, at_most_four}
 
@@ -23,8 +23,8 @@ slot_passes k slot = leading (answers k at_most_four (λ p. blank_or k p slot))
 
 -- the verdict where so many are passed
 abbrev pub verdict_at : ℕ → Verdict
-verdict_at zero = Refused Width
-verdict_at (suc zero) = Refused ErasureCount
-verdict_at (suc (suc zero)) = Refused Padding
-verdict_at (suc (suc (suc zero))) = Refused FourErasures
-verdict_at (suc (suc (suc (suc n)))) = Passed
+verdict_at zero = Err Width
+verdict_at (suc zero) = Err ErasureCount
+verdict_at (suc (suc zero)) = Err Padding
+verdict_at (suc (suc (suc zero))) = Err FourErasures
+verdict_at (suc (suc (suc (suc n)))) = (Ok tt)

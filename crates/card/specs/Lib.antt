@@ -3,8 +3,8 @@ pub mod Record  -- the layout, over the number of erasure bytes; a record's ques
 pub mod Slots  -- slots, blank ones among them; one fold over them (`over_slots`), and from batch to batch (`Came`)
 pub mod Card  -- where a part lies on its card (`LiesAt`); the card check, and what its answer says
 pub mod Listing  -- the whole text of a listing, its lines and totals, also of a part of a card
-pub mod Placed  -- a text written into a buffer
-pub mod Batch  -- the size of a batch; listing a batch (`ListsSlots`)
+pub mod Text  -- a text that grows at its end: what is put behind it, and that the lent memory behind stays (`Appends`)
+pub mod Batch  -- the size of a batch
 pub mod Words  -- each refusal in words, and the line of a refused record
 pub mod Checked  -- the card check as a line of text, also of a card in parts
 pub mod Conversion  -- cards between the two editions: questions, answer, output; there and back, and that each slot stays the same

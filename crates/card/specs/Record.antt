@@ -1,13 +1,11 @@
 -- A record: width, number of erasures, erasures, symbols, and zeros up to the record's length. Assumes nothing.
-use Rattle.std.specs.Prelude.{◌≡◌, Bool, true, ◌&&◌, List, [], ◌∷◌, ◌++◌, ℕ, ◌+◌, ◌-◌, min, eqb, leb, length, get_or, take, drop, replicate}
-use Rattle.field.specs.Question.{Outcome, accepted, refused, ask, after, is_width}
+use Rattle.field.specs.declared.Question.{Question}
+use Rattle.std.specs.Prelude.{Ok, Err, Result, ◌≡◌, Bool, true, ◌&&◌, List, [], ◌∷◌, ◌++◌, ℕ, ◌+◌, ◌-◌, min, eqb, leb, length, get_or, take, drop, replicate}
+use Rattle.field.specs.Question.{Verdict, Outcome, accepted, refused, ask, after, is_width}
 use Rattle.field.specs.declared.Question.TheVariants.{Width, Length, ErasureCount, Padding}
-use Rattle.field.specs.declared.Verdict.{Verdict}
-use Rattle.field.specs.declared.Verdict.TheVariants.{Passed}
 use Rattle.code.specs.Word.{places, longest}
 use Rattle.code.specs.Near.{radius}
 use Rattle.code.specs.Call.{max_erasures, within_of, within_written, repair}
-use Rattle.code.specs.declared.Repair.{Repair}
 use Rattle.card.specs.declared.RestoredCopy.{RestoredCopy}
 
 -- ---- the layout, with k erasure bytes, document 01's mark bytes
@@ -71,7 +69,7 @@ asked_in k r =
     ask (eqb (length r) (size_of k)) Length
     (ask (has_width r) Width
     (ask (few_in k r) ErasureCount
-    (ask (padded_in k r) Padding Passed)))
+    (ask (padded_in k r) Padding (Ok tt))))
 
 -- ---- today's edition
 
@@ -113,7 +111,7 @@ record_within_written r reach =
     on_accept (record_within_of r reach) r (clear_record (width_of r) (within_written (width_of r) (word_of r) (erasures_of r) reach))
 
 -- what restore_record_within answers and leaves in the record
-pub record RestoresRecordWithin (old : List ℕ) (reach : ℕ) (r : Repair) (new : List ℕ) : Type 0 where
+pub record RestoresRecordWithin (old : List ℕ) (reach : ℕ) (r : Result ℕ Question) (new : List ℕ) : Type 0 where
   pub answer : repair r ≡ record_within_of old reach
   pub content : new ≡ record_within_written old reach
 
@@ -131,7 +129,7 @@ unfoldable pub record_written : List ℕ → List ℕ
 record_written r = record_within_written r (reach_of r)
 
 -- what restore_record answers and leaves in the record
-pub record RestoresRecord (old : List ℕ) (r : Repair) (new : List ℕ) : Type 0 where
+pub record RestoresRecord (old : List ℕ) (r : Result ℕ Question) (new : List ℕ) : Type 0 where
   pub answer : repair r ≡ record_of old
   pub content : new ≡ record_written old
 
@@ -149,7 +147,7 @@ unfoldable pub record_written_up_to : ℕ → List ℕ → List ℕ
 record_written_up_to n r = record_within_written r (reach_up_to n r)
 
 -- the call's promise: what restore_record_up_to answers and leaves in the record
-pub record RestoresRecordUpTo (n : ℕ) (old : List ℕ) (r : Repair) (new : List ℕ) : Type 0 where
+pub record RestoresRecordUpTo (n : ℕ) (old : List ℕ) (r : Result ℕ Question) (new : List ℕ) : Type 0 where
   pub answer : repair r ≡ record_up_to n old
   pub content : new ≡ record_written_up_to n old
 
@@ -172,7 +170,17 @@ UpToTwo = (r : List ℕ) → (record_up_to most_changes r ≡ record_of r) × (r
 unfoldable pub copy_written : List ℕ → List ℕ
 copy_written r = on_accept (record_of r) (replicate record_size 0) (record_written r)
 
+-- the number of changed places, or the refusal, of a record restored in a copy
+abbrev pub copy_changes : Result RestoredCopy Question → Result ℕ Question
+copy_changes (Ok x) = Ok x.changed
+copy_changes (Err q) = Err q
+
+-- its bytes, zeros where it is refused
+abbrev pub copy_bytes : Result RestoredCopy Question → List ℕ
+copy_bytes (Ok x) = x.bytes
+copy_bytes (Err q) = replicate record_size 0
+
 -- what restored_copy gives
-pub record RestoresCopy (r : List ℕ) (x : RestoredCopy) : Type 0 where
-  pub answer : repair x.answer ≡ record_of r
-  pub content : x.bytes ≡ copy_written r
+pub record RestoresCopy (r : List ℕ) (x : Result RestoredCopy Question) : Type 0 where
+  pub answer : repair (copy_changes x) ≡ record_of r
+  pub content : copy_bytes x ≡ copy_written r

@@ -5,9 +5,7 @@ ghost use Rattle.card.specs.Slots.{record_count, blank_in, is_blank};
 ghost use Rattle.card.specs.inner.Parts.{SlotFrom};
 ghost use Rattle.card.specs.Card.{is_number, passes, fine, check_of, first_refused};
 
-use crate::CardCheck;
 use crate::records::{ERASURE_BYTES, RECORD, all_are, probe, size_of};
-use code::Repair;
 
 // The number of slots of a card of n bytes; a shorter last piece counts as one.
 pub fn record_count(n: usize) -> usize
@@ -61,10 +59,7 @@ pub fn is_blank(slot: &[u8]) -> bool
 fn would_pass(bytes: &[u8]) -> bool
     ensures { result ≡ passes bytes.now }
 {
-    match probe(bytes) {
-        Repair::Restored(_) => true,
-        Repair::Refused(_) => false,
-    }
+    probe(bytes).is_ok()
 }
 
 // Is the slot blank, or would its record be accepted?
@@ -77,21 +72,21 @@ fn is_fine(slot: &[u8]) -> bool
     would_pass(slot)
 }
 
-// Looks at each slot in turn, and stops at the first whose record would be refused.
-pub fn check(card: &[u8]) -> CardCheck
+// The number of the first record that would be refused, counted from 1. Blank slots are passed over, and counted.
+pub fn check(card: &[u8]) -> Option<usize>
     ensures { check_of result ≡ first_refused card.now }
 {
     let mut at = 0;
     let mut i = 0;
     while at < card.len() {
         if !is_fine(record_from(card, at)) {
-            return CardCheck::Refused(i + 1);
+            return Some(i + 1);
         }
         if card.len() - at <= RECORD {
-            return CardCheck::AllAccepted;
+            return None;
         }
         at += RECORD;
         i += 1;
     }
-    CardCheck::AllAccepted
+    None
 }

@@ -8,7 +8,7 @@ ghost use Rattle.card.specs.inner.Leading.{converted_slots};
 use crate::parts::{nothing_found, see_part};
 use crate::records::{ERASURE_BYTES, OLD_ERASURE_BYTES, size_of, verdict_of};
 use code::word::copy;
-use field::{Question, Verdict};
+use field::Question;
 
 // Do m bytes make n slots?
 fn are_slots(m: usize, j: usize, n: usize) -> bool
@@ -20,20 +20,20 @@ fn are_slots(m: usize, j: usize, n: usize) -> bool
 }
 
 // All questions, put to the card and an output of m bytes.
-fn ask_card(card: &[u8], k: usize, m: usize, j: usize) -> Verdict
+fn ask_card(card: &[u8], k: usize, m: usize, j: usize) -> Result<(), Question>
     requires { (k ≤ erasure_bytes) × (j ≤ erasure_bytes) }
     ensures { result ≡ card_asked k j card.now m (four_asked k card.now) }
 {
     let size = size_of(k);
     if card.len() % size != 0 {
-        return Verdict::Refused(Question::Length);
+        return Err(Question::Length);
     }
     let n = card.len() / size;
     if are_slots(m, j, n) {
         let found = see_part(nothing_found(), card, k);
         verdict_of(found.passed)
     } else {
-        Verdict::Refused(Question::Length)
+        Err(Question::Length)
     }
 }
 
@@ -68,35 +68,29 @@ fn convert_slots(card: &[u8], k: usize, out: &mut [u8], j: usize, n: usize)
 {
     let size = size_of(k);
     let other = size_of(j);
-    let mut i = 0;
-    while i < n {
+    for i in 0..n {
         let at = i * size;
         let end = at + size;
         let to = i * other;
         let stop = to + other;
         convert_slot(&card[at..end], k, &mut out[to..stop], j);
-        i += 1;
     }
 }
 
 // Asks the whole card before a byte is written.
-fn convert(card: &[u8], k: usize, out: &mut [u8], j: usize) -> Verdict
+fn convert(card: &[u8], k: usize, out: &mut [u8], j: usize) -> Result<(), Question>
     requires { (min k j ≡ old_erasure_bytes) × (k ≤ erasure_bytes) × (j ≤ erasure_bytes) }
     ensures { Converts k j (card_asked k j card.now (length out.old) (four_asked k card.now))
         card.now out.old result out.new }
 {
-    match ask_card(card, k, out.len(), j) {
-        Verdict::Passed => {
-            let n = card.len() / size_of(k);
-            convert_slots(card, k, out, j, n);
-            Verdict::Passed
-        }
-        Verdict::Refused(q) => Verdict::Refused(q),
-    }
+    ask_card(card, k, out.len(), j)?;
+    let n = card.len() / size_of(k);
+    convert_slots(card, k, out, j, n);
+    Ok(())
 }
 
 // A card of the old edition, written in today's. Question 15 is never answered no: question 3 has allowed four erasures at most.
-pub fn card_to_new(card: &[u8], out: &mut [u8]) -> Verdict
+pub fn card_to_new(card: &[u8], out: &mut [u8]) -> Result<(), Question>
     ensures { Converts old_erasure_bytes erasure_bytes (to_new_asked card.now (length out.old)) card.now
         out.old result out.new }
 {
@@ -104,7 +98,7 @@ pub fn card_to_new(card: &[u8], out: &mut [u8]) -> Verdict
 }
 
 // A card of today's edition, written in the old one.
-pub fn card_to_old(card: &[u8], out: &mut [u8]) -> Verdict
+pub fn card_to_old(card: &[u8], out: &mut [u8]) -> Result<(), Question>
     ensures { Converts erasure_bytes old_erasure_bytes (to_old_asked card.now (length out.old)) card.now
         out.old result out.new }
 {

@@ -4,13 +4,13 @@
 pub mod cards;
 pub mod checked;
 pub mod conversion;
+pub mod listing;
 pub mod parts;
 pub mod records;
 pub mod text;
 pub mod words;
 
 use crate::records::RECORD;
-use code::Repair;
 
 // A card is read in batches of so many slots.
 pub const BATCH_SLOTS: usize = 400;
@@ -24,19 +24,11 @@ pub const LISTED_BATCHES: u64 = 2500;
 // A loop must end, and no card has so many batches: they would be 3.9 * 10^18 bytes.
 pub const MOST_BATCHES: u64 = 70368744177664;
 
-// What restoring a record would answer, and the record afterwards. An enum holds no array, so the answer stands beside the bytes.
+// A record restored in a copy: the number of changed places, and the bytes of the record.
 #[derive(Clone, Copy)]
 pub struct RestoredCopy {
-    pub answer: Repair,
-    pub bytes: [u8; 139],
-}
-
-// What the card check answers: every record would be accepted, or the number of the first record that would not be, counted from 1. Blank
-// slots are passed over, and counted.
-#[derive(Clone, Copy)]
-pub enum CardCheck {
-    AllAccepted,
-    Refused(usize),
+    pub changed: u8,
+    pub bytes: [u8; RECORD],
 }
 
 // What a listing has counted: accepted records, refused records, changed places.

@@ -7,7 +7,7 @@ ghost use Rattle.card.specs.Findings.{nothing_found, slot_found, part_found, fou
 
 use crate::cards::blank_in;
 use crate::records::{OLD_ERASURE_BYTES, passed, size_of, verdict_of};
-use field::{Question, Verdict};
+use field::Question;
 
 // What the questions have found: the number of slots seen, how many of the questions 1, 3, 4 and 15 all of them pass, and the number of the
 // first slot that passes no more; 0 where all of them pass all four.
@@ -71,22 +71,20 @@ pub fn see_part(s: Findings, part: &[u8], k: usize) -> Findings
     let size = size_of(k);
     let n = part.len() / size;
     let mut found = s;
-    let mut i = 0;
-    while i < n {
+    for i in 0..n {
         let at = i * size;
         let end = at + size;
         found = see_slot(found, &part[at..end], k);
-        i += 1;
     }
     found
 }
 
 // The verdict on a card behind whose slots a piece of `rest` bytes is left: its length is asked before all else.
-pub fn found_verdict(s: Findings, rest: usize) -> Verdict
+pub fn found_verdict(s: Findings, rest: usize) -> Result<(), Question>
     ensures { result ≡ found_verdict s rest }
 {
     if rest != 0 {
-        return Verdict::Refused(Question::Length);
+        return Err(Question::Length);
     }
     verdict_of(s.passed)
 }

@@ -1,18 +1,18 @@
 // One record: width, number of erasures, erasure bytes, symbols, zeros.
+ghost use Rattle.std.specs.Prelude.{Ok};
 ghost use Rattle.std.specs.Prelude.{◌≡◌, ◌&&◌, ◌∷◌, ◌++◌, ◌+◌, ◌-◌, ◌≤◌, min, length, take, drop, replicate};
-ghost use Rattle.field.specs.declared.Verdict.TheVariants.{Passed};
 ghost use Rattle.code.specs.Near.{radius};
 ghost use Rattle.code.specs.Call.{max_erasures, repair};
 ghost use Rattle.card.specs.Record.{size_of, erasure_bytes, record_size, all_are, record_asked, record_of, RestoresRecordWithin, RestoresRecord};
-ghost use Rattle.card.specs.inner.Parts.{header_size, no_copy};
+ghost use Rattle.card.specs.inner.Parts.{header_size};
 ghost use Rattle.card.specs.Record.{RestoresRecordUpTo, RestoresCopy};
 ghost use Rattle.card.specs.inner.Leading.{record_passes};
 ghost use Rattle.card.specs.Leading.{verdict_at};
 
 use crate::RestoredCopy;
 use code::word::copy;
-use code::{Repair, max_erasures, radius_of, word_length};
-use field::{Question, Verdict};
+use code::{max_erasures, radius_of, word_length};
+use field::Question;
 
 // The layout of a record. Functions that conversions use too take the number k of erasure bytes of the edition.
 pub const ERASURE_BYTES: usize = 5;
@@ -40,12 +40,10 @@ pub fn size_of(k: usize) -> usize
 pub(crate) fn all_are(xs: &[u8], x: u8) -> bool
     ensures { result ≡ all_are x xs.now }
 {
-    let mut i = 0;
-    while i < xs.len() {
-        if xs[i] != x {
+    for b in xs {
+        if *b != x {
             return false;
         }
-        i += 1;
     }
     true
 }
@@ -94,24 +92,24 @@ pub(crate) fn passed(bytes: &[u8], k: usize, most: usize) -> u8
 }
 
 // The verdict where so many of them are passed.
-pub(crate) fn verdict_of(count: u8) -> Verdict
+pub(crate) fn verdict_of(count: u8) -> Result<(), Question>
     ensures { result ≡ verdict_at count }
 {
     match count {
-        0 => Verdict::Refused(Question::Width),
-        1 => Verdict::Refused(Question::ErasureCount),
-        2 => Verdict::Refused(Question::Padding),
-        3 => Verdict::Refused(Question::FourErasures),
-        _ => Verdict::Passed,
+        0 => Err(Question::Width),
+        1 => Err(Question::ErasureCount),
+        2 => Err(Question::Padding),
+        3 => Err(Question::FourErasures),
+        _ => Ok(()),
     }
 }
 
 // A record's length, then questions 1, 3 and 4. Question 15, with as many erasures as there are bytes for, is passed after question 3.
-fn ask_record(bytes: &[u8]) -> Verdict
+fn ask_record(bytes: &[u8]) -> Result<(), Question>
     ensures { result ≡ record_asked bytes.now }
 {
     if bytes.len() != RECORD {
-        return Verdict::Refused(Question::Length);
+        return Err(Question::Length);
     }
     verdict_of(passed(bytes, ERASURE_BYTES, ERASURE_BYTES))
 }
@@ -134,8 +132,8 @@ pub fn clear_header(bytes: &mut [u8], width: u8)
 }
 
 // The word of a record that passed is restored in its place, if the reach allows.
-fn restore_asked(bytes: &mut [u8], reach: u8) -> Repair
-    requires { record_asked bytes.old ≡ Passed }
+fn restore_asked(bytes: &mut [u8], reach: u8) -> Result<u8, Question>
+    requires { record_asked bytes.old ≡ (Ok tt) }
     ensures { RestoresRecordWithin bytes.old reach result bytes.new }
 {
     let width = bytes[0];
@@ -143,23 +141,17 @@ fn restore_asked(bytes: &mut [u8], reach: u8) -> Repair
     let erasures = erasure_row(bytes);
     let end = HEADER + word_length(width);
     let from = HEADER;
-    match code::restore_within(width, &mut bytes[from..end], &erasures[..count], reach) {
-        Repair::Restored(k) => {
-            clear_header(bytes, width);
-            Repair::Restored(k)
-        }
-        Repair::Refused(q) => Repair::Refused(q),
-    }
+    let changed = code::restore_within(width, &mut bytes[from..end], &erasures[..count], reach)?;
+    clear_header(bytes, width);
+    Ok(changed)
 }
 
 // Restores a record: its word becomes the codeword within the reach, and it has no erasures any more.
-pub fn restore_record_within(bytes: &mut [u8], reach: u8) -> Repair
+pub fn restore_record_within(bytes: &mut [u8], reach: u8) -> Result<u8, Question>
     ensures { RestoresRecordWithin bytes.old reach result bytes.new }
 {
-    match ask_record(bytes) {
-        Verdict::Passed => restore_asked(bytes, reach),
-        Verdict::Refused(q) => Repair::Refused(q),
-    }
+    ask_record(bytes)?;
+    restore_asked(bytes, reach)
 }
 
 // The reach that so many erasures leave, but no longer one than `most`.
@@ -171,20 +163,16 @@ fn reach_up_to(most: u8, width: u8, count: usize) -> u8
 }
 
 // Restores a record with the longest reach that its erasures leave, but no longer one than `most`.
-pub fn restore_record_up_to(bytes: &mut [u8], most: u8) -> Repair
+pub fn restore_record_up_to(bytes: &mut [u8], most: u8) -> Result<u8, Question>
     ensures { RestoresRecordUpTo most bytes.old result bytes.new }
 {
-    match ask_record(bytes) {
-        Verdict::Passed => {
-            let reach = reach_up_to(most, bytes[0], bytes[1] as usize);
-            restore_asked(bytes, reach)
-        }
-        Verdict::Refused(q) => Repair::Refused(q),
-    }
+    ask_record(bytes)?;
+    let reach = reach_up_to(most, bytes[0], bytes[1] as usize);
+    restore_asked(bytes, reach)
 }
 
 // Restores a record with the longest reach that its erasures leave.
-pub fn restore_record(bytes: &mut [u8]) -> Repair
+pub fn restore_record(bytes: &mut [u8]) -> Result<u8, Question>
     ensures { RestoresRecord bytes.old result bytes.new }
 {
     restore_record_up_to(bytes, LONGEST_REACH)
@@ -200,37 +188,25 @@ fn copied(bytes: &[u8]) -> [u8; RECORD]
     row
 }
 
-// Zeros beside a refusal.
-fn refused_copy(q: Question) -> RestoredCopy
-    ensures { result ≡ no_copy q }
-{
-    RestoredCopy {
-        answer: Repair::Refused(q),
-        bytes: [0; RECORD],
-    }
-}
-
 // A record is restored in a copy; it stays as it is.
-pub fn restored_copy(bytes: &[u8]) -> RestoredCopy
+pub fn restored_copy(bytes: &[u8]) -> Result<RestoredCopy, Question>
     ensures { RestoresCopy bytes.now result }
 {
     if bytes.len() != RECORD {
-        return refused_copy(Question::Length);
+        return Err(Question::Length);
     }
     let mut row = copied(bytes);
-    match restore_record(&mut row) {
-        Repair::Restored(k) => RestoredCopy {
-            answer: Repair::Restored(k),
-            bytes: row,
-        },
-        Repair::Refused(q) => refused_copy(q),
-    }
+    let changed = restore_record(&mut row)?;
+    Ok(RestoredCopy {
+        changed,
+        bytes: row,
+    })
 }
 
-// What restoring the record would answer; the record stays as it is.
-pub(crate) fn probe(bytes: &[u8]) -> Repair
+// The number of places that restoring the record would change; the record stays as it is.
+pub(crate) fn probe(bytes: &[u8]) -> Result<u8, Question>
     ensures { repair result ≡ record_of bytes.now }
 {
-    let copy = restored_copy(bytes);
-    copy.answer
+    let copy = restored_copy(bytes)?;
+    Ok(copy.changed)
 }

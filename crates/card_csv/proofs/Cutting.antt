@@ -1,6 +1,13 @@
 -- A line without its carriage return, and a text cut into columns. Assumes nothing.
 use Rattle.field.proofs.Base.{◌≡◌, refl, sym, ap, ◌∙◌, Bool, true, false, cond, List, [], ◌∷◌, ℕ, suc, ◌+◌, ◌-◌, ◌≤◌, ◌<◌, add-one, arith, eq-eqb}
-use Rattle.field.proofs.Base.{ne_eqb, eqb, length, get_or, take, drop, drop_of_length-le, length-drop, drop-cons, drop-drop, take_all}
+use Rattle.field.proofs.Base.{ne_eqb, eqb, eqb-true, eqb-false, length, get_or, take, drop, length-drop, take_all, not}
+use Rattle.field.proofs.Base.{◌<◌, ltb, ltb-true, ltb-false, drop_of_length-le}
+use lib.Pointwise.{pointwise}
+use Rattle.std.proofs.Common.{Some, None, Option, MatchOption, Bor, ◌==◌, ◌&&◌, drop-cons}
+use Rattle.std.specs.Option.{unwrap_or}
+use Rattle.std.specs.List.{count_by, position, position_or_len}
+use Rattle.std.proofs.lemmas.List.Recursion.{is_count_by}
+use Rattle.code.specs.Demands.{occurs}
 use Rattle.card_csv.specs.Text.{separator}
 use Rattle.card_csv.specs.Reading.{carriage_return, trimmed, first_column, other_columns}
 
@@ -12,13 +19,40 @@ trimmed-none [] h = refl
 trimmed-none (x ∷ xs) h = absurd (omega arith)
 
 module _ (line : List ℕ) where
-  pub trimmed-return : get_or line (length line - 1) 0 ≡ carriage_return → take (length line - 1) line ≡ trimmed line
-  unfolding trimmed
-  trimmed-return e = ap (λ (b : Bool). cond b (take (length line - 1) line) line) (sym (eq-eqb _ carriage_return e))
-
   pub trimmed-plain : (get_or line (length line - 1) 0 ≡ carriage_return → ⊥) → line ≡ trimmed line
   unfolding trimmed
   trimmed-plain n = ap (λ (b : Bool). cond b (take (length line - 1) line) line) (sym (ne_eqb _ carriage_return n))
+
+-- what `strip_suffix` tests
+ends-in-return : (line : List ℕ)
+    → pointwise eqb (drop (length line - 1) line) (carriage_return ∷ []) ≡ eqb (get_or line (length line - 1) 0) carriage_return
+ends-in-return [] = refl
+ends-in-return (x ∷ xs) =
+    let last : drop (length xs) (x ∷ xs) ≡ get_or (x ∷ xs) (length xs) 0 ∷ [] =
+    drop-cons (x ∷ xs) (length xs) 0 (omega arith) ∙ ap (λ (l : List ℕ). get_or (x ∷ xs) (length xs) 0 ∷ l) (drop_of_length-le xs {i = length xs} (omega arith)) in
+    ap (λ (n : ℕ). pointwise eqb (drop n (x ∷ xs)) (carriage_return ∷ [])) less
+    ∙ ap (λ (l : List ℕ). pointwise eqb l (carriage_return ∷ [])) last
+    ∙ alone (eqb (get_or (x ∷ xs) (length xs) 0) carriage_return)
+    ∙ ap (λ (n : ℕ). eqb (get_or (x ∷ xs) n 0) carriage_return) (sym less)
+  where
+    less : suc (length xs) - 1 ≡ length xs
+    less = omega arith
+
+    alone : (b : Bool) → (b && true) ≡ b
+    alone true = refl
+    alone false = refl
+
+pub stripped : (line : Bor (List ℕ)) (r : Option (Bor (List ℕ)))
+    → MatchOption r (pointwise eqb (drop (length line.now - 1) line.now) (carriage_return ∷ []) ≡ false)
+    (λ x. (pointwise eqb (drop (length line.now - 1) line.now) (carriage_return ∷ []) ≡ true)
+    × (x.now ≡ take (length line.now - 1) line.now)
+    × (length x.now + 1 ≡ length line.now))
+    → (unwrap_or r line).now ≡ trimmed line.now
+unfolding trimmed
+stripped line None h =
+    ap (λ (b : Bool). cond b (take (length line.now - 1) line.now) line.now) (sym h ∙ ends-in-return line.now)
+stripped line (Some x) h =
+    h.1 ∙ ap (λ (b : Bool). cond b (take (length line.now - 1) line.now) line.now) (sym h.0 ∙ ends-in-return line.now)
 
 -- ---- the rest of a text
 
@@ -27,50 +61,17 @@ rest_all xs a = take_all (length xs - a) (drop a xs) (simp length-drop (omega ar
 
 -- ---- where the first column ends
 
--- it does not end before place i
-abbrev pub Reaches : List ℕ → ℕ → Type 0
-Reaches text i = length (first_column text) ≡ i + length (first_column (drop i text))
-
-module _ (text : List ℕ) where
-  pub reaches-start : Reaches text 0
-  reaches-start = omega arith
-
-  module _ (i : ℕ) (e : Reaches text i) where
-    module _ (h : i < length text) where
-      turn : first_column (drop i text) ≡ cond (eqb (get_or text i 0) separator) [] (get_or text i 0 ∷ first_column (drop (i + 1) text))
-      unfolding first_column
-      turn =
-          let one : drop i text ≡ get_or text i 0 ∷ drop (i + 1) text = rw (add-one, drop-cons text i 0) in
-          ap first_column one
-
-      pub reaches-stop : get_or text i 0 ≡ separator → i ≡ length (first_column text)
-      reaches-stop t =
-          let none : length (first_column (drop i text)) ≡ 0 =
-          ap length (turn ∙ ap (λ (b : Bool). cond b [] (get_or text i 0 ∷ first_column (drop (i + 1) text))) (eq-eqb _ separator t)) in
-          omega (arith, e, none)
-
-      pub reaches-on : (get_or text i 0 ≡ separator → ⊥) → Reaches text (i + 1)
-      reaches-on n =
-          let one : length (first_column (drop i text)) ≡ suc (length (first_column (drop (i + 1) text))) =
-          ap length (turn ∙ ap (λ (b : Bool). cond b [] (get_or text i 0 ∷ first_column (drop (i + 1) text))) (ne_eqb _ separator n)) in
-          omega (arith, e, one)
-
-    pub reaches_end : length text ≤ i → i ≡ length (first_column text)
-    unfolding first_column
-    reaches_end h =
-        let none : length (first_column (drop i text)) ≡ 0 = ap (λ (xs : List ℕ). length (first_column xs)) (drop_of_length-le text h) in
-        omega (arith, e, none)
+pub column_length : (xs : List ℕ) → length (first_column xs) ≡ position_or_len (λ x. eqb x separator) xs
+unfolding first_column
+column_length [] = refl
+column_length (x ∷ xs) = go (eqb x separator) (column_length xs)
+  where
+    go : (b : Bool) → length (first_column xs) ≡ position_or_len (λ y. eqb y separator) xs
+        → length (cond b [] (x ∷ first_column xs)) ≡ cond (not b) (1 + position_or_len (λ y. eqb y separator) xs) 0
+    go true e = refl
+    go false e = omega (arith, e)
 
 -- ---- before it and behind it
-
-pub first_short : (xs : List ℕ) → length (first_column xs) ≤ length xs
-unfolding first_column
-first_short [] = omega arith
-first_short (x ∷ xs) = go (eqb x separator) (first_short xs)
-  where
-    go : (b : Bool) → length (first_column xs) ≤ length xs → length (cond b [] (x ∷ first_column xs)) ≤ suc (length xs)
-    go true h = omega arith
-    go false h = omega arith
 
 pub first_taken : (xs : List ℕ) → take (length (first_column xs)) xs ≡ first_column xs
 unfolding first_column
@@ -107,21 +108,54 @@ others-none (x ∷ xs) h = go (eqb x separator) (others-none xs) h
     go true k h = absurd (omega arith)
     go false k h = k (omega arith)
 
--- ---- a column that begins at place a of a text, and has e bytes
+-- ---- the place of the first comma
 
-module _ (text : List ℕ) (a e : ℕ) (ee : e ≡ length (first_column (drop a text))) where
-  pub column_fits : a ≤ length text → a + e ≤ length text
-  column_fits h = omega (arith, ee, first_short (drop a text), length-drop a text)
+abbrev pub comma_at : List ℕ → Option ℕ
+comma_at xs = position (λ x. x == separator) xs
 
-  pub next-behind : a + e < length text → drop (a + e + 1) text ≡ other_columns (drop a text)
-  next-behind h =
-      let place : a + e + 1 ≡ a + (length (first_column (drop a text)) + 1) = omega arith in
-      ap (λ (n : ℕ). drop n text) place
-      ∙ sym (drop-drop (length (first_column (drop a text)) + 1) a text)
-      ∙ others-dropped (drop a text) (simp length-drop (omega (arith, ee)))
+comma_is : (xs : List ℕ) → comma_at xs ≡ cond (ltb (length (first_column xs)) (length xs)) (Some (length (first_column xs))) None
+comma_is xs = ap (λ (n : ℕ). cond (ltb n (length xs)) (Some n) None) (sym (column_length xs))
 
-  pub next-none : length text ≤ a + e → drop (a + e) text ≡ other_columns (drop a text)
-  next-none h =
-      ap (λ (n : ℕ). drop (a + n) text) ee
-      ∙ sym (drop-drop (length (first_column (drop a text))) a text)
-      ∙ others-none (drop a text) (simp length-drop (omega (arith, ee)))
+pub cut-at : (xs : List ℕ) (i : ℕ) → comma_at xs ≡ Some i → (take i xs ≡ first_column xs) × (drop (i + 1) xs ≡ other_columns xs)
+cut-at xs i e = go (ltb (length (first_column xs)) (length xs)) refl (sym (comma_is xs) ∙ e)
+  where
+    go : (b : Bool) → ltb (length (first_column xs)) (length xs) ≡ b → cond b (Some (length (first_column xs))) None ≡ Some i
+        → (take i xs ≡ first_column xs) × (drop (i + 1) xs ≡ other_columns xs)
+    go true t g =
+        let same : length (first_column xs) ≡ i = cc in (
+          ap (λ (n : ℕ). take n xs) (sym same) ∙ first_taken xs,
+          ap (λ (n : ℕ). drop (n + 1) xs) (sym same) ∙ others-dropped xs (ltb-true _ _ t),
+        )
+    go false t g = let z : ◌≡◌ {A = ℕ} 0 1 = cc in absurd (omega arith)
+
+pub cut-none : (xs : List ℕ) → comma_at xs ≡ None → (xs ≡ first_column xs) × ([] ≡ other_columns xs)
+cut-none xs e = go (ltb (length (first_column xs)) (length xs)) refl (sym (comma_is xs) ∙ e)
+  where
+    go : (b : Bool) → ltb (length (first_column xs)) (length xs) ≡ b → cond b (Some (length (first_column xs))) None ≡ None
+        → (xs ≡ first_column xs) × ([] ≡ other_columns xs)
+    go true t g = let z : ◌≡◌ {A = ℕ} 0 1 = cc in absurd (omega arith)
+    go false t g =
+        let long = ltb-false _ _ t in (
+          sym (take_all (length (first_column xs)) xs long) ∙ first_taken xs,
+          sym (drop_of_length-le xs long) ∙ others-none xs long,
+        )
+
+-- ---- the commas
+
+same_test : (x y : ℕ) → eqb x y ≡ eqb y x
+same_test x y = go (eqb x y) refl
+  where
+    go : (b : Bool) → eqb x y ≡ b → b ≡ eqb y x
+    go true t = sym (eq-eqb y x (sym (eqb-true x y t)))
+    go false t = sym (ne_eqb y x (λ e. eqb-false x y t (sym e)))
+
+pub commas_counted : (xs : List ℕ) → count_by (λ x. eqb x separator) xs ≡ occurs separator xs
+unfolding occurs
+commas_counted xs = sym (is_count_by (occurs separator) (λ x. eqb x separator) refl step xs)
+  where
+    counted : (n : ℕ) (b : Bool) → cond b 1 0 + n ≡ cond b (1 + n) n
+    counted n true = refl
+    counted n false = omega arith
+
+    step : (x : ℕ) (ys : List ℕ) → occurs separator (x ∷ ys) ≡ cond (eqb x separator) (1 + occurs separator ys) (occurs separator ys)
+    step x ys = ap (λ (b : Bool). cond b 1 0 + occurs separator ys) (same_test separator x) ∙ counted (occurs separator ys) (eqb x separator)

@@ -4,7 +4,8 @@ use Rattle.field.proofs.Base.{◌<◌, arith, ne_eqb, leb-true, ltb-true, ltb-fa
 use borrow.Author.Tests.{leb-false}
 use Rattle.field.proofs.Ask.{and-true-left, and-true-right}
 use Rattle.card.specs.Listing.{decimal}
-use Rattle.card.proofs.Writing.{last_digit, decimal-one, decimal-more}
+use Rattle.card.specs.Text.{Written, Appends, Covers}
+use Rattle.card.proofs.Writing.{last_digit, decimal-one, decimal-more, appends-on, appends-as}
 use Rattle.code.specs.Erasure.{member}
 use Rattle.sheet.specs.Calendar.{is_leap, thirty, thirty_one, days_in, date_exists, epoch}
 use Rattle.report.specs.Table.{two_digits}
@@ -49,15 +50,56 @@ three-digits n large h =
     last-two n large (omega arith) ∙ ap (λ (xs : List ℕ). xs ++ two_digits (n % 100)) (decimal-one (n / 100) (omega arith))
 
 -- the four digits of a year
-pub year-digits : (y : ℕ) → y < 256 → decimal (y + 2000) ≡ two_digits (20 + y / 100) ++ two_digits (y % 100)
-year-digits y h =
+pub year_digits : (y : ℕ) → y < 256 → decimal (y + 2000) ≡ two_digits (20 + y / 100) ++ two_digits (y % 100)
+year_digits y h =
     let front : (y + 2000) / 100 ≡ 20 + y / 100 = omega arith in
     let back : (y + 2000) % 100 ≡ y % 100 = omega arith in
     last-two (y + 2000) (omega arith) (omega arith)
     ∙ ap₂ (λ (a b : ℕ). decimal a ++ two_digits b) front back
     ∙ ap (λ (xs : List ℕ). xs ++ two_digits (y % 100)) (sym (two-more (20 + y / 100) (omega arith)))
 
--- ---- how many there are
+-- ---- digits that go over leading zeros
+
+covers-on : {a b c : Written} {x : ℕ} → Covers a b → Appends b (x ∷ []) c → Appends a (x ∷ []) c
+covers-on {a} {b} {c} {x} v w = record {
+  bytes = w.bytes ∙ ap (λ (l : List ℕ). l ++ (x ∷ [])) v.bytes;
+  room = sym v.room ∙ w.room;
+  rest = w.rest ∙ v.rest;
+}
+
+covers-twice : {a b c : Written} → Covers a b → Covers b c → Covers a c
+covers-twice v w = record { bytes = w.bytes ∙ v.bytes; room = w.room ∙ v.room; rest = w.rest ∙ v.rest }
+
+-- p and q say whether the first and the second digit stay
+pub digits-written : (n : ℕ) → n < 256 → {a b c d : Written} {p q : Bool} → p ≡ leb 100 n → q ≡ leb 10 n
+    → (p ≡ true → Appends a ((48 + n / 100) ∷ []) b) → (p ≡ false → Covers a b)
+    → (q ≡ true → Appends b ((48 + n / 10 % 10) ∷ []) c) → (q ≡ false → Covers b c)
+    → Appends c ((48 + n % 10) ∷ []) d → Appends a (decimal n) d
+digits-written n small {a} {b} {c} {d} {p} {q} ep eq first over second under third = go (leb 10 n) (leb 100 n) refl refl
+  where
+    go : (s t : Bool) → leb 10 n ≡ s → leb 100 n ≡ t → Appends a (decimal n) d
+    go true true e f =
+        let large = leb-true 100 n f in
+        let tens : 48 + n / 10 % 10 ≡ 48 + n % 100 / 10 = omega arith in
+        let ones : 48 + n % 10 ≡ 48 + n % 100 % 10 = omega arith in
+        appends-as
+        (ap₂ (λ (x y : ℕ). (48 + n / 100) ∷ x ∷ y ∷ []) tens ones
+        ∙ ap (λ (xs : List ℕ). (48 + n / 100) ∷ xs) (sym (two_digits_lem (n % 100) (omega arith)))
+        ∙ sym (three-digits n large (omega arith)))
+        (appends-on (first (ep ∙ f)) (appends-on (second (eq ∙ e)) third))
+    go true false e f =
+        let few = leb-false 100 n f in
+        let ten : 48 + n / 10 % 10 ≡ 48 + n / 10 = omega arith in
+        appends-as
+        (ap (λ (x : ℕ). x ∷ (48 + n % 10) ∷ []) ten ∙ sym (two_digits_lem n few) ∙ two-more n (leb-true 10 n e))
+        (appends-on (covers-on (over (ep ∙ f)) (second (eq ∙ e))) third)
+    go false false e f =
+        let few = leb-false 10 n e in
+        let all : 48 + n % 10 ≡ 48 + n = omega arith in
+        appends-as
+        (ap (λ (x : ℕ). x ∷ []) all ∙ sym (decimal-one n few))
+        (covers-on (covers-twice (over (ep ∙ f)) (under (eq ∙ e))) third)
+    go false true e f = absurd (omega (arith, leb-true 100 n f, leb-false 10 n e))
 
 -- ---- a date that exists
 
@@ -107,3 +149,5 @@ module _ (y mo d : ℕ) (e : date_exists y mo d ≡ true) where
 
   pub day-most : d ≤ 31
   day-most = omega (arith, within-month.1, few-days (epoch + y) mo)
+
+pub ruleset dates = (month-most, day-most)

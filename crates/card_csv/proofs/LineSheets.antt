@@ -3,32 +3,27 @@ use Rattle.field.proofs.Base.{◌≡◌, refl, sym, ap, ◌∙◌, subst, Bool, 
 use Rattle.field.proofs.Base.{ltb-true, eqb, leb, ltb, length, get_or, length-append}
 use lib.Seq.{get_or-append-add}
 use Rattle.field.proofs.Ask.{and-true-left, and-true-right}
+use Rattle.std.proofs.Common.{Ok, Err, Some, None, Option}
 use Rattle.code.specs.Word.{at}
 use Rattle.sheet.specs.Calendar.{epoch, date_exists}
 use Rattle.sheet.specs.Sheet.{sheet_size, quarters, month_at, day_at}
 use Rattle.sheet.specs.Demands.{SheetSymbols}
 use Rattle.card_csv.specs.declared.Fault.{Fault}
 use Rattle.card_csv.specs.declared.Fault.TheVariants.{Columns, Number, Pump, Count}
-use Rattle.card_csv.specs.declared.Answer.TheVariants.{Sheet}
-use Rattle.card_csv.specs.declared.Reading.{Reading}
-use Rattle.card_csv.specs.declared.fields.Symbol.{Symbol}
-use Rattle.card_csv.specs.declared.fields.Symbol.TheVariants.{Value, Wrong}
 use Rattle.card_csv.specs.declared.fields.SheetDate.{SheetDate}
-use Rattle.card_csv.specs.declared.fields.DateColumn.{DateColumn}
-use Rattle.card_csv.specs.declared.fields.DateColumn.TheVariants.{Exists, Missing}
 use Rattle.card_csv.specs.Reading.{trimmed, column_count, columns_of, first_column, other_columns, is_decimal, value_of, symbol_in}
-use Rattle.card_csv.specs.Reading.{has_hyphens, year_in, two_at, date_from, date_in, Row, row, bad, counted_row, read_counts, day_counts}
-use Rattle.card_csv.specs.Reading.{Line, sheet, wrong, told_by, symbols_read, date_line, day_read, columns_in, read_line}
+use Rattle.card_csv.specs.Reading.{has_hyphens, year_in, two_at, date_from, date_of_parts, date_in, Symbol, Row, counted_row, read_counts, day_counts}
+use Rattle.card_csv.specs.Reading.{symbols_read, date_line, day_read, columns_in, read_line}
 use Rattle.card_csv.proofs.Digits.{month-most, day-most}
 use Rattle.card_csv.proofs.ReadBack.{AllBelow}
 
 -- ---- what a column stands for
 
-pub symbol-below : (f : Fault) (xs : List ℕ) (n : ℕ) → symbol_in f xs ≡ Value n → n < 128
+pub symbol-below : (f : Fault) (xs : List ℕ) (n : ℕ) → symbol_in f xs ≡ Ok n → n < 128
 unfolding symbol_in
 symbol-below f xs n e = go (is_decimal 3 xs) (ltb (value_of xs) 128) refl e
   where
-    go : (a b : Bool) → ltb (value_of xs) 128 ≡ b → cond a (cond b (Value (value_of xs)) (Wrong f)) (Wrong Number) ≡ Value n → n < 128
+    go : (a b : Bool) → ltb (value_of xs) 128 ≡ b → cond a (cond b (Ok (value_of xs)) (Err f)) (Err Number) ≡ Ok n → n < 128
     go true true t g = let same : value_of xs ≡ n = cc in omega (arith, ltb-true (value_of xs) 128 t)
     go true false t g = let z : ◌≡◌ {A = ℕ} 0 1 = cc in absurd (omega arith)
     go false b t g = let z : ◌≡◌ {A = ℕ} 0 1 = cc in absurd (omega arith)
@@ -38,12 +33,12 @@ pub record Dated (d : SheetDate) : Type 0 where
   pub year : d.year < 128
   pub exists : date_exists d.year d.month d.day ≡ true
 
-from-dated : (y mo day : ℕ) (d : SheetDate) → date_from y mo day ≡ Exists d → Dated d
+from-dated : (y mo day : ℕ) (d : SheetDate) → date_from y mo day ≡ Some d → Dated d
 unfolding date_from
 from-dated y mo day d e = go (leb epoch y && (ltb y 2128 && date_exists (y - epoch) mo day)) refl e
   where
     go : (b : Bool) → (leb epoch y && (ltb y 2128 && date_exists (y - epoch) mo day)) ≡ b
-        → cond b (Exists (record { year = y - epoch; month = mo; day = day })) Missing ≡ Exists d → Dated d
+        → cond b (Some (record { year = y - epoch; month = mo; day = day })) None ≡ Some d → Dated d
     go true t g =
         let same : record { year = y - epoch; month = mo; day = day } ≡ d = cc in
         let rest = and-true-right (leb epoch y) (ltb y 2128 && date_exists (y - epoch) mo day) t in
@@ -53,12 +48,18 @@ from-dated y mo day d e = go (leb epoch y && (ltb y 2128 && date_exists (y - epo
         })
     go false t g = let z : ◌≡◌ {A = ℕ} 0 1 = cc in absurd (omega arith)
 
-pub date-dated : (xs : List ℕ) (d : SheetDate) → date_in xs ≡ Exists d → Dated d
+pub date-dated : (xs : List ℕ) (d : SheetDate) → date_in xs ≡ Some d → Dated d
 unfolding date_in
 date-dated xs d e = go (has_hyphens xs) e
   where
-    go : (b : Bool) → cond b (date_from (year_in xs) (two_at xs 5) (two_at xs 8)) Missing ≡ Exists d → Dated d
-    go true g = from-dated (year_in xs) (two_at xs 5) (two_at xs 8) d g
+    parts : (y mo dd : Option ℕ) → date_of_parts y mo dd ≡ Some d → Dated d
+    parts (Some y) (Some mo) (Some dd) g = from-dated y mo dd d g
+    parts (Some y) (Some mo) None g = let z : ◌≡◌ {A = ℕ} 0 1 = cc in absurd (omega arith)
+    parts (Some y) None dd g = let z : ◌≡◌ {A = ℕ} 0 1 = cc in absurd (omega arith)
+    parts None mo dd g = let z : ◌≡◌ {A = ℕ} 0 1 = cc in absurd (omega arith)
+
+    go : (b : Bool) → cond b (date_of_parts (year_in xs) (two_at xs 5) (two_at xs 8)) None ≡ Some d → Dated d
+    go true g = parts (year_in xs) (two_at xs 5) (two_at xs 8) g
     go false g = let z : ◌≡◌ {A = ℕ} 0 1 = cc in absurd (omega arith)
 
 -- n counts, each a symbol
@@ -66,27 +67,27 @@ pub record Counts (n : ℕ) (xs : List ℕ) : Type 0 where
   pub size : length xs ≡ n
   pub below : AllBelow xs
 
-counts-are : (n : ℕ) (text xs : List ℕ) → read_counts n text ≡ row xs → Counts n xs
+counts-are : (n : ℕ) (text xs : List ℕ) → read_counts n text ≡ Ok xs → Counts n xs
 unfolding read_counts
 counts-are zero text xs e = let same : [] ≡ xs = cc in subst (Counts 0) same (record { size = refl; below = tt })
 counts-are (suc n) text xs e = go (symbol_in Count (first_column text)) refl (read_counts n (other_columns text)) (counts-are n (other_columns text)) e
   where
-    go : (s : Symbol) → symbol_in Count (first_column text) ≡ s → (r : Row) → ((ys : List ℕ) → r ≡ row ys → Counts n ys)
-        → counted_row s r ≡ row xs → Counts (suc n) xs
-    go (Value x) t (row ys) h g =
+    go : (s : Symbol) → symbol_in Count (first_column text) ≡ s → (r : Row) → ((ys : List ℕ) → r ≡ Ok ys → Counts n ys)
+        → counted_row s r ≡ Ok xs → Counts (suc n) xs
+    go (Ok x) t (Ok ys) h g =
         let same : x ∷ ys ≡ xs = cc in
         let C = h ys refl in
         subst (Counts (suc n)) same
         (record { size = ap suc C.size; below = (symbol-below Count (first_column text) x t, C.below) })
-    go (Value x) t (bad f) h g = let z : ◌≡◌ {A = ℕ} 0 1 = cc in absurd (omega arith)
-    go (Wrong f) t r h g = let z : ◌≡◌ {A = ℕ} 0 1 = cc in absurd (omega arith)
+    go (Ok x) t (Err f) h g = let z : ◌≡◌ {A = ℕ} 0 1 = cc in absurd (omega arith)
+    go (Err f) t r h g = let z : ◌≡◌ {A = ℕ} 0 1 = cc in absurd (omega arith)
 
-day-counts-are : (full : Bool) (text xs : List ℕ) → day_counts full text ≡ row xs → Counts quarters xs
+day-counts-are : (full : Bool) (text xs : List ℕ) → day_counts full text ≡ Ok xs → Counts quarters xs
 unfolding day_counts
 day-counts-are false text xs e = counts-are quarters text xs e
 day-counts-are true text xs e = go (is_decimal 20 (first_column text)) e
   where
-    go : (b : Bool) → cond b (read_counts quarters (other_columns text)) (bad Number) ≡ row xs → Counts quarters xs
+    go : (b : Bool) → cond b (read_counts quarters (other_columns text)) (Err Number) ≡ Ok xs → Counts quarters xs
     go true g = counts-are quarters (other_columns text) xs g
     go false g = let z : ◌≡◌ {A = ℕ} 0 1 = cc in absurd (omega arith)
 
@@ -127,44 +128,36 @@ module _ (xs : List ℕ) (C : Counts quarters xs) (d : SheetDate) (D : Dated d) 
 
 -- ---- lines
 
-day-sheet : (full : Bool) (text ss : List ℕ) → day_read full text ≡ sheet ss → SheetSymbols ss
+day-sheet : (full : Bool) (text ss : List ℕ) → day_read full text ≡ Ok ss → SheetSymbols ss
 unfolding day_read
 day-sheet full text ss e =
     go (date_in (first_column text)) refl (symbol_in Pump (first_column (other_columns text))) refl
     (day_counts full (other_columns (other_columns text))) refl e
   where
-    go : (x : DateColumn) → date_in (first_column text) ≡ x → (s : Symbol) → symbol_in Pump (first_column (other_columns text)) ≡ s
-        → (r : Row) → day_counts full (other_columns (other_columns text)) ≡ r → date_line x s r ≡ sheet ss → SheetSymbols ss
-    go (Exists d) ex (Value p) es (row xs) er g =
+    go : (x : Option SheetDate) → date_in (first_column text) ≡ x → (s : Symbol) → symbol_in Pump (first_column (other_columns text)) ≡ s
+        → (r : Row) → day_counts full (other_columns (other_columns text)) ≡ r → date_line x s r ≡ Ok ss → SheetSymbols ss
+    go (Some d) ex (Ok p) es (Ok xs) er g =
         let same : xs ++ symbols_read d p ≡ ss = cc in
         subst SheetSymbols same
         (line-symbols xs (day-counts-are full (other_columns (other_columns text)) xs er) d (date-dated (first_column text) d ex) p
         (symbol-below Pump (first_column (other_columns text)) p es))
-    go (Exists d) ex (Value p) es (bad f) er g = let z : ◌≡◌ {A = ℕ} 0 1 = cc in absurd (omega arith)
-    go (Exists d) ex (Wrong f) es r er g = let z : ◌≡◌ {A = ℕ} 0 1 = cc in absurd (omega arith)
-    go Missing ex s es r er g = let z : ◌≡◌ {A = ℕ} 0 1 = cc in absurd (omega arith)
+    go (Some d) ex (Ok p) es (Err f) er g = let z : ◌≡◌ {A = ℕ} 0 1 = cc in absurd (omega arith)
+    go (Some d) ex (Err f) es r er g = let z : ◌≡◌ {A = ℕ} 0 1 = cc in absurd (omega arith)
+    go None ex s es r er g = let z : ◌≡◌ {A = ℕ} 0 1 = cc in absurd (omega arith)
 
-columns-sheet : (full : Bool) (text ss : List ℕ) → columns_in full text ≡ sheet ss → SheetSymbols ss
+columns-sheet : (full : Bool) (text ss : List ℕ) → columns_in full text ≡ Ok ss → SheetSymbols ss
 unfolding columns_in
 columns-sheet false text ss e = day-sheet false text ss e
 columns-sheet true text ss e = go (is_decimal 20 (first_column text)) e
   where
-    go : (b : Bool) → cond b (day_read true (other_columns text)) (wrong Number) ≡ sheet ss → SheetSymbols ss
+    go : (b : Bool) → cond b (day_read true (other_columns text)) (Err Number) ≡ Ok ss → SheetSymbols ss
     go true g = day-sheet true (other_columns text) ss g
     go false g = let z : ◌≡◌ {A = ℕ} 0 1 = cc in absurd (omega arith)
 
-pub read-sheet : (full : Bool) (line ss : List ℕ) → read_line full line ≡ sheet ss → SheetSymbols ss
+pub read-sheet : (full : Bool) (line ss : List ℕ) → read_line full line ≡ Ok ss → SheetSymbols ss
 unfolding read_line
 read-sheet full line ss e = go (eqb (column_count (trimmed line)) (columns_of full)) e
   where
-    go : (b : Bool) → cond b (columns_in full (trimmed line)) (wrong Columns) ≡ sheet ss → SheetSymbols ss
+    go : (b : Bool) → cond b (columns_in full (trimmed line)) (Err Columns) ≡ Ok ss → SheetSymbols ss
     go true g = columns-sheet full (trimmed line) ss g
     go false g = let z : ◌≡◌ {A = ℕ} 0 1 = cc in absurd (omega arith)
-
--- what read_line has told: where it answers that there is a sheet, the symbols beside it are a sheet's
-pub told-symbols : (full : Bool) (line : List ℕ) (r : Reading) → r ≡ told_by (read_line full line) → r.answer ≡ Sheet → SheetSymbols r.symbols
-told-symbols full line r e a = go (read_line full line) refl e
-  where
-    go : (x : Line) → read_line full line ≡ x → r ≡ told_by x → SheetSymbols r.symbols
-    go (sheet ss) f g = subst SheetSymbols (sym (ap (λ (y : Reading). y.symbols) g)) (read-sheet full line ss f)
-    go (wrong f) h g = let z : ◌≡◌ {A = ℕ} 0 1 = cc (ap (λ (y : Reading). y.answer) g) in absurd (omega arith)

@@ -1,6 +1,7 @@
 -- Printed numbers and dates: which bytes they do not have, and that they are read back. Assumes nothing.
 use Rattle.field.proofs.Base.{◌≡◌, refl, ap, ap₂, ◌∙◌, Bool, true, false, cond, ◌&&◌, List, [], ◌∷◌, ◌++◌, ℕ, zero, suc, ◌+◌, ◌-◌, ◌*◌, ◌/◌, ◌%◌, ◌≤◌}
 use Rattle.field.proofs.Base.{◌<◌, arith, eq-eqb, ne_eqb, eqb-true, eqb-false, lt-ltb, le-leb, ltb-true, eqb, ltb, length, length-append}
+use Rattle.std.proofs.Common.{Ok, Err, Some, None, Option}
 use Rattle.field.specs.Field.{order}
 use Rattle.field.proofs.Ask.{and-true-left, and-true-right}
 use Rattle.code.specs.Word.{at}
@@ -12,12 +13,9 @@ use Rattle.sheet.specs.Sheet.{sheet_width, year_at, month_at, day_at}
 use Rattle.report.specs.Window.{date_of}
 use Rattle.report.specs.Table.{two_digits, date_text, hyphen}
 use Rattle.card_csv.specs.declared.Fault.{Fault}
-use Rattle.card_csv.specs.declared.fields.Symbol.{Symbol}
-use Rattle.card_csv.specs.declared.fields.Symbol.TheVariants.{Value, Wrong}
-use Rattle.card_csv.specs.declared.fields.DateColumn.{DateColumn}
-use Rattle.card_csv.specs.declared.fields.DateColumn.TheVariants.{Exists, Missing}
-use Rattle.card_csv.specs.Reading.{is_digit, all_digits, is_decimal, decimal_from, symbol_in, two_at, year_in, date_from, has_hyphens, date_in}
-use Rattle.card_csv.proofs.Digits.{tens-ones, two_digits_lem, year-digits, month-most, day-most}
+use Rattle.card_csv.specs.declared.fields.SheetDate.{SheetDate}
+use Rattle.card_csv.specs.Reading.{is_digit, all_digits, is_decimal, decimal_from, Symbol, symbol_in, two_at, hundreds, year_in, date_from, date_of_parts, has_hyphens, date_in}
+use Rattle.card_csv.proofs.Digits.{tens-ones, two_digits_lem, year_digits, month-most, day-most}
 
 -- ---- bytes that a text does not have
 
@@ -127,13 +125,13 @@ decimal-number n =
 -- ---- a symbol is read back: a test that is computed
 
 is_value : ℕ → Symbol → Bool
-is_value n (Value m) = eqb m n
-is_value n (Wrong f) = false
+is_value n (Ok m) = eqb m n
+is_value n (Err f) = false
 
-value-is : (n : ℕ) (s : Symbol) → is_value n s ≡ true → s ≡ Value n
+value-is : (n : ℕ) (s : Symbol) → is_value n s ≡ true → s ≡ Ok n
 unfolding is_value
-value-is n (Value m) e = ap Value (eqb-true m n e)
-value-is n (Wrong f) e = let z : ◌≡◌ {A = ℕ} 0 1 = cc in absurd (omega arith)
+value-is n (Ok m) e = ap Ok (eqb-true m n e)
+value-is n (Err f) e = let z : ◌≡◌ {A = ℕ} 0 1 = cc in absurd (omega arith)
 
 back_below : Fault → ℕ → Bool
 back_below f zero = true
@@ -143,30 +141,30 @@ all_back : (f : Fault) → back_below f 128 ≡ true
 unfolding back_below is_value symbol_in is_decimal all_digits is_digit decimal_from digits_from
 all_back f = refl
 
-each_back : (f : Fault) (k n : ℕ) → back_below f k ≡ true → n < k → symbol_in f (decimal n) ≡ Value n
+each_back : (f : Fault) (k n : ℕ) → back_below f k ≡ true → n < k → symbol_in f (decimal n) ≡ Ok n
 unfolding back_below
 each_back f zero n e h = absurd (omega arith)
 each_back f (suc k) n e h =
     go (eqb n k) refl (each_back f k n (and-true-right (is_value k (symbol_in f (decimal k))) (back_below f k) e))
     (value-is k _ (and-true-left (is_value k (symbol_in f (decimal k))) (back_below f k) e))
   where
-    go : (b : Bool) → eqb n k ≡ b → (n < k → symbol_in f (decimal n) ≡ Value n) → symbol_in f (decimal k) ≡ Value k → symbol_in f (decimal n) ≡ Value n
+    go : (b : Bool) → eqb n k ≡ b → (n < k → symbol_in f (decimal n) ≡ Ok n) → symbol_in f (decimal k) ≡ Ok k → symbol_in f (decimal n) ≡ Ok n
     go true t lower here = rw (eqb-true n k t) here
     go false t lower here = lower (omega (arith, eqb-false n k t))
 
-pub symbol-back : (f : Fault) (n : ℕ) → n < 128 → symbol_in f (decimal n) ≡ Value n
+pub symbol-back : (f : Fault) (n : ℕ) → n < 128 → symbol_in f (decimal n) ≡ Ok n
 symbol-back f n h = each_back f 128 n (all_back f) h
 
 -- ---- a date is read back
 
 -- the digits of n stand at place i
-two_back : (xs : List ℕ) (i n : ℕ) → n < 100 → at xs i ≡ 48 + n / 10 → at xs (i + 1) ≡ 48 + n % 10 → two_at xs i ≡ n
+two_back : (xs : List ℕ) (i n : ℕ) → n < 100 → at xs i ≡ 48 + n / 10 → at xs (i + 1) ≡ 48 + n % 10 → two_at xs i ≡ Some n
 unfolding two_at
 two_back xs i n h a b =
     let first : is_digit (at xs i) ≡ true = ap is_digit a ∙ digit-is (n / 10) (omega arith) in
     let second : is_digit (at xs (i + 1)) ≡ true = ap is_digit b ∙ digit-is (n % 10) (omega arith) in
     let value : (at xs i - 48) * 10 + (at xs (i + 1) - 48) ≡ n = omega (arith, a, b) in
-    ap₂ (λ (p q : Bool). cond (p && q) ((at xs i - 48) * 10 + (at xs (i + 1) - 48)) 100) first second ∙ value
+    ap₂ (λ (p q : Bool). cond (p && q) (Some ((at xs i - 48) * 10 + (at xs (i + 1) - 48))) None) first second ∙ ap Some value
 
 module _ (y mo d : ℕ) (low : y < 128) (e : date_exists y mo d ≡ true) where
   -- the ten bytes
@@ -179,25 +177,24 @@ module _ (y mo d : ℕ) (low : y < 128) (e : date_exists y mo d ≡ true) where
   date-bytes =
       let month = month-most y mo d e in
       let day = day-most y mo d e in
-      ap₂ (λ (a b : List ℕ). a ++ (hyphen ∷ two_digits mo ++ (hyphen ∷ b))) (year-digits y (omega arith)) (two_digits_lem d (omega (arith, day)))
+      ap₂ (λ (a b : List ℕ). a ++ (hyphen ∷ two_digits mo ++ (hyphen ∷ b))) (year_digits y (omega arith)) (two_digits_lem d (omega (arith, day)))
       ∙ ap₂ (λ (a b : List ℕ). (a ++ b) ++ (hyphen ∷ two_digits mo ++ (hyphen ∷ tens-ones d))) (two_digits_lem (20 + y / 100) (omega arith))
       (two_digits_lem (y % 100) (omega arith))
       ∙ ap (λ (b : List ℕ). (tens-ones (20 + y / 100) ++ tens-ones (y % 100)) ++ (hyphen ∷ b ++ (hyphen ∷ tens-ones d)))
       (two_digits_lem mo (omega (arith, month)))
 
-  year-back : year_in bytes ≡ y + 2000
+  year-back : year_in bytes ≡ Some (y + 2000)
   unfolding year_in bytes
   year-back =
-      let a : two_at bytes 0 ≡ 20 + y / 100 = two_back bytes 0 (20 + y / 100) (omega arith) refl refl in
-      let b : two_at bytes 2 ≡ y % 100 = two_back bytes 2 (y % 100) (omega arith) refl refl in
+      let a : two_at bytes 0 ≡ Some (20 + y / 100) = two_back bytes 0 (20 + y / 100) (omega arith) refl refl in
+      let b : two_at bytes 2 ≡ Some (y % 100) = two_back bytes 2 (y % 100) (omega arith) refl refl in
       let value : (20 + y / 100) * 100 + y % 100 ≡ y + 2000 = omega arith in
-      ap₂ (λ (m n : ℕ). cond (ltb n 100) (m * 100 + n) 0) a b
-      ∙ ap (λ (t : Bool). cond t ((20 + y / 100) * 100 + y % 100) 0) (lt-ltb (y % 100) 100 (omega arith)) ∙ value
+      ap₂ hundreds a b ∙ ap Some value
 
-  abbrev shown : ℕ → Bool → DateColumn
-  shown n b = cond b (Exists (record { year = n; month = mo; day = d })) Missing
+  abbrev shown : ℕ → Bool → Option SheetDate
+  shown n b = cond b (Some (record { year = n; month = mo; day = d })) None
 
-  from_back : date_from (y + 2000) mo d ≡ Exists (record { year = y; month = mo; day = d })
+  from_back : date_from (y + 2000) mo d ≡ Some (record { year = y; month = mo; day = d })
   unfolding date_from
   from_back =
       let less : y + 2000 - epoch ≡ y = omega arith in
@@ -206,12 +203,12 @@ module _ (y mo d : ℕ) (low : y < 128) (e : date_exists y mo d ≡ true) where
       ∙ ap (λ (n : ℕ). shown n (date_exists n mo d)) less
       ∙ ap (shown y) e
 
-  bytes_back : date_in bytes ≡ Exists (record { year = y; month = mo; day = d })
+  bytes_back : date_in bytes ≡ Some (record { year = y; month = mo; day = d })
   unfolding date_in has_hyphens bytes
   bytes_back =
-      let month : two_at bytes 5 ≡ mo = two_back bytes 5 mo (omega (arith, month-most y mo d e)) refl refl in
-      let day : two_at bytes 8 ≡ d = two_back bytes 8 d (omega (arith, day-most y mo d e)) refl refl in
-      ap (λ (n : ℕ). date_from n (two_at bytes 5) (two_at bytes 8)) year-back ∙ ap₂ (date_from (y + 2000)) month day ∙ from_back
+      let month : two_at bytes 5 ≡ Some mo = two_back bytes 5 mo (omega (arith, month-most y mo d e)) refl refl in
+      let day : two_at bytes 8 ≡ Some d = two_back bytes 8 d (omega (arith, day-most y mo d e)) refl refl in
+      ap (λ (n : Option ℕ). date_of_parts n (two_at bytes 5) (two_at bytes 8)) year-back ∙ ap₂ (date_of_parts (Some (y + 2000))) month day ∙ from_back
 
-  pub date-back : date_in (decimal (y + 2000) ++ (hyphen ∷ two_digits mo ++ (hyphen ∷ two_digits d))) ≡ Exists (record { year = y; month = mo; day = d })
+  pub date-back : date_in (decimal (y + 2000) ++ (hyphen ∷ two_digits mo ++ (hyphen ∷ two_digits d))) ≡ Some (record { year = y; month = mo; day = d })
   date-back = ap date_in date-bytes ∙ bytes_back

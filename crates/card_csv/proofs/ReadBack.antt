@@ -2,6 +2,7 @@
 use Rattle.field.proofs.Base.{◌≡◌, refl, sym, ap, ap₂, ◌∙◌, subst, Bool, true, false, cond, List, [], ◌∷◌, ◌++◌, append-nil, ℕ, zero, suc, ◌+◌, ◌-◌}
 use Rattle.field.proofs.Base.{◌<◌, arith, eq-eqb, ne_eqb, eqb, length, get_or, take, drop, take-append-drop, length-take, drop_of_length-le, get_or-take}
 use Rattle.field.proofs.Base.{drop-cons}
+use Rattle.std.proofs.Common.{Ok, Err, Some, Option}
 use Rattle.code.specs.Word.{at}
 use Rattle.code.specs.Demands.{occurs}
 use Rattle.card.specs.Listing.{decimal}
@@ -10,15 +11,10 @@ use Rattle.sheet.specs.Demands.{SheetSymbols}
 use Rattle.report.specs.Window.{date_of}
 use Rattle.report.specs.Table.{date_text}
 use Rattle.card_csv.specs.declared.Fault.TheVariants.{Columns, Number, Pump, Count}
-use Rattle.card_csv.specs.declared.fields.Symbol.{Symbol}
-use Rattle.card_csv.specs.declared.fields.Symbol.TheVariants.{Value}
 use Rattle.card_csv.specs.declared.fields.SheetDate.{SheetDate}
-use Rattle.card_csv.specs.declared.fields.DateColumn.{DateColumn}
-use Rattle.card_csv.specs.declared.fields.DateColumn.TheVariants.{Exists}
 use Rattle.card_csv.specs.Text.{separator, count_columns, sheet_columns}
 use Rattle.card_csv.specs.Reading.{carriage_return, trimmed, column_count, columns_of, first_column, other_columns, is_decimal, symbol_in, date_in}
-use Rattle.card_csv.specs.Reading.{Row, row, bad, counted_row, read_counts, day_counts, sheet, wrong, symbols_read, date_line, day_read}
-use Rattle.card_csv.specs.Reading.{columns_in, read_line}
+use Rattle.card_csv.specs.Reading.{Symbol, Row, counted_row, read_counts, day_counts, symbols_read, date_line, day_read, columns_in, read_line}
 use Rattle.card_csv.specs.RoundTrip.{short_columns}
 use Rattle.card_csv.proofs.Cutting.{trimmed-none, trimmed-plain}
 use Rattle.card_csv.proofs.Printed.{Lacks, occurs-append, lacks-append, lacks-cons, lacks-first, lacks_rest, lacks-decimal, lacks-date}
@@ -68,22 +64,22 @@ abbrev pub AllBelow : List ℕ → Type 0
 AllBelow [] = Unit
 AllBelow (x ∷ xs) = (x < 128) × AllBelow xs
 
-counts-back : (x : ℕ) (xs : List ℕ) → x < 128 → AllBelow xs → read_counts (suc (length xs)) (decimal x ++ count_columns xs) ≡ row (x ∷ xs)
+counts-back : (x : ℕ) (xs : List ℕ) → x < 128 → AllBelow xs → read_counts (suc (length xs)) (decimal x ++ count_columns xs) ≡ Ok (x ∷ xs)
 unfolding read_counts count_columns
 counts-back x [] h b =
     let l = lacks-decimal separator (omega arith) x in
     let alone : first_column (decimal x ++ []) ≡ decimal x = ap first_column (append-nil (decimal x)) ∙ first-last (decimal x) l in
-    ap (λ (s : Symbol). counted_row s (row [])) (ap (symbol_in Count) alone ∙ symbol-back Count x h)
+    ap (λ (s : Symbol). counted_row s (Ok [])) (ap (symbol_in Count) alone ∙ symbol-back Count x h)
 counts-back x (y ∷ ys) h b =
     let l = lacks-decimal separator (omega arith) x in
     let rest = decimal y ++ count_columns ys in
     ap₂ (λ (s : Symbol) (zs : List ℕ). counted_row s (read_counts (suc (length ys)) zs))
     (ap (symbol_in Count) (first_of rest (decimal x) l) ∙ symbol-back Count x h) (others-of rest (decimal x) l)
-    ∙ ap (counted_row (Value x)) (counts-back y ys b.0 b.1)
+    ∙ ap (counted_row (Ok x)) (counts-back y ys b.0 b.1)
 
 -- behind a number, which they follow with a separator
 pub counts_behind : (n : ℕ) (xs : List ℕ) → 0 < length xs → AllBelow xs
-    → read_counts (length xs) (other_columns (decimal n ++ count_columns xs)) ≡ row xs
+    → read_counts (length xs) (other_columns (decimal n ++ count_columns xs)) ≡ Ok xs
 unfolding count_columns
 counts_behind n [] h b = absurd (omega arith)
 counts_behind n (x ∷ xs) h b =
@@ -140,37 +136,37 @@ module _ (ss : List ℕ) (S : SheetSymbols ss) where
       subst (λ (x : ℕ). x < 128) (sym (get_or-take quarters ss i 0 inside)) (S.symbols i (omega arith)))
 
   -- date, pump and what follows
-  module _ (full : Bool) (rest : List ℕ) (e : day_counts full rest ≡ row (take quarters ss)) where
-    pub day-back : day_read full (date_text (date_of ss) ++ (separator ∷ decimal (at ss pump_at) ++ (separator ∷ rest))) ≡ sheet ss
+  module _ (full : Bool) (rest : List ℕ) (e : day_counts full rest ≡ Ok (take quarters ss)) where
+    pub day-back : day_read full (date_text (date_of ss) ++ (separator ∷ decimal (at ss pump_at) ++ (separator ∷ rest))) ≡ Ok ss
     unfolding day_read date_text
     day-back =
         let date = lacks-date separator (omega arith) ss in
         let pump = lacks-decimal separator (omega arith) (at ss pump_at) in
         let behind = decimal (at ss pump_at) ++ (separator ∷ rest) in
         let others : other_columns (date_text (date_of ss) ++ (separator ∷ behind)) ≡ behind = others-of behind (date_text (date_of ss)) date in
-        let first : date_in (first_column (date_text (date_of ss) ++ (separator ∷ behind))) ≡ Exists date_is =
+        let first : date_in (first_column (date_text (date_of ss) ++ (separator ∷ behind))) ≡ Some date_is =
         ap date_in (first_of behind (date_text (date_of ss)) date)
         ∙ date-back (at ss year_at) (at ss month_at) (at ss day_at) (S.symbols year_at (omega arith)) S.date in
-        let second : symbol_in Pump (first_column (other_columns (date_text (date_of ss) ++ (separator ∷ behind)))) ≡ Value (at ss pump_at) =
+        let second : symbol_in Pump (first_column (other_columns (date_text (date_of ss) ++ (separator ∷ behind)))) ≡ Ok (at ss pump_at) =
         ap (λ (xs : List ℕ). symbol_in Pump (first_column xs)) others ∙ ap (symbol_in Pump) (first_of rest (decimal (at ss pump_at)) pump)
         ∙ symbol-back Pump (at ss pump_at) (S.symbols pump_at (omega arith)) in
-        let third : day_counts full (other_columns (other_columns (date_text (date_of ss) ++ (separator ∷ behind)))) ≡ row (take quarters ss) =
+        let third : day_counts full (other_columns (other_columns (date_text (date_of ss) ++ (separator ∷ behind)))) ≡ Ok (take quarters ss) =
         ap (λ (xs : List ℕ). day_counts full (other_columns xs)) others ∙ ap (day_counts full) (others-of rest (decimal (at ss pump_at)) pump) ∙ e in
-        ap₂ (λ (x : DateColumn) (r : Row). date_line x (symbol_in Pump (first_column (other_columns (date_text (date_of ss) ++ (separator ∷ behind))))) r)
+        ap₂ (λ (x : Option SheetDate) (r : Row). date_line x (symbol_in Pump (first_column (other_columns (date_text (date_of ss) ++ (separator ∷ behind))))) r)
         first third
-        ∙ ap (λ (s : Symbol). date_line (Exists date_is) s (row (take quarters ss))) second
-        ∙ ap (λ (xs : List ℕ). sheet (take quarters ss ++ xs)) (sym day-behind)
-        ∙ ap sheet (take-append-drop quarters ss)
+        ∙ ap (λ (s : Symbol). date_line (Some date_is) s (Ok (take quarters ss))) second
+        ∙ ap (λ (xs : List ℕ). Ok (take quarters ss ++ xs)) (sym day-behind)
+        ∙ ap Ok (take-append-drop quarters ss)
 
 -- ---- whole lines
 
 -- a line without a carriage return and with the right number of columns
-line-back : (full : Bool) (line ss : List ℕ) → Lacks carriage_return line → column_count line ≡ columns_of full → columns_in full line ≡ sheet ss
-    → read_line full line ≡ sheet ss
+line-back : (full : Bool) (line ss : List ℕ) → Lacks carriage_return line → column_count line ≡ columns_of full → columns_in full line ≡ Ok ss
+    → read_line full line ≡ Ok ss
 unfolding read_line
 line-back full line ss l n e =
-    ap (λ (xs : List ℕ). cond (eqb (column_count xs) (columns_of full)) (columns_in full xs) (wrong Columns)) (trimmed-same line l)
-    ∙ ap (λ (b : Bool). cond b (columns_in full line) (wrong Columns)) (eq-eqb (column_count line) (columns_of full) n)
+    ap (λ (xs : List ℕ). cond (eqb (column_count xs) (columns_of full)) (columns_in full xs) (Err Columns)) (trimmed-same line l)
+    ∙ ap (λ (b : Bool). cond b (columns_in full line) (Err Columns)) (eq-eqb (column_count line) (columns_of full) n)
     ∙ e
 
 module _ (ss : List ℕ) (S : SheetSymbols ss) where
@@ -204,13 +200,13 @@ module _ (ss : List ℕ) (S : SheetSymbols ss) where
     counts-part : List ℕ
     counts-part = separator ∷ decimal k ++ count_columns (take quarters ss)
 
-    part-back : day_read true (day_part counts-part) ≡ sheet ss
+    part-back : day_read true (day_part counts-part) ≡ Ok ss
     unfolding day_part counts-part day_counts
     part-back =
         day-back ss S true (decimal k ++ count_columns (take quarters ss))
-        (ap (λ (c : List ℕ). cond (is_decimal 20 c) (read_counts quarters (other_columns (decimal k ++ count_columns (take quarters ss)))) (bad Number))
+        (ap (λ (c : List ℕ). cond (is_decimal 20 c) (read_counts quarters (other_columns (decimal k ++ count_columns (take quarters ss)))) (Err Number))
         (first-behind k (take quarters ss) some)
-        ∙ ap (λ (b : Bool). cond b (read_counts quarters (other_columns (decimal k ++ count_columns (take quarters ss)))) (bad Number)) (decimal-number k)
+        ∙ ap (λ (b : Bool). cond b (read_counts quarters (other_columns (decimal k ++ count_columns (take quarters ss)))) (Err Number)) (decimal-number k)
         ∙ ap (λ (m : ℕ). read_counts m (other_columns (decimal k ++ count_columns (take quarters ss)))) (sym (counts-long ss S))
         ∙ counts_behind k (take quarters ss) some (counts-below ss S))
 
@@ -235,14 +231,14 @@ module _ (ss : List ℕ) (S : SheetSymbols ss) where
     unfolding sheet_columns day_part counts-part
     line-is = refl
 
-    line-columns : columns_in true (decimal n ++ (separator ∷ day_part counts-part)) ≡ sheet ss
+    line-columns : columns_in true (decimal n ++ (separator ∷ day_part counts-part)) ≡ Ok ss
     unfolding columns_in
     line-columns =
         let l = lacks-decimal separator (omega arith) n in
         let rest = day_part counts-part in
-        ap (λ (xs : List ℕ). cond (is_decimal 20 xs) (day_read true (other_columns (decimal n ++ (separator ∷ rest)))) (wrong Number))
+        ap (λ (xs : List ℕ). cond (is_decimal 20 xs) (day_read true (other_columns (decimal n ++ (separator ∷ rest)))) (Err Number))
         (first_of rest (decimal n) l)
-        ∙ ap (λ (b : Bool). cond b (day_read true (other_columns (decimal n ++ (separator ∷ rest)))) (wrong Number)) (decimal-number n)
+        ∙ ap (λ (b : Bool). cond b (day_read true (other_columns (decimal n ++ (separator ∷ rest)))) (Err Number)) (decimal-number n)
         ∙ ap (day_read true) (others-of rest (decimal n) l) ∙ part-back
 
     pub columns-lack-below : (c : ℕ) → c < 44 → Lacks c (sheet_columns n k ss)
@@ -251,7 +247,7 @@ module _ (ss : List ℕ) (S : SheetSymbols ss) where
         ∙ lacks-append c (decimal n) (separator ∷ day_part counts-part) (lacks-decimal c (omega arith) n)
         (lacks-cons c separator (day_part counts-part) (λ e. omega arith) (part-lacks c h counts-part (counts-lack c h)))
 
-    pub full_back : read_line true (sheet_columns n k ss) ≡ sheet ss
+    pub full_back : read_line true (sheet_columns n k ss) ≡ Ok ss
     unfolding occurs
     full_back =
         line-back true (sheet_columns n k ss) ss (columns-lack-below carriage_return (omega arith))
@@ -266,20 +262,20 @@ module _ (ss : List ℕ) (S : SheetSymbols ss) where
         (ap (columns_in true) line-is ∙ line-columns)
 
   -- without slot and changed places
-  short-part : (xs : List ℕ) → 0 < length xs → xs ≡ take quarters ss → day_read false (day_part (count_columns xs)) ≡ sheet ss
+  short-part : (xs : List ℕ) → 0 < length xs → xs ≡ take quarters ss → day_read false (day_part (count_columns xs)) ≡ Ok ss
   unfolding day_part count_columns day_counts
   short-part [] h e = absurd (omega arith)
   short-part (x ∷ xs) h e =
       let below : AllBelow (x ∷ xs) = subst AllBelow (sym e) (counts-below ss S) in
       let long : suc (length xs) ≡ quarters = ap length e ∙ counts-long ss S in
       day-back ss S false (decimal x ++ count_columns xs)
-      (ap (λ (m : ℕ). read_counts m (decimal x ++ count_columns xs)) (sym long) ∙ counts-back x xs below.0 below.1 ∙ ap row e)
+      (ap (λ (m : ℕ). read_counts m (decimal x ++ count_columns xs)) (sym long) ∙ counts-back x xs below.0 below.1 ∙ ap Ok e)
 
   short-is : short_columns ss ≡ day_part (count_columns (take quarters ss))
   unfolding short_columns day_part
   short-is = refl
 
-  pub short_back : read_line false (short_columns ss) ≡ sheet ss
+  pub short_back : read_line false (short_columns ss) ≡ Ok ss
   unfolding columns_in
   short_back =
       let counts = count_columns (take quarters ss) in

@@ -1,22 +1,22 @@
 -- Times and counts, column by column. Assumes nothing.
-use Rattle.field.proofs.Base.{◌≡◌, refl, sym, ap, ◌∙◌, List, [], ◌∷◌, ◌++◌, append_assoc, append-nil, ℕ, ◌+◌, ◌≤◌, ◌<◌, add-one, length, get_or, take}
+use Rattle.field.proofs.Base.{◌≡◌, refl, sym, ap, ◌∙◌, List, [], ◌∷◌, ◌++◌, append_assoc, append-nil, ℕ, ◌+◌, ◌<◌, add-one, length, get_or, take}
 use lib.Seq.{take-suc}
 use Rattle.card.specs.Listing.{decimal}
-use Rattle.card.specs.Placed.{Writes}
-use Rattle.card.proofs.Writing.{writes-none, writes-on}
+use Rattle.card.proofs.Writing.{appending}
 use Rattle.report.specs.Quarter.{clock_text}
 use Rattle.card_csv.specs.Text.{separator, time_columns, count_columns}
 
 -- ---- times
 
-pub times_none : (out : List ℕ) (i : ℕ) → i ≤ length out → Writes out i (time_columns 0) out i
+pub times_none : time_columns 0 ≡ []
 unfolding time_columns
-times_none out i h = writes-none out i h
+times_none = refl
 
-pub times_more : (n : ℕ) {a b c : List ℕ} {i j k : ℕ} → Writes a i (time_columns n) b j → Writes b j (separator ∷ clock_text n) c k
-    → Writes a i (time_columns (n + 1)) c k
+pub times_more : (n : ℕ) → time_columns (n + 1) ≡ time_columns n ++ (separator ∷ clock_text n)
 unfolding time_columns
-times_more n w v = rw (add-one n) (writes-on w v)
+times_more n = rw (add-one n) refl
+
+pub ruleset times_steps = (appending, times_none, times_more)
 
 -- ---- counts
 
@@ -31,14 +31,14 @@ columns-one : (x : ℕ) → count_columns (x ∷ []) ≡ separator ∷ decimal x
 unfolding count_columns
 columns-one x = ap (λ (l : List ℕ). separator ∷ l) (append-nil (decimal x))
 
-pub columns-none : (xs out : List ℕ) (i : ℕ) → i ≤ length out → Writes out i (count_columns (take 0 xs)) out i
+pub columns-none : count_columns [] ≡ []
 unfolding count_columns
-columns-none xs out i h = writes-none out i h
+columns-none = refl
 
-pub columns-more : (xs : List ℕ) (n : ℕ) → n < length xs → {a b c : List ℕ} {i j k : ℕ} → Writes a i (count_columns (take n xs)) b j
-    → Writes b j (separator ∷ decimal (get_or xs n 0)) c k → Writes a i (count_columns (take (n + 1) xs)) c k
-columns-more xs n h {a} {b} {c} {i} {j} {k} w v =
-    let more : count_columns (take (n + 1) xs) ≡ count_columns (take n xs) ++ (separator ∷ decimal (get_or xs n 0)) =
+pub columns-more : (xs : List ℕ) (n : ℕ) → n < length xs
+    → count_columns (take (n + 1) xs) ≡ count_columns (take n xs) ++ (separator ∷ decimal (get_or xs n 0))
+columns-more xs n h =
     rw (add-one n, take-suc xs n 0)
-    (columns-append (take n xs) (get_or xs n 0 ∷ []) ∙ ap (λ (l : List ℕ). count_columns (take n xs) ++ l) (columns-one (get_or xs n 0))) in
-    rw more (writes-on w v)
+    (columns-append (take n xs) (get_or xs n 0 ∷ []) ∙ ap (λ (l : List ℕ). count_columns (take n xs) ++ l) (columns-one (get_or xs n 0)))
+
+pub ruleset columns_steps = (appending, columns-none, columns-more)

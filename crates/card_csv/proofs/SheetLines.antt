@@ -6,82 +6,39 @@ use lib.Dec.{lit≤}
 use Rattle.card.specs.Record.{erasure_bytes, record_size}
 use Rattle.card.specs.Slots.{record_count, record_at, is_blank, over_first, over_slots, Came}
 use Rattle.card.specs.Batch.{batch_records, batch_size as card_batch, most_batches}
-use Rattle.card.specs.Placed.{Writes}
+use Rattle.card.specs.Text.{Written, Appends}
 use Rattle.card.proofs.Folding.{over-more, over-map, in_parts}
-use Rattle.card.proofs.Writing.{writes-none, writes-on}
+use Rattle.card.proofs.Writing.{appends-on}
 use Rattle.report.specs.Day.{Day, sheet, no_sheet, day_of}
 use Rattle.card_csv.specs.declared.Counts.{Counts}
-use Rattle.card_csv.specs.declared.lines.Listed.{Listed}
-use Rattle.card_csv.specs.Text.{sheet_line, day_line, slot_sheet, one_sheet, one_other, blank_tally, day_counted, slot_tallied}
+use Rattle.card_csv.specs.Text.{slot_sheet, blank_tally, day_counted, slot_tallied}
 use Rattle.card_csv.specs.Text.{SheetsTold, slot_sheet_told, sheets_untold, part_sheets, part_counts, untallied}
-use Rattle.card_csv.specs.Batch.{ListsSheets}
 use Rattle.card_csv.specs.inner.Room.{TallyWithin}
-
--- ---- one slot
-
--- a record whose day is d is listed as a sheet, or as none
-module _ (used n : ℕ) (s : Counts) (d : Day) {old : List ℕ} where
-  pub lists-sheet : {new : List ℕ} (k : ℕ) (ss : List ℕ) → d ≡ sheet k ss → (next : ℕ) → Writes old used (sheet_line n k ss) new next
-      → (c : Counts) → c ≡ one_sheet s → ListsSheets used (day_line n d) (day_counted s d) old (record { used = next; counts = c }) new
-  lists-sheet k ss e next w c ec = rw e (record { text = w; counts = ec })
-
-  pub lists-other : (q : ℕ) → d ≡ no_sheet q → used ≤ length old → (c : Counts) → c ≡ one_other s
-      → ListsSheets used (day_line n d) (day_counted s d) old (record { used = used; counts = c }) old
-  lists-other q e h c ec = rw e (record { text = writes-none old used h; counts = ec })
-
--- a slot is blank, or has a record
-module _ (slot : List ℕ) (b : Bool) (e : b ≡ is_blank slot) (done : Listed) {old : List ℕ} where
-  pub lists-blank : b ≡ true → done.used ≤ length old → (c : Counts) → c ≡ blank_tally done.counts
-      → ListsSheets done.used (slot_sheet done.counts.next slot) (slot_tallied done.counts slot) old
-      (record { used = done.used; counts = c }) old
-  lists-blank t h c ec =
-      let f : is_blank slot ≡ true = sym e ∙ t in
-      rw f (record { text = writes-none old done.used h; counts = ec })
-
-  pub lists-record : {new : List ℕ} → b ≡ false → (next : Listed)
-      → ListsSheets done.used (day_line done.counts.next (day_of slot)) (day_counted done.counts (day_of slot)) old next new
-      → ListsSheets done.used (slot_sheet done.counts.next slot) (slot_tallied done.counts slot) old next new
-  lists-record t next l = let f : is_blank slot ≡ false = sym e ∙ t in rw f l
 
 -- ---- slot by slot
 
 -- with a slot more
-lists-on : (t : SheetsTold) (slot : List ℕ) {done next : Listed} {a b c : List ℕ} → ListsSheets 0 t.text t.counts a done b
-    → ListsSheets done.used (slot_sheet done.counts.next slot) (slot_tallied done.counts slot) b next c
-    → ListsSheets 0 (slot_sheet_told t slot).text (slot_sheet_told t slot).counts a next c
-lists-on t slot w v =
-    record {
-      text = rw (← w.counts) (writes-on w.text v.text);
-      counts = v.counts ∙ ap (λ (u : Counts). slot_tallied u slot) w.counts;
-    }
+lists-on : (t : SheetsTold) (slot : List ℕ) {u next : Counts} {a b c : Written} → Appends a t.text b → u ≡ t.counts
+    → Appends b (slot_sheet u.next slot) c → next ≡ slot_tallied u slot
+    → Appends a (slot_sheet_told t slot).text c × (next ≡ (slot_sheet_told t slot).counts)
+lists-on t slot w p v q = (rw (← p) (appends-on w v), q ∙ ap (λ (u : Counts). slot_tallied u slot) p)
 
 -- the first i slots of a batch
 module _ (s : Counts) (batch : List ℕ) where
   abbrev pub told_first : ℕ → SheetsTold
   told_first i = over_first erasure_bytes slot_sheet_told (sheets_untold s) batch i
 
-  pub lists-none : (out : List ℕ) → ListsSheets 0 (told_first 0).text (told_first 0).counts out (record { used = 0; counts = s }) out
-  unfolding over_first
-  lists-none out = record { text = writes-none out 0 (omega arith); counts = refl }
-
-  pub lists-more : (i : ℕ) (slot : List ℕ) → slot ≡ record_at batch i → {done next : Listed} {a b c : List ℕ}
-      → ListsSheets 0 (told_first i).text (told_first i).counts a done b
-      → ListsSheets done.used (slot_sheet done.counts.next slot) (slot_tallied done.counts slot) b next c
-      → ListsSheets 0 (told_first (i + 1)).text (told_first (i + 1)).counts a next c
-  lists-more i slot e {done} {next} {a} {b} {c} w v =
-      subst (λ (t : SheetsTold). ListsSheets 0 t.text t.counts a next c)
-      (ap (slot_sheet_told (told_first i)) e ∙ over-more erasure_bytes slot_sheet_told (sheets_untold s) batch i) (lists-on (told_first i) slot w v)
+  pub lists-more : (i : ℕ) (slot : List ℕ) → slot ≡ record_at batch i → {u next : Counts} {a b c : Written}
+      → Appends a (told_first i).text b → u ≡ (told_first i).counts
+      → Appends b (slot_sheet u.next slot) c → next ≡ slot_tallied u slot
+      → Appends a (told_first (i + 1)).text c × (next ≡ (told_first (i + 1)).counts)
+  lists-more i slot e {u} {next} {a} {b} {c} w p v q =
+      subst (λ (t : SheetsTold). Appends a t.text c × (next ≡ t.counts))
+      (ap (slot_sheet_told (told_first i)) e ∙ over-more erasure_bytes slot_sheet_told (sheets_untold s) batch i) (lists-on (told_first i) slot w p v q)
 
   -- what has been counted
   pub told-counts : (i : ℕ) → (over_first erasure_bytes slot_sheet_told (sheets_untold s) batch i).counts ≡ over_first erasure_bytes slot_tallied s batch i
   told-counts i = over-map erasure_bytes slot_sheet_told slot_tallied (λ (t : SheetsTold). t.counts) (λ t slot. refl) (sheets_untold s) batch i
-
-  pub lists-end : (i : ℕ) → i ≡ record_count (length batch) → {r : Listed} {old new : List ℕ}
-      → ListsSheets 0 (told_first i).text (told_first i).counts old r new → ListsSheets 0 (part_sheets s batch) (part_counts s batch) old r new
-  lists-end i e {r} {old} {new} L =
-      let M : ListsSheets 0 (told_first i).text (over_first erasure_bytes slot_tallied s batch i) old r new =
-      record { text = L.text; counts = L.counts ∙ told-counts i } in
-      rw e at M
 
 -- ---- how far the counts grow
 

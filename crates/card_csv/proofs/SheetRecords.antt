@@ -1,8 +1,7 @@
 -- The record of a sheet: as it is made, and as it is read. Assumes nothing.
+use Rattle.std.proofs.Common.{Ok, Err}
+use Rattle.field.specs.Question.{Verdict, accepted}
 use Rattle.field.proofs.Base.{◌≡◌, refl, sym, ap, ap₂, ◌∙◌, Bool, true, false, ◌&&◌, List, [], ◌∷◌, ◌++◌, ℕ, ◌-◌, arith, eqb, length, replicate}
-use Rattle.field.specs.Question.{accepted}
-use Rattle.field.specs.declared.Verdict.{Verdict}
-use Rattle.field.specs.declared.Verdict.TheVariants.{Passed, Refused}
 use Rattle.code.specs.Word.{longest, Codeword}
 use Rattle.code.specs.Near.{radius}
 use Rattle.code.specs.Call.{written}
@@ -29,8 +28,8 @@ module _ (ss old : List ℕ) (size : length old ≡ longest) (v : Verdict) (new 
   word_kept = ap length W.word ∙ go (write_sheet_asked sheet_width ss (length old)) refl
     where
       go : (u : Verdict) → write_sheet_asked sheet_width ss (length old) ≡ u → length (written u old (sheet_word ss)) ≡ longest
-      go Passed e = word-long ss (write-means sheet_width ss old e).symbols
-      go (Refused q) e = size
+      go (Ok tt) e = word-long ss (write-means sheet_width ss old e).symbols
+      go (Err q) e = size
 
   -- behind the header of a record without erasures
   pub record-made : (bytes : List ℕ) → bytes ≡ (sheet_width ∷ 0 ∷ replicate erasure_bytes 255) ++ (new ++ [])
@@ -77,7 +76,7 @@ module _ (ss : List ℕ) (S : SheetSymbols ss) where
   unfolding day_of
   record-day =
       let word : word_of (sheet_record ss) ≡ sheet_word ss = clear-word sheet_width refl (sheet_word ss) codeword in
-      let asked : read_sheet_asked sheet_width (sheet_word ss) sheet_size ≡ Passed = read-passes (sheet_word ss) sheet_size (written-sheet ss S) refl in
+      let asked : read_sheet_asked sheet_width (sheet_word ss) sheet_size ≡ (Ok tt) = read-passes (sheet_word ss) sheet_size (written-sheet ss S) refl in
       ap₂ copy_day restored copied
       ∙ ap (λ (w : List ℕ). read_day (read_sheet_asked sheet_width w sheet_size) 0 (symbols_of w)) word
       ∙ ap₂ (λ (v : Verdict) (xs : List ℕ). read_day v 0 xs) asked (sheet-symbols ss S)

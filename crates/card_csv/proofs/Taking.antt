@@ -1,24 +1,17 @@
 -- A line that is taken: how long it is, if it is a sheet's, and what is made of it. Assumes nothing.
-use Rattle.field.proofs.Base.{◌≡◌, refl, ap, subst, Bool, true, false, cond, List, [], ◌∷◌, ℕ, suc, ◌+◌, ◌-◌, ◌*◌, ◌≤◌, arith, eq-eqb, ne_eqb}
+use Rattle.field.proofs.Base.{◌≡◌, refl, Bool, true, false, cond, List, [], ◌∷◌, ℕ, suc, ◌+◌, ◌-◌, ◌*◌, ◌≤◌, arith}
 use Rattle.field.proofs.Base.{eqb-true, eqb, length, get_or, take, length-take}
+use Rattle.std.proofs.Common.{Ok, Err}
 use Rattle.code.specs.Demands.{occurs}
 use Rattle.card.specs.Record.{record_size}
-use Rattle.card.specs.Placed.{Writes}
-use Rattle.card.proofs.Writing.{writes-none}
-use Rattle.card_csv.specs.declared.Answer.TheVariants.{Sheet, Wrong as WrongLine}
-use Rattle.card_csv.specs.declared.Fault.{Fault}
 use Rattle.card_csv.specs.declared.Fault.TheVariants.{Columns}
 use Rattle.card_csv.specs.declared.Header.{Header}
 use Rattle.card_csv.specs.declared.Header.TheVariants.{Full, Short, Other}
-use Rattle.card_csv.specs.declared.Reading.{Reading}
-use Rattle.card_csv.specs.declared.TextVerdict.TheVariants.{Fine, Wrong}
 use Rattle.card_csv.specs.declared.TextState.{TextState}
-use Rattle.card_csv.specs.declared.Made.{Made}
 use Rattle.card_csv.specs.Text.{separator}
-use Rattle.card_csv.specs.Reading.{carriage_return, trimmed, column_count, columns_of, columns_in, Line, sheet, wrong, read_line, header_in, told_by}
-use Rattle.card_csv.specs.Record.{sheet_record}
+use Rattle.card_csv.specs.Reading.{carriage_return, trimmed, column_count, columns_of, columns_in, Line, read_line, header_in}
 use Rattle.card_csv.specs.Making.{is_fine, header_read, sheet_read, line_read, line_record, line_made}
-use Rattle.card_csv.specs.inner.Taking.{shortest_line, TakesLine}
+use Rattle.card_csv.specs.inner.Taking.{shortest_line}
 use Rattle.card_csv.proofs.LineSheets.{read-sheet}
 use Rattle.card_csv.proofs.SheetRecords.{record-long}
 
@@ -45,11 +38,11 @@ columns-least : (full : Bool) → shortest_line + 1 ≤ columns_of full
 columns-least true = omega arith
 columns-least false = omega arith
 
-pub sheet-long : (full : Bool) (line ss : List ℕ) → read_line full line ≡ sheet ss → shortest_line ≤ length line
+pub sheet-long : (full : Bool) (line ss : List ℕ) → read_line full line ≡ Ok ss → shortest_line ≤ length line
 unfolding read_line
 sheet-long full line ss e = go (eqb (column_count (trimmed line)) (columns_of full)) refl e
   where
-    go : (b : Bool) → eqb (column_count (trimmed line)) (columns_of full) ≡ b → cond b (columns_in full (trimmed line)) (wrong Columns) ≡ sheet ss
+    go : (b : Bool) → eqb (column_count (trimmed line)) (columns_of full) ≡ b → cond b (columns_in full (trimmed line)) (Err Columns) ≡ Ok ss
         → shortest_line ≤ length line
     go true t g =
         omega (
@@ -77,8 +70,8 @@ made_of s line = go (is_fine s.verdict) (eqb s.lines 0) (read_line s.full line) 
     go : (a b : Bool) (x : Line) → read_line s.full line ≡ x → MadeOf line (cond a (cond b [] (line_record x)) [])
     go false b x e = none
     go true true x e = none
-    go true false (wrong f) e = none
-    go true false (sheet ss) e =
+    go true false (Err f) e = none
+    go true false (Ok ss) e =
         record {
           count = 1;
           size = omega (arith, record-long ss (read-sheet s.full line ss e));
@@ -96,51 +89,5 @@ line-counted s line = go (is_fine s.verdict) (eqb s.lines 0) (header_in line) (r
     go true true Full x = omega arith
     go true true Short x = omega arith
     go true true Other x = omega arith
-    go true false h (sheet ss) = omega arith
-    go true false h (wrong f) = omega arith
-
--- ---- what was read of a line
-
-module _ (full : Bool) (line : List ℕ) (r : Reading) (e : r ≡ told_by (read_line full line)) where
-  pub told_line : r.answer ≡ Sheet → sheet r.symbols ≡ read_line full line
-  told_line a = go (read_line full line) e
-    where
-      go : (x : Line) → r ≡ told_by x → sheet r.symbols ≡ x
-      go (sheet ss) g = ap sheet (ap (λ (y : Reading). y.symbols) g)
-      go (wrong f) g = let z : ◌≡◌ {A = ℕ} 0 1 = cc (ap (λ (y : Reading). y.answer) g) in absurd (omega arith)
-
-  pub told-fault : (f : Fault) → r.answer ≡ WrongLine f → wrong f ≡ read_line full line
-  told-fault f a = go (read_line full line) e
-    where
-      go : (x : Line) → r ≡ told_by x → wrong f ≡ x
-      go (sheet ss) g = let z : ◌≡◌ {A = ℕ} 0 1 = cc (ap (λ (y : Reading). y.answer) g) in absurd (omega arith)
-      go (wrong h) g = cc (ap (λ (y : Reading). y.answer) g)
-
--- ---- the line is taken
-
-pub written_as : {a b xs ys : List ℕ} {i j : ℕ} → xs ≡ ys → Writes a i xs b j → Writes a i ys b j
-written_as {a} {b} {xs} {ys} {i} {j} e w = subst (λ (zs : List ℕ). Writes a i zs b j) e w
-
-module _ (s : TextState) (end : ℕ) {used : ℕ} {old : List ℕ} where
-  pub takes-sheet : (x : Line) (ss : List ℕ) → sheet ss ≡ x → {new : List ℕ} {next : ℕ} → Writes old used (sheet_record ss) new next
-      → TakesLine (sheet_read s x) end (line_record x) used old
-      (record { state = record { full = s.full; lines = s.lines + 1; verdict = Fine }; taken = end; used = next }) new
-  takes-sheet x ss e w = record { state = ap (sheet_read s) e; taken = refl; records = written_as (ap line_record e) w }
-
-  pub takes-wrong : (x : Line) (f : Fault) → wrong f ≡ x → used ≤ length old
-      → TakesLine (sheet_read s x) end (line_record x) used old
-      (record { state = record { full = s.full; lines = s.lines + 1; verdict = Wrong f }; taken = end; used = used }) old
-  takes-wrong x f e h = record { state = ap (sheet_read s) e; taken = refl; records = written_as (ap line_record e) (writes-none old used h) }
-
-  module _ (fine : is_fine s.verdict ≡ true) (line : List ℕ) where
-    pub header-taken : s.lines ≡ 0 → used ≤ length old → {u : TextState} → u ≡ header_read s (header_in line)
-        → TakesLine (line_read s line) end (line_made s line) used old (record { state = u; taken = end; used = used }) old
-    unfolding line_read line_made
-    header-taken z h {u} e =
-        rw (fine, eq-eqb s.lines 0 z) (record { state = e; taken = refl; records = writes-none old used h })
-
-    pub sheet-taken : (s.lines ≡ 0 → ⊥) → {r : Made} {new : List ℕ}
-        → TakesLine (sheet_read s (read_line s.full line)) end (line_record (read_line s.full line)) used old r new
-        → TakesLine (line_read s line) end (line_made s line) used old r new
-    unfolding line_read line_made
-    sheet-taken z T = rw (fine, ne_eqb s.lines 0 z) T
+    go true false h (Ok ss) = omega arith
+    go true false h (Err f) = omega arith

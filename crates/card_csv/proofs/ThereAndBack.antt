@@ -1,5 +1,6 @@
 -- Cards of clean sheets and their texts: each is made of the other. Assumes nothing.
 use Rattle.field.proofs.Base.{◌≡◌, refl, sym, ap, ap₂, ◌∙◌, Bool, true, cond, List, [], ◌∷◌, ◌++◌, append_assoc, append-nil, ℕ, ◌+◌, arith, ne_eqb}
+use Rattle.std.proofs.Common.{Ok}
 use Rattle.code.specs.Demands.{occurs}
 use Rattle.card.specs.Slots.{over_first}
 use Rattle.card.specs.Listing.{digits_from, newline}
@@ -16,7 +17,6 @@ use Rattle.card_csv.specs.Text.{time_columns, header_with, sheets_header, sheet_
 use Rattle.card_csv.specs.Text.{slot_tallied, SheetsTold, slot_sheet_told, sheets_untold, part_sheets, part_counts, untallied, sheets_text}
 use Rattle.card_csv.specs.Reading.{trimmed, header_in}
 use Rattle.card_csv.specs.Record.{sheet_record}
-use Rattle.card_csv.specs.declared.TextVerdict.TheVariants.{Fine}
 use Rattle.card_csv.specs.declared.TextState.{TextState}
 use Rattle.card_csv.specs.Making.{lines_from, text_begun, header_read, line_read, line_made, lines_made, card_of}
 use Rattle.card_csv.specs.RoundTrip.{AllSheets, sheets_card, sheets_lines, canonical_text}
@@ -82,7 +82,7 @@ header-full = refl
 
 -- below a header with all columns, n lines were taken
 abbrev below : ℕ → TextState
-below n = record { full = true; lines = n + 1; verdict = Fine }
+below n = record { full = true; lines = n + 1; verdict = Ok tt }
 
 records-read : (m n : ℕ) (sheets : List (List ℕ)) → AllSheets sheets
     → lines_made (below m) (lines_from [] (sheets_lines n sheets)) ≡ sheets_card sheets

@@ -1,10 +1,7 @@
--- The text of a card in batches, into a buffer. Assumes nothing.
-use Rattle.std.specs.Prelude.{◌≡◌, List, ℕ, ◌+◌, ◌*◌}
+-- The text of a card in batches. Assumes nothing.
+use Rattle.std.specs.Prelude.{ℕ, ◌+◌, ◌*◌}
 use Rattle.card.specs.Record.{record_size}
-use Rattle.card.specs.Placed.{Writes}
 use Rattle.sheet.specs.Sheet.{quarters}
-use Rattle.card_csv.specs.declared.Counts.{Counts}
-use Rattle.card_csv.specs.declared.lines.Listed.{Listed}
 
 -- a batch has at most so many slots
 abbrev pub sheet_slots : ℕ
@@ -22,8 +19,3 @@ longest_sheet = 21 + 11 + 4 + 3 + quarters * 4 + 1
 -- the room that a batch's text needs
 abbrev pub longest_sheets : ℕ
 longest_sheets = sheet_slots * longest_sheet
-
--- the text xs is written behind what is used of the buffer, and s has been counted
-pub record ListsSheets (used : ℕ) (xs : List ℕ) (s : Counts) (old : List ℕ) (r : Listed) (new : List ℕ) : Type 0 where
-  pub text : Writes old used xs new r.used
-  pub counts : r.counts ≡ s

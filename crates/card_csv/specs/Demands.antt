@@ -1,12 +1,12 @@
 -- The demands on the text, as statements about the definitions. The calls' contracts say that they answer by these definitions;
 -- proofs/Demands.antt proves each statement under the same name in small letters. Assumes nothing.
-use Rattle.std.specs.Prelude.{◌≡◌, Bool, true, false, List, ◌++◌, ℕ, ◌*◌, length}
+use Rattle.std.specs.Prelude.{Ok, ◌≡◌, Bool, true, false, List, ◌++◌, ℕ, ◌*◌, length}
 use Rattle.card.specs.Record.{record_size}
 use Rattle.sheet.specs.Demands.{SheetSymbols}
 use Rattle.report.specs.Day.{sheet as sheet_day, day_of}
 use Rattle.card_csv.specs.declared.Counts.{Counts}
 use Rattle.card_csv.specs.Text.{sheet_columns, part_sheets, part_counts, sheets_text}
-use Rattle.card_csv.specs.Reading.{sheet, read_line}
+use Rattle.card_csv.specs.Reading.{read_line}
 use Rattle.card_csv.specs.Record.{sheet_record, record_made}
 use Rattle.card_csv.specs.Making.{card_of}
 use Rattle.card_csv.specs.RoundTrip.{short_columns, AllSheets, sheets_card, canonical_text}
@@ -21,15 +21,15 @@ InParts =
 
 -- what a line stands for are the symbols of a sheet
 abbrev pub LineSheet : Type 0
-LineSheet = (full : Bool) (line ss : List ℕ) → read_line full line ≡ sheet ss → SheetSymbols ss
+LineSheet = (full : Bool) (line ss : List ℕ) → read_line full line ≡ Ok ss → SheetSymbols ss
 
 -- a line that is printed is read back, whatever slot and changed places it has
 abbrev pub LineReadBack : Type 0
-LineReadBack = (n k : ℕ) (ss : List ℕ) → SheetSymbols ss → read_line true (sheet_columns n k ss) ≡ sheet ss
+LineReadBack = (n k : ℕ) (ss : List ℕ) → SheetSymbols ss → read_line true (sheet_columns n k ss) ≡ Ok ss
 
 -- so is a line without these two columns
 abbrev pub ShortReadBack : Type 0
-ShortReadBack = (ss : List ℕ) → SheetSymbols ss → read_line false (short_columns ss) ≡ sheet ss
+ShortReadBack = (ss : List ℕ) → SheetSymbols ss → read_line false (short_columns ss) ≡ Ok ss
 
 -- of the symbols of a sheet the record of that sheet is made
 abbrev pub RecordMade : Type 0

@@ -1,4 +1,4 @@
 -- Vocabulary of inner functions: no contract of a call, demand or stated theorem cites it. Assumes nothing.
 pub mod Room  -- how long texts and their parts are, and how far counts may grow
-pub mod Counts  -- a count that is read
+pub mod Numbered  -- columns behind a number
 pub mod Taking  -- a line of a text that is taken

@@ -1,8 +1,9 @@
-// Columns of a line, written into a lent buffer. No function here is an entry point: each requires room for its text, and answers the place
-// behind it.
+// Columns of a line. No function here is an entry point: each requires room for its text.
+#![tactic(auto, using(card::proofs::Writing::appending))]
+
 ghost use Rattle.std.specs.Prelude.{◌≡◌, ◌∷◌, ◌+◌, ◌*◌, ◌≤◌, ◌<◌, length, take};
 ghost use Rattle.card.specs.Listing.{decimal};
-ghost use Rattle.card.specs.Placed.{Writes};
+ghost use Rattle.card.specs.Text.{Appends};
 ghost use Rattle.sheet.specs.Sheet.{quarters};
 ghost use Rattle.sheet.specs.Demands.{SheetSymbols};
 ghost use Rattle.report.specs.Table.{two_digits, date_text};
@@ -11,121 +12,108 @@ ghost use Rattle.report.specs.Window.{date_of};
 ghost use Rattle.card_csv.specs.Text.{separator, time_columns, count_columns};
 ghost use Rattle.card_csv.specs.inner.Room.{small_size, clock_size, time_size, count_size, date_size};
 
-use card::text::put_byte;
+use card::text::Text;
 use sheet::{DAY, MONTH, QUARTERS, YEAR};
 
 // Writes the two digits of a number below 100.
-pub(crate) fn put_two(out: &mut [u8], at: usize, n: u8) -> usize
-    requires { (at + 2 ≤ length out.old) × (n < 100) }
-    ensures writes { Writes out.old at (two_digits n) out.new result }
-    ensures upper_bound { result ≤ at + 2 }
+#[tactic(auto, using(card::proofs::Writing::appending, crate::proofs::Digits::two_digits_lem))]
+pub(crate) fn put_two(out: &mut Text, n: u8)
+    requires { (2 ≤ out.old.room) × (n < 100) }
+    ensures text { Appends out.old (two_digits n) out.new }
+    ensures upper_bound { out.old.room ≤ 2 + out.new.room }
 {
-    let next = put_byte(out, at, 48 + n / 10);
-    put_byte(out, next, 48 + n % 10)
+    out.put_byte(48 + n / 10);
+    out.put_byte(48 + n % 10);
 }
 
-// 1 where n is at least so much, else 0.
-fn reaches(n: u8, least: u8) -> usize
-    ensures value { (least ≤ n → result ≡ 1) × (n < least → result ≡ 0) }
-    ensures upper_bound { result ≤ 1 }
+// Writes the one to three digits of a number: each goes over a leading zero. Which digits there are is hard to foresee.
+pub(crate) fn put_small(out: &mut Text, n: u8)
+    requires { small_size ≤ out.old.room }
+    ensures text { Appends out.old (decimal n) out.new }
+    ensures upper_bound { out.old.room ≤ small_size + out.new.room }
 {
-    if least <= n { 1 } else { 0 }
-}
-
-// Writes the one to three digits of a number. Each digit is written, and the next one over it where it is a leading zero: which digits there are
-// is hard to foresee, and a branch that is foreseen wrongly costs more than all three.
-pub(crate) fn put_small(out: &mut [u8], at: usize, n: u8) -> usize
-    requires { at + small_size ≤ length out.old }
-    ensures writes { Writes out.old at (decimal n) out.new result }
-    ensures upper_bound { result ≤ at + small_size }
-{
-    let a = at + reaches(n, 100);
-    let b = a + reaches(n, 10);
-    put_byte(out, at, 48 + n / 100);
-    put_byte(out, a, 48 + n / 10 % 10);
-    put_byte(out, b, 48 + n % 10)
+    out.put_byte_if(48 + n / 100, n >= 100);
+    out.put_byte_if(48 + n / 10 % 10, n >= 10);
+    out.put_byte(48 + n % 10);
 }
 
 // Writes the time hh:mm at which quarter hour n begins.
-pub fn put_clock(out: &mut [u8], at: usize, n: u8) -> usize
-    requires { (at + clock_size ≤ length out.old) × (n < quarters) }
-    ensures writes { Writes out.old at (clock_text n) out.new result }
-    ensures upper_bound { result ≤ at + clock_size }
+#[tactic(auto, using(card::proofs::Writing::appending), unfolding(report::specs::Quarter::clock_text))]
+pub fn put_clock(out: &mut Text, n: u8)
+    requires { (clock_size ≤ out.old.room) × (n < quarters) }
+    ensures text { Appends out.old (clock_text n) out.new }
+    ensures upper_bound { out.old.room ≤ clock_size + out.new.room }
 {
-    let a = put_two(out, at, n / 4);
-    let b = put_byte(out, a, b':');
-    put_two(out, b, n % 4 * 15)
+    put_two(out, n / 4);
+    out.put_byte(b':');
+    put_two(out, n % 4 * 15);
 }
 
 // Writes a separator and the time at which quarter hour n begins.
-fn put_time(out: &mut [u8], at: usize, n: u8) -> usize
-    requires { (at + time_size ≤ length out.old) × (n < quarters) }
-    ensures writes { Writes out.old at (separator ∷ clock_text n) out.new result }
-    ensures upper_bound { result ≤ at + time_size }
+fn put_time(out: &mut Text, n: u8)
+    requires { (time_size ≤ out.old.room) × (n < quarters) }
+    ensures text { Appends out.old (separator ∷ clock_text n) out.new }
+    ensures upper_bound { out.old.room ≤ time_size + out.new.room }
 {
-    let next = put_byte(out, at, b',');
-    put_clock(out, next, n)
+    out.put_byte(b',');
+    put_clock(out, n);
 }
 
 // Writes the times of all quarter hours.
-pub(crate) fn put_times(out: &mut [u8], at: usize) -> usize
-    requires { at + quarters * time_size ≤ length out.old }
-    ensures writes { Writes out.old at (time_columns quarters) out.new result }
-    ensures upper_bound { result ≤ at + quarters * time_size }
+#[tactic(auto, using(crate::proofs::SheetColumns::times_steps))]
+pub(crate) fn put_times(out: &mut Text)
+    requires { quarters * time_size ≤ out.old.room }
+    ensures text { Appends out.old (time_columns quarters) out.new }
+    ensures upper_bound { out.old.room ≤ quarters * time_size + out.new.room }
 {
-    let mut next = at;
-    let mut n: u8 = 0;
-    while n < 96 {
-        next = put_time(out, next, n);
-        n += 1;
+    for n in 0..QUARTERS as u8 {
+        put_time(out, n);
     }
-    next
 }
 
 // Writes the year, which is given less 2000, month and day of a sheet.
-pub fn put_date(out: &mut [u8], at: usize, symbols: &[u8]) -> usize
-    requires { (at + date_size ≤ length out.old) × SheetSymbols symbols.now }
-    ensures writes { Writes out.old at (date_text (date_of symbols.now)) out.new result }
-    ensures upper_bound { result ≤ at + date_size }
+#[tactic(auto, using(card::proofs::Writing::appending, crate::proofs::Digits::dates), unfolding(report::specs::Table::date_text))]
+pub fn put_date(out: &mut Text, symbols: &[u8])
+    requires { (date_size ≤ out.old.room) × SheetSymbols symbols.now }
+    ensures text { Appends out.old (date_text (date_of symbols.now)) out.new }
+    ensures upper_bound { out.old.room ≤ date_size + out.new.room }
 {
-    let a = put_year(out, at, symbols[YEAR]);
-    let b = put_byte(out, a, b'-');
-    let c = put_two(out, b, symbols[MONTH]);
-    let d = put_byte(out, c, b'-');
-    put_two(out, d, symbols[DAY])
+    put_year(out, symbols[YEAR]);
+    out.put_byte(b'-');
+    put_two(out, symbols[MONTH]);
+    out.put_byte(b'-');
+    put_two(out, symbols[DAY]);
 }
 
 // Writes the four digits of a year, which is given less 2000.
-fn put_year(out: &mut [u8], at: usize, year: u8) -> usize
-    requires { at + 4 ≤ length out.old }
-    ensures writes { Writes out.old at (decimal (year + 2000)) out.new result }
-    ensures upper_bound { result ≤ at + 4 }
+#[tactic(auto, using(card::proofs::Writing::appending, crate::proofs::Digits::year_digits))]
+fn put_year(out: &mut Text, year: u8)
+    requires { 4 ≤ out.old.room }
+    ensures text { Appends out.old (decimal (year + 2000)) out.new }
+    ensures upper_bound { out.old.room ≤ 4 + out.new.room }
 {
-    let next = put_two(out, at, 20 + year / 100);
-    put_two(out, next, year % 100)
+    put_two(out, 20 + year / 100);
+    put_two(out, year % 100);
 }
 
 // Writes a separator and a count.
-fn put_column(out: &mut [u8], at: usize, n: u8) -> usize
-    requires { at + count_size ≤ length out.old }
-    ensures writes { Writes out.old at (separator ∷ decimal n) out.new result }
-    ensures upper_bound { result ≤ at + count_size }
+fn put_column(out: &mut Text, n: u8)
+    requires { count_size ≤ out.old.room }
+    ensures text { Appends out.old (separator ∷ decimal n) out.new }
+    ensures upper_bound { out.old.room ≤ count_size + out.new.room }
 {
-    let next = put_byte(out, at, b',');
-    put_small(out, next, n)
+    out.put_byte(b',');
+    put_small(out, n);
 }
 
 // Writes the counts of all quarter hours.
-pub(crate) fn put_columns(out: &mut [u8], at: usize, symbols: &[u8]) -> usize
-    requires { (at + quarters * count_size ≤ length out.old) × (quarters ≤ length symbols.now) }
-    ensures writes { Writes out.old at (count_columns (take quarters symbols.now)) out.new result }
-    ensures upper_bound { result ≤ at + quarters * count_size }
+#[tactic(auto, using(crate::proofs::SheetColumns::columns_steps))]
+pub(crate) fn put_columns(out: &mut Text, symbols: &[u8])
+    requires { (quarters * count_size ≤ out.old.room) × (quarters ≤ length symbols.now) }
+    ensures text { Appends out.old (count_columns (take quarters symbols.now)) out.new }
+    ensures upper_bound { out.old.room ≤ quarters * count_size + out.new.room }
 {
-    let mut next = at;
-    let mut i = 0;
-    while i < QUARTERS {
-        next = put_column(out, next, symbols[i]);
-        i += 1;
+    for count in &symbols[..QUARTERS] {
+        put_column(out, *count);
     }
-    next
 }

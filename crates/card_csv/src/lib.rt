@@ -9,8 +9,6 @@ pub mod making;
 pub mod reader;
 pub mod records;
 
-use sheet::SHEET;
-
 // What has been counted of a card: the number of the next slot, day sheets, records that are none, and blank slots.
 #[derive(Clone, Copy)]
 pub struct Counts {
@@ -21,7 +19,7 @@ pub struct Counts {
 }
 
 // Which columns a header names: all, those without slot and changed, or others.
-#[derive(Clone, Copy)]
+#[derive(Clone, Copy, PartialEq, Eq)]
 pub enum Header {
     Full,
     Short,
@@ -29,7 +27,7 @@ pub enum Header {
 }
 
 // What is wrong with a line: the number of its columns; a column that is no number; a date that does not exist; a pump or a count above 127.
-#[derive(Clone, Copy)]
+#[derive(Clone, Copy, PartialEq, Eq)]
 pub enum Fault {
     Columns,
     Number,
@@ -38,41 +36,25 @@ pub enum Fault {
     Count,
 }
 
-// A line stands for a day sheet, or something is wrong with it.
-#[derive(Clone, Copy)]
-pub enum Answer {
-    Sheet,
-    Wrong(Fault),
-}
-
-// What reading a line answers, and the symbols, 0 each where something is wrong. An enum holds no array, so the answer stands beside them.
-#[derive(Clone, Copy)]
-pub struct Reading {
-    pub answer: Answer,
-    pub symbols: [u8; SHEET],
-}
-
-// How a text stands: no line was refused; the first line is no header; a line is no sheet; or a line has no end where every line has one.
-#[derive(Clone, Copy)]
-pub enum TextVerdict {
-    Fine,
+// What is wrong with a text: the first line is no header; a line is no sheet; or a line has no end where every line has one.
+#[derive(Clone, Copy, PartialEq, Eq)]
+pub enum TextFault {
     NoHeader,
     Wrong(Fault),
     TooLong,
 }
 
-// Which columns the header names, how many lines were taken, a refused one among them, and how the text stands.
+// Which columns the header names, how many lines were taken, a refused one among them, and what is wrong with the text, if anything is.
 #[derive(Clone, Copy)]
 pub struct TextState {
     pub full: bool,
     pub lines: u64,
-    pub verdict: TextVerdict,
+    pub verdict: Result<(), TextFault>,
 }
 
-// How the text stands behind the lines that were taken, the bytes of the text that they have, and the bytes of their records.
+// How the text stands behind the lines that were taken, and the bytes of the text that they have.
 #[derive(Clone, Copy)]
 pub struct Made {
     pub state: TextState,
     pub taken: usize,
-    pub used: usize,
 }

@@ -1,20 +1,20 @@
-// The text of a card's day sheets, slot by slot, written into a lent buffer. No function here is an entry point: each requires room for its
-// text.
+// The text of a card's day sheets, slot by slot. No function here is an entry point: each requires room for its text.
+#![tactic(auto, using(card::proofs::Writing::appending))]
+
 ghost use Rattle.std.specs.Prelude.{◌≡◌, ◌+◌, ◌^◌, ◌≤◌, length};
-ghost use Rattle.card.specs.Placed.{Writes};
+ghost use Rattle.card.specs.Text.{Appends};
 ghost use Rattle.sheet.specs.Demands.{SheetSymbols};
 ghost use Rattle.report.specs.Day.{day_of};
 ghost use Rattle.card_csv.specs.Text.{sheet_line, day_line, slot_sheet, one_sheet, one_other, blank_tally, day_counted, slot_tallied};
 ghost use Rattle.card_csv.specs.Text.{part_sheets, part_counts, tally_line};
-ghost use Rattle.card_csv.specs.Batch.{ListsSheets, sheet_batch, longest_sheet, longest_sheets};
+ghost use Rattle.card_csv.specs.Batch.{sheet_batch, longest_sheet, longest_sheets};
 ghost use Rattle.card_csv.specs.inner.Room.{longest_tally, TallyWithin};
 
 use crate::Counts;
 use crate::columns::{put_columns, put_date, put_small};
 use card::cards::{is_blank, record_count, record_from};
 use card::records::RECORD;
-use card::text::{put_byte, put_bytes, put_field};
-use code::Repair;
+use card::text::Text;
 use report::day::read_day;
 use sheet::PUMP;
 
@@ -30,27 +30,21 @@ pub const BATCH_TEXT: usize = BATCH_SLOTS * 424;
 // The room that the line of the counts needs.
 pub const COUNTS_TEXT: usize = 88;
 
-// How many bytes of the buffer are used, and what has been counted.
-#[derive(Clone, Copy)]
-pub struct Listed {
-    pub used: usize,
-    pub counts: Counts,
-}
-
-// Writes the line of a sheet, of which restoring changed so many places. Each function that puts something answers the place behind it.
-fn put_sheet(out: &mut [u8], at: usize, number: u64, changed: u8, symbols: &[u8]) -> usize
-    requires { (at + longest_sheet ≤ length out.old) × SheetSymbols symbols.now }
-    ensures writes { Writes out.old at (sheet_line number changed symbols.now) out.new result }
-    ensures upper_bound { result ≤ at + longest_sheet }
+// Writes the line of a sheet, of which restoring changed so many places.
+#[tactic(auto, using(card::proofs::Writing::appending), unfolding(crate::specs::Text::sheet_columns))]
+fn put_sheet(out: &mut Text, number: u64, changed: u8, symbols: &[u8])
+    requires { (longest_sheet ≤ out.old.room) × SheetSymbols symbols.now }
+    ensures text { Appends out.old (sheet_line number changed symbols.now) out.new }
+    ensures upper_bound { out.old.room ≤ longest_sheet + out.new.room }
 {
-    let a = put_field(out, at, number, b',');
-    let b = put_date(out, a, symbols);
-    let c = put_byte(out, b, b',');
-    let d = put_small(out, c, symbols[PUMP]);
-    let e = put_byte(out, d, b',');
-    let f = put_small(out, e, changed);
-    let g = put_columns(out, f, symbols);
-    put_byte(out, g, b'\n')
+    out.put_field(number, b',');
+    put_date(out, symbols);
+    out.put_byte(b',');
+    put_small(out, symbols[PUMP]);
+    out.put_byte(b',');
+    put_small(out, changed);
+    put_columns(out, symbols);
+    out.put_byte(b'\n');
 }
 
 // One more sheet.
@@ -61,8 +55,7 @@ fn count_sheet(s: Counts) -> Counts
     Counts {
         next: s.next + 1,
         sheets: s.sheets + 1,
-        others: s.others,
-        blanks: s.blanks,
+        ..s
     }
 }
 
@@ -73,9 +66,8 @@ fn count_other(s: Counts) -> Counts
 {
     Counts {
         next: s.next + 1,
-        sheets: s.sheets,
         others: s.others + 1,
-        blanks: s.blanks,
+        ..s
     }
 }
 
@@ -86,76 +78,64 @@ fn count_blank(s: Counts) -> Counts
 {
     Counts {
         next: s.next + 1,
-        sheets: s.sheets,
-        others: s.others,
         blanks: s.blanks + 1,
+        ..s
     }
 }
 
 // A record has a line as a day sheet, or is counted alone.
-fn list_record(bytes: &[u8], done: Listed, out: &mut [u8]) -> Listed
-    requires { (done.used + longest_sheet ≤ length out.old) × TallyWithin (2 ^ 63) done.counts }
-    ensures lists_sheets { ListsSheets done.used (day_line done.counts.next (day_of bytes.now))
-        (day_counted done.counts (day_of bytes.now)) out.old result out.new }
-    ensures used_bound { result.used ≤ done.used + longest_sheet }
+fn list_record(bytes: &[u8], s: Counts, out: &mut Text) -> Counts
+    requires { (longest_sheet ≤ out.old.room) × TallyWithin (2 ^ 63) s }
+    ensures text { Appends out.old (day_line s.next (day_of bytes.now)) out.new }
+    ensures counts { result ≡ day_counted s (day_of bytes.now) }
+    ensures upper_bound { out.old.room ≤ longest_sheet + out.new.room }
 {
-    let day = read_day(bytes);
-    let answer = day.answer;
-    let s = done.counts;
-    match answer {
-        Repair::Restored(changed) => Listed {
-            used: put_sheet(out, done.used, s.next, changed, &day.symbols),
-            counts: count_sheet(s),
-        },
-        Repair::Refused(_) => Listed {
-            used: done.used,
-            counts: count_other(s),
-        },
+    match read_day(bytes) {
+        Ok(day) => {
+            put_sheet(out, s.next, day.changed, &day.symbols);
+            count_sheet(s)
+        }
+        Err(_) => count_other(s),
     }
 }
 
 // A slot: a blank one, or a record.
-fn list_slot(slot: &[u8], done: Listed, out: &mut [u8]) -> Listed
-    requires { (done.used + longest_sheet ≤ length out.old) × TallyWithin (2 ^ 63) done.counts }
-    ensures lists_sheets { ListsSheets done.used (slot_sheet done.counts.next slot.now) (slot_tallied done.counts slot.now)
-        out.old result out.new }
-    ensures used_bound { result.used ≤ done.used + longest_sheet }
+fn list_slot(slot: &[u8], s: Counts, out: &mut Text) -> Counts
+    requires { (longest_sheet ≤ out.old.room) × TallyWithin (2 ^ 63) s }
+    ensures text { Appends out.old (slot_sheet s.next slot.now) out.new }
+    ensures counts { result ≡ slot_tallied s slot.now }
+    ensures upper_bound { out.old.room ≤ longest_sheet + out.new.room }
 {
     if is_blank(slot) {
-        let counts = count_blank(done.counts);
-        return Listed {
-            used: done.used,
-            counts,
-        };
+        count_blank(s)
+    } else {
+        list_record(slot, s, out)
     }
-    list_record(slot, done, out)
 }
 
 // Writes the lines of a batch, whole slots and a shorter last piece, where s has been counted before it. The bound on the counts keeps every
 // sum within 64 bits.
-pub fn list_sheets(batch: &[u8], s: Counts, out: &mut [u8]) -> Listed
-    requires { (length batch.now ≤ sheet_batch) × (longest_sheets ≤ length out.old) × TallyWithin (2 ^ 62) s }
-    ensures { ListsSheets 0 (part_sheets s batch.now) (part_counts s batch.now) out.old result out.new }
+pub fn list_sheets(batch: &[u8], s: Counts, out: &mut Text) -> Counts
+    requires { (length batch.now ≤ sheet_batch) × (longest_sheets ≤ out.old.room) × TallyWithin (2 ^ 62) s }
+    ensures text { Appends out.old (part_sheets s batch.now) out.new }
+    ensures counts { result ≡ part_counts s batch.now }
 {
-    let n = record_count(batch.len());
-    let mut done = Listed { used: 0, counts: s };
-    let mut i = 0;
-    while i < n {
+    let mut done = s;
+    for i in 0..record_count(batch.len()) {
         done = list_slot(record_from(batch, i * RECORD), done, out);
-        i += 1;
     }
     done
 }
 
 // Writes what is said of the counts.
-pub fn put_counts(out: &mut [u8], at: usize, s: Counts) -> usize
-    requires { at + longest_tally ≤ length out.old }
-    ensures { Writes out.old at (tally_line s) out.new result }
+pub fn put_counts(out: &mut Text, s: Counts)
+    requires { longest_tally ≤ out.old.room }
+    ensures { Appends out.old (tally_line s) out.new }
 {
-    let a = put_bytes(out, at, b"sheets ");
-    let b = put_field(out, a, s.sheets, b',');
-    let c = put_bytes(out, b, b" no sheets ");
-    let d = put_field(out, c, s.others, b',');
-    let e = put_bytes(out, d, b" blank ");
-    put_field(out, e, s.blanks, b'\n')
+    out.put_bytes(b"sheets ");
+    out.put_field(s.sheets, b',');
+    out.put_bytes(b" no sheets ");
+    out.put_field(s.others, b',');
+    out.put_bytes(b" blank ");
+    out.put_field(s.blanks, b'\n');
 }

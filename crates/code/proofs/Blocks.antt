@@ -1,11 +1,10 @@
 -- Eight neighbouring bytes at a time: what a test of their number says of each, and a loop that passes over them. Assumes nothing.
-use Rattle.field.proofs.Base.{◌≡◌, sym, ap₂, ◌∙◌, subst, List, ℕ, ◌+◌, ◌-◌, ◌*◌, ◌≤◌, ◌<◌, not-suc-le-zero, dec_lt, arith, length}
+use Rattle.field.proofs.Base.{◌≡◌, sym, ap₂, ◌∙◌, List, ℕ, ◌+◌, ◌-◌, ◌*◌, ◌<◌, not-suc-le-zero, dec_lt, arith, length}
 use lib.Bits.{bit_and, bit_or, or_add_and, or_lt, and_le_l, and_le_r}
 use Rattle.field.specs.Sum.{at}
 use Rattle.field.specs.inner.Lanes.{Block}
 use Rattle.field.proofs.Packing.{lanes-and, lanes-zero}
 use Rattle.field.proofs.Lanewise.{ones, mask}
-use Rattle.code.specs.inner.Block.{Run}
 
 -- a byte without a digit in common with 256 - q is below q
 pub block-below : (xs : List ℕ) (i a q : ℕ) → 0 < q → Block 8 xs i a → bit_and a (ones * (256 - q)) ≡ 0 → (j : ℕ) → j < 8 → at xs (i + j) < q
@@ -48,31 +47,3 @@ module _ (xs : List ℕ) (q : ℕ) (positive : 0 < q) where
       go e k h (no l) =
           let s : p + (k - p) ≡ k = omega arith in
           rw s at (block-below xs p a q positive b (or_zero_right f _ e) (k - p) (omega arith))
-
-pub gathered-end : (xs : List ℕ) (q p f : ℕ) → Gathered xs q p f → 8 ≤ length xs → length xs - p < 8 → f ≡ 0 → (k : ℕ) → k < length xs → at xs k < q
-gathered-end xs q p f g n l e k h = go (dec_lt k p)
-  where
-    go : Dec (k < p) → at xs k < q
-    go (yes b) = g.before e k b
-    go (no b) =
-        let s : length xs - 8 + (k - (length xs - 8)) ≡ k = omega arith in
-        rw s at (g.last e (k - (length xs - 8)) (omega arith))
-
--- a list passed over whole
-pub pass_all : (P : ℕ → Type 0) (n : ℕ) → ((p : ℕ) → p < n → P p) → Run P 0 n n
-pass_all P n h = record { on = omega arith; within = omega arith; each = λ p l u. h p u }
-
--- a loop goes on over a block each of whose places has the property
-pub pass-block : (P : ℕ → Type 0) (i n p : ℕ) → Run P i n p → p + 8 ≤ n → ((j : ℕ) → j < 8 → P (p + j)) → Run P i n (p + 8)
-pass-block P i n p a l b =
-    record {
-      on = omega (arith, a.on);
-      within = l;
-      each = λ k h u. go k h u (dec_lt k p);
-    }
-  where
-    go : (k : ℕ) → i ≤ k → k < p + 8 → Dec (k < p) → P k
-    go k h u (yes v) = a.each k h v
-    go k h u (no v) =
-        let e : p + (k - p) ≡ k = omega arith in
-        subst P e (b (k - p) (omega arith))

@@ -1,13 +1,13 @@
 -- A table of cases holds if a test that antt computes passes: the encoder's words are compared, a restored word is a codeword near enough,
 -- and of a refused word every choice of r extra places and of the symbols there is tried. Assumes nothing.
+use Rattle.std.proofs.Common.{Ok, Err}
+use Rattle.field.specs.Question.{Verdict}
 use Rattle.field.proofs.Base.{◌≡◌, refl, sym, ap, ◌∙◌, subst, Bool, true, false, not, ◌&&◌, List, [], ◌∷◌, ◌++◌, map, ℕ, zero, suc, ◌≤◌, ◌<◌}
 use Rattle.field.proofs.Base.{not-suc-le-zero, le_of_suc-le-suc, arith, T, eqb, leb, ltb, eqb→eq, length}
 use lib.Dec.{leb→le, ltb→lt, T_not}
 use Rattle.field.specs.Field.{order}
 use Rattle.field.specs.Question.{Outcome, accepted, refused, refusal, all_below}
 use Rattle.field.specs.declared.Question.TheVariants.{Correctable}
-use Rattle.field.specs.declared.Verdict.{Verdict}
-use Rattle.field.specs.declared.Verdict.TheVariants.{Passed, Refused}
 use Rattle.field.proofs.Laws.{IsField}
 use Rattle.field.proofs.Check.{and_left, and_right, all, all-at}
 use Rattle.field.proofs.Widths.{field_of}
@@ -45,12 +45,12 @@ same-to {xs} e = subst (λ (ys : List ℕ). T (same_bytes xs ys)) e (subst T (sy
 -- ---- the questions are passed
 
 abbrev pub passed? : Verdict → Bool
-passed? Passed = true
-passed? (Refused q) = false
+passed? (Ok tt) = true
+passed? (Err q) = false
 
-pub passed-of : (v : Verdict) → T (passed? v) → v ≡ Passed
-passed-of Passed t = refl
-passed-of (Refused q) t = absurd t
+pub passed-of : (v : Verdict) → T (passed? v) → v ≡ (Ok tt)
+passed-of (Ok tt) t = refl
+passed-of (Err q) t = absurd t
 
 -- ---- a word is a codeword
 

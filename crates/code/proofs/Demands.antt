@@ -1,16 +1,15 @@
 -- The demands of specs/Demands.antt, each under its name in small letters. Assumes nothing.
+use Rattle.std.proofs.Common.{Ok, Err, Result}
+use Rattle.field.specs.Question.{Verdict}
+use Rattle.field.specs.declared.Question.{Question}
 use Rattle.field.proofs.Base.{◌≡◌, refl, sym, ap, ◌∙◌, subst, Bool, true, false, cond, true≢false, List, [], ◌∷◌, map, ℕ, ◌+◌, ◌-◌, ◌/◌, arith}
 use Rattle.field.proofs.Base.{length}
 use mathlib.Core.Logic.{◌↔◌}
 use Rattle.field.specs.Question.{Outcome, accepted, refused, after, is_width}
-use Rattle.field.specs.declared.Verdict.{Verdict}
-use Rattle.field.specs.declared.Verdict.TheVariants.{Passed, Refused as RefusedBy}
 use Rattle.field.proofs.Demands.{numbers-tell}
 use Rattle.field.proofs.Widths.{field_of}
 use Rattle.field.proofs.Evaluation.{five-cong}
 use Rattle.code.specs.Word.{places, at, syndrome, Codeword, encode, data_of}
-use Rattle.code.specs.declared.Repair.{Repair}
-use Rattle.code.specs.declared.Repair.TheVariants.{Restored, Refused}
 use Rattle.code.specs.Erasure.{syndromes_without}
 use Rattle.code.specs.Near.{distance, radius, Restoration, none, one, several, restoration}
 use Rattle.code.specs.Call.{restore_asked, decided, repair, RestoresWithin}
@@ -131,11 +130,11 @@ methods-agree m w es reach a b u v A B = (A.answer ∙ sym B.answer, A.word ∙ 
 -- ---- demand 3 of the calls themselves
 
 -- an answer is given back by its outcome: the refusal number tells the question
-pub repair-tells : (a b : Repair) → repair a ≡ repair b → a ≡ b
-repair-tells (Restored k) (Restored l) e = ap Restored (cc)
-repair-tells (Restored k) (Refused p) e = let z : ◌≡◌ {A = ℕ} 0 1 = cc in absurd (omega arith)
-repair-tells (Refused q) (Restored l) e = let z : ◌≡◌ {A = ℕ} 0 1 = cc in absurd (omega arith)
-repair-tells (Refused q) (Refused p) e = ap Refused (numbers-tell q p (cc))
+pub repair-tells : (a b : Result ℕ Question) → repair a ≡ repair b → a ≡ b
+repair-tells (Ok k) (Ok l) e = ap Ok (cc)
+repair-tells (Ok k) (Err p) e = let z : ◌≡◌ {A = ℕ} 0 1 = cc in absurd (omega arith)
+repair-tells (Err q) (Ok l) e = let z : ◌≡◌ {A = ℕ} 0 1 = cc in absurd (omega arith)
+repair-tells (Err q) (Err p) e = ap Err (numbers-tell q p (cc))
 
 pub reach-decodes : ReachDecodes
 reach-decodes m w es reach a u R =
@@ -151,7 +150,7 @@ reach-decodes m w es reach a u R =
     }
 
 -- the questions may be said in another way
-pub decoded-as : (P Q : Type 0) (m : ℕ) (w es : List ℕ) (reach : ℕ) (a : Repair) (u : List ℕ) → (P → Q) → (Q → P) → Decoded P m w es reach a u
+pub decoded-as : (P Q : Type 0) (m : ℕ) (w es : List ℕ) (reach : ℕ) (a : Result ℕ Question) (u : List ℕ) → (P → Q) → (Q → P) → Decoded P m w es reach a u
     → Decoded Q m w es reach a u
 decoded-as P Q m w es reach a u f g D =
     record {
@@ -180,10 +179,10 @@ earlier-refused m w es a u n R h k =
     )
   where
     go : (v : Verdict) (x : Restoration) → (after v (decided m w es x) ≡ refused n) ↔ (done v ≡ refused n)
-    go (RefusedBy q) x = (λ e. e, λ e. e)
-    go Passed none = (λ e. absurd (h (cc)), λ e. absurd (let z : ◌≡◌ {A = ℕ} 0 1 = cc in omega arith))
-    go Passed (one c) = (λ e. absurd (let z : ◌≡◌ {A = ℕ} 0 1 = cc in omega arith), λ e. absurd (let z : ◌≡◌ {A = ℕ} 0 1 = cc in omega arith))
-    go Passed several = (λ e. absurd (k (cc)), λ e. absurd (let z : ◌≡◌ {A = ℕ} 0 1 = cc in omega arith))
+    go (Err q) x = (λ e. e, λ e. e)
+    go (Ok tt) none = (λ e. absurd (h (cc)), λ e. absurd (let z : ◌≡◌ {A = ℕ} 0 1 = cc in omega arith))
+    go (Ok tt) (one c) = (λ e. absurd (let z : ◌≡◌ {A = ℕ} 0 1 = cc in omega arith), λ e. absurd (let z : ◌≡◌ {A = ℕ} 0 1 = cc in omega arith))
+    go (Ok tt) several = (λ e. absurd (k (cc)), λ e. absurd (let z : ◌≡◌ {A = ℕ} 0 1 = cc in omega arith))
 
 pub same-within : SameWithin
 same-within m w w' es es' reach a a' u u' R R' l s o =

@@ -1,18 +1,8 @@
 -- The length of a word at each width, and what it tells of the width. Assumes nothing.
-use Rattle.field.proofs.Base.{◌≡◌, refl, ap, ◌∙◌, ◌≢◌, Bool, true, false, cond, ℕ, ◌+◌, ◌≤◌, arith}
+use Rattle.field.proofs.Base.{◌≡◌, refl, ap, ◌∙◌, ◌≢◌, Bool, true, false, cond, ℕ, ◌≤◌, arith}
 use Rattle.field.specs.Question.{is_width}
-use Rattle.field.specs.inner.Operand.{order_of}
-use Rattle.field.proofs.Ask.{width-yes, width-no, order_is}
 use Rattle.field.proofs.Widths.{order_small}
 use Rattle.code.specs.Word.{places, word_length, longest}
-
--- from what `order_of` says of the width
-module _ (m q : ℕ) (e : q ≡ order_of m) where
-  pub length_none : q ≡ 0 → 0 ≡ word_length m
-  length_none z = simp (width-no m q e z)
-
-  pub length_some : q ≢ 0 → q + 4 ≡ word_length m
-  length_some n = let w = width-yes m q e n in simp w (ap (λ (x : ℕ). x + 4) (order_is m q e w))
 
 pub places-most : (m : ℕ) → is_width m ≡ true → places m ≤ longest
 places-most m w = omega (arith, order_small m w)
@@ -35,10 +25,3 @@ module _ (m n : ℕ) (e : n ≡ word_length m) where
 
   pub length-is : is_width m ≡ true → n ≡ places m
   length-is w = e ∙ ap (λ (b : Bool). cond b (places m) 0) w
-
-  pub length_most : n ≤ longest
-  length_most = go (is_width m) refl e
-    where
-      go : (b : Bool) → is_width m ≡ b → n ≡ cond b (places m) 0 → n ≤ longest
-      go true w p = omega (arith, places-most m w)
-      go false w p = omega arith

@@ -1,29 +1,10 @@
--- Loops over lists, each by what holds before a turn and a law for each way on and out: copying, filling an array, looking at one number
--- after the other. Parts of a list from some place on. Assumes nothing.
-use Rattle.field.proofs.Base.{◌≡◌, refl, sym, ap, ap₂, ◌∙◌, subst, List, [], ◌∷◌, ◌++◌, append-nil, ℕ, zero, suc, ◌+◌, ◌-◌, ◌≤◌, ◌<◌, not-suc-le-zero}
-use Rattle.field.proofs.Base.{le_of_suc-le-suc, le_refl, add-zero, add-one, arith, length, get_or, set, take, drop, length-set, length-drop}
+-- Loops over lists, each by what holds before a turn and a law for each way on and out: filling an array, looking at one number after the
+-- other. Parts of a list from some place on. Assumes nothing.
+use Rattle.field.proofs.Base.{◌≡◌, sym, ap, ap₂, ◌∙◌, subst, List, ◌++◌, append-nil, ℕ, zero, suc, ◌+◌, ◌-◌, ◌≤◌, ◌<◌}
+use Rattle.field.proofs.Base.{le_refl, add-zero, arith, length, get_or, set, take, drop, length-set, length-drop}
 use Rattle.field.proofs.Base.{drop_of_length-le, take_all, take_at, get_or-set_same, get_or-set_other, ext_get_or}
 use borrow.Author.Count.{below_more}
 use Rattle.code.specs.inner.Block.{Run}
-use lib.Seq.{take-suc, take-suc-set}
-
--- ---- copying the list s over the list d of the same length: after i turns d is `take i s ++ drop i d`
-
-copy-suc : (d s : List ℕ) (i : ℕ) → i < length s → i < length d → set (take i s ++ drop i d) i (get_or s i 0) ≡ take (suc i) s ++ drop (suc i) d
-copy-suc d [] i h l = absurd (not-suc-le-zero h)
-copy-suc [] (y ∷ s) i h l = absurd (not-suc-le-zero l)
-copy-suc (x ∷ d) (y ∷ s) zero h l = refl
-copy-suc (x ∷ d) (y ∷ s) (suc i) h l = ap (λ (t : List ℕ). y ∷ t) (copy-suc d s i (le_of_suc-le-suc h) (le_of_suc-le-suc l))
-
-module _ (d s t : List ℕ) (i : ℕ) (e : t ≡ take i s ++ drop i d) where
-  pub copy-on : i < length s → length d ≡ length s → set t i (get_or s i 0) ≡ take (i + 1) s ++ drop (i + 1) d
-  copy-on h l =
-      ap (λ (u : List ℕ). set u i (get_or s i 0)) e
-      ∙ subst (λ (k : ℕ). set (take i s ++ drop i d) i (get_or s i 0) ≡ take k s ++ drop k d) (sym (add-one i)) (copy-suc d s i h (omega arith))
-
-  pub copy-end : length s ≤ i → length d ≡ length s → t ≡ s
-  copy-end h l =
-      e ∙ ap (λ (u : List ℕ). take i s ++ u) (drop_of_length-le d {i = i} (omega arith)) ∙ append-nil (take i s) ∙ take_all i s h
 
 -- ---- parts of a list
 
@@ -41,29 +22,12 @@ two-parts n w p d a b ea eb l =
     (ap (λ (u : List ℕ). b ++ u) (drop_of_length-le (drop n (a ++ drop n w)) {i = length (a ++ drop n w) - n} (simp length-drop (le_refl _)))
     ∙ append-nil b ∙ eb)
 
--- a copy of the list w in front of an array
-pub front-copied : (n : ℕ) (w a rest : List ℕ) → a ≡ w → n ≡ length w → take n (a ++ rest) ≡ w
-front-copied n w a rest e l = take_at a rest n (ap length e ∙ sym l) ∙ e
-
--- ---- copying the list xs behind the number p
-
-pub prepend-on : (p : ℕ) (xs out : List ℕ) (j : ℕ) → take (j + 1) out ≡ p ∷ take j xs → j + 1 < length out → j < length xs
-    → take (j + 1 + 1) (set out (j + 1) (get_or xs j 0)) ≡ p ∷ take (j + 1) xs
-prepend-on p xs out j e l h =
-    ap (λ (n : ℕ). take n (set out (j + 1) (get_or xs j 0))) (add-one (j + 1))
-    ∙ take-suc-set out (j + 1) (get_or xs j 0) l
-    ∙ ap (λ (u : List ℕ). u ++ get_or xs j 0 ∷ []) e
-    ∙ ap (λ (u : List ℕ). p ∷ u) (sym (take-suc xs j 0 h) ∙ ap (λ (n : ℕ). take n xs) (sym (add-one j)))
-
 -- ---- filling an array of n entries: out is f so far, provided that H
 
 pub record Filled (A : Type 0) (d : A) (n : ℕ) (H : Type 0) (f : ℕ → A) (out : List A) (i : ℕ) : Type 0 where
   pub below : i ≤ n
   pub long : length out ≡ n
   pub same : H → (k : ℕ) → k < i → get_or out k d ≡ f k
-
-pub filled-start : {A : Type 0} {d : A} {n : ℕ} {H : Type 0} {f : ℕ → A} {out : List A} → length out ≡ n → Filled A d n H f out 0
-filled-start e = record { below = omega arith; long = e; same = λ h k l. absurd (omega arith) }
 
 module _ {A : Type 0} {d : A} {n : ℕ} {H : Type 0} {f : ℕ → A} {out : List A} {i : ℕ} (g : Filled A d n H f out i) where
   pub filled_on : i < n → {x : A} → (H → x ≡ f i) → Filled A d n H f (set out i x) (i + 1)

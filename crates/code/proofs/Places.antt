@@ -1,18 +1,22 @@
 -- Arrays of places by their numbers, and the loops over them: each is a loop over numbers. Assumes nothing.
-use Rattle.field.proofs.Base.{◌≡◌, refl, sym, ap, ap₂, ◌∙◌, true, List, [], ◌∷◌, ◌++◌, map, ℕ, zero, suc, ◌+◌, ◌≤◌, ◌<◌, add-one, arith, length, get_or}
-use Rattle.field.proofs.Base.{set, take, drop, get_or-take, length-take-le}
+use Rattle.field.proofs.Base.{◌≡◌, refl, sym, ap, ap₂, ◌∙◌, ◌||◌, List, [], ◌∷◌, ◌++◌, map, ℕ, zero, suc, ◌+◌, ◌≤◌, ◌<◌, add-one, arith, length, get_or}
+use Rattle.field.proofs.Base.{set, take, take_all, take_at, eqb}
+use Rattle.std.specs.List.{list_any}
 use lib.ListN.{length-map}
 use lib.Seq.{take-suc, take-suc-set}
 use Rattle.code.specs.declared.word.Place.{Place}
 use Rattle.code.specs.Erasure.{member}
 use Rattle.code.specs.inner.Place.{numbers}
 use Rattle.code.specs.inner.Matrix.{unknowns}
-use Rattle.code.proofs.Loops.{prepend-on}
-use Rattle.code.proofs.Questions.{member-on, member-stop}
+use Rattle.code.proofs.Questions.{eqb-swap}
 
 -- ---- a place is read, there are as many numbers as places, and a place is stored
 
-pub numbers-at : (ps : List Place) (i : ℕ) → (get_or ps i (record { 0 = 0 })).0 ≡ get_or (numbers ps) i 0
+-- the number of place i, as the code reads it
+abbrev pub number : List Place → ℕ → ℕ
+number ps i = (get_or ps i (record { 0 = 0 })).0
+
+pub numbers-at : (ps : List Place) (i : ℕ) → number ps i ≡ get_or (numbers ps) i 0
 numbers-at [] i = refl
 numbers-at (p ∷ ps) zero = refl
 numbers-at (p ∷ ps) (suc i) = numbers-at ps i
@@ -20,6 +24,9 @@ numbers-at (p ∷ ps) (suc i) = numbers-at ps i
 pub numbers-length : (ps : List Place) → length (numbers ps) ≡ length ps
 numbers-length [] = refl
 numbers-length (p ∷ ps) = ap suc (numbers-length ps)
+
+pub numbers-whole : (ps : List Place) (n : ℕ) → length ps ≤ n → take n (numbers ps) ≡ numbers ps
+numbers-whole ps n h = take_all n (numbers ps) (omega (arith, numbers-length ps))
 
 pub numbers-set : (ps : List Place) (i : ℕ) (q : Place) → numbers (set ps i q) ≡ set (numbers ps) i q.0
 numbers-set [] i q = refl
@@ -43,11 +50,20 @@ first-places (x ∷ y ∷ ps) n p q l e v w = ap (λ (k : ℕ). take k (x.0 ∷ 
 
 -- ---- copying the places ps behind a place with the number p
 
-pub prepended-on : (p : ℕ) (ps out : List Place) (j : ℕ) (q : Place) → q.0 ≡ get_or (numbers ps) j 0 → take (j + 1) (numbers out) ≡ p ∷ take j (numbers ps)
-    → j + 1 < length out → j < length ps → take (j + 1 + 1) (numbers (set out (j + 1) q)) ≡ p ∷ take (j + 1) (numbers ps)
-prepended-on p ps out j q v e l h =
-    ap (take (j + 1 + 1)) (numbers-set out (j + 1) q ∙ ap (set (numbers out) (j + 1)) v)
-    ∙ prepend-on p (numbers ps) (numbers out) j e (omega (arith, numbers-length out)) (omega (arith, numbers-length ps))
+numbers-append : (ps qs : List Place) → numbers (ps ++ qs) ≡ numbers ps ++ numbers qs
+numbers-append [] qs = refl
+numbers-append (p ∷ ps) qs = ap (λ (xs : List ℕ). p.0 ∷ xs) (numbers-append ps qs)
+
+pub numbers-take : (n : ℕ) (ps : List Place) → numbers (take n ps) ≡ take n (numbers ps)
+numbers-take zero ps = refl
+numbers-take (suc n) [] = refl
+numbers-take (suc n) (p ∷ ps) = ap (λ (xs : List ℕ). p.0 ∷ xs) (numbers-take n ps)
+
+pub copied-behind : (p : ℕ) (ps a rest : List Place) → a ≡ ps → take (length ps + 1) (p ∷ numbers (a ++ rest)) ≡ p ∷ numbers ps
+copied-behind p ps a rest e =
+    ap₂ (λ (k : ℕ) (qs : List Place). take k (p ∷ numbers (qs ++ rest))) (add-one (length ps)) e
+    ∙ ap (λ (xs : List ℕ). p ∷ xs)
+    (ap (take (length ps)) (numbers-append ps rest) ∙ take_at (numbers ps) (numbers rest) (length ps) (numbers-length ps))
 
 -- ---- making places of the numbers xs
 
@@ -60,12 +76,8 @@ made-on xs out i q e h l v =
     ∙ sym (take-suc xs i 0 h)
     ∙ ap (λ (n : ℕ). take n xs) (sym (add-one i))
 
--- ---- looking for the number a among the first n of the numbers xs; q is number i
+-- ---- looking for the place with the number a
 
-module _ (a : ℕ) (xs : List ℕ) (n i q : ℕ) (l : n ≤ length xs) (e : member a (take n xs) ≡ member a (drop i (take n xs))) (v : q ≡ get_or xs i 0)
-    (h : i < n) where
-  pub listed-on : (q ≡ a → ⊥) → member a (take n xs) ≡ member a (drop (i + 1) (take n xs))
-  listed-on t = member-on a (take n xs) i e (omega (arith, length-take-le n xs l)) (λ s. t (v ∙ sym (get_or-take n xs i 0 h) ∙ s))
-
-  pub listed-stop : q ≡ a → true ≡ member a (take n xs)
-  listed-stop t = member-stop a (take n xs) i e (omega (arith, length-take-le n xs l)) (get_or-take n xs i 0 h ∙ sym v ∙ t)
+pub member-places : (a : ℕ) (ps : List Place) → list_any (λ (q : Place). eqb q.0 a) ps ≡ member a (numbers ps)
+member-places a [] = refl
+member-places a (p ∷ ps) = ap₂ ◌||◌ (eqb-swap p.0 a) (member-places a ps)

@@ -1,8 +1,9 @@
 -- What the tests of the questions mean, both ways, and how each steps along a list, for the loops that carry it out. Assumes nothing.
-use Rattle.field.proofs.Base.{◌≡◌, refl, sym, ap, ◌∙◌, ◌≢◌, ◌⊎◌, inl, inr, ⊎_elim, Bool, true, false, not, ◌&&◌, ◌||◌, false≢true, List, [], ◌∷◌, ℕ}
+use Rattle.field.proofs.Base.{◌≡◌, refl, sym, ap, ap₂, ◌∙◌, ◌≢◌, ◌⊎◌, inl, inr, ⊎_elim, Bool, true, false, not, ◌&&◌, ◌||◌, false≢true, List, [], ◌∷◌, ℕ}
 use Rattle.field.proofs.Base.{zero, suc, ◌+◌, ◌-◌, ◌≤◌, ◌<◌, le_of_suc-le-suc, not-suc-le-zero, add-zero, add-one, arith, lt-ltb, le-ltb, ltb-true}
-use Rattle.field.proofs.Base.{eq-eqb, ne_eqb, eqb-true, eqb-false, ltb, eqb, length, get_or, take, drop, drop_of_length-le, drop-cons}
+use Rattle.field.proofs.Base.{eq-eqb, eqb-true, eqb-false, ltb, eqb, length, get_or, take, drop, drop-cons}
 use mathlib.Core.Bool.{or-true}
+use Rattle.std.specs.List.{list_all, list_any}
 use native.Mathlib.Nat.{zero-add, add-suc, suc-add}
 use lib.Dec.{eqb-suc-zero}
 use Rattle.field.specs.Question.{all_below}
@@ -100,15 +101,21 @@ module _ (n : ℕ) (xs : List ℕ) (i : ℕ) (e : all_below n xs ≡ all_below n
   pub all_below-on : i < length xs → get_or xs i 0 < n → all_below n xs ≡ all_below n (drop (i + 1) xs)
   all_below-on h t = all_below-step h ∙ simp (lt-ltb _ _ t)
 
-  pub all_below-stop : i < length xs → n ≤ get_or xs i 0 → false ≡ all_below n xs
-  all_below-stop h t = sym (all_below-step h ∙ simp (le-ltb _ _ t))
-
-  pub all_below-end : length xs ≤ i → true ≡ all_below n xs
-  all_below-end h = sym (e ∙ ap (all_below n) (drop_of_length-le xs h))
-
 pub all_below-run : (n : ℕ) (xs : List ℕ) (i r : ℕ) → Run (λ p. get_or xs p 0 < n) i (length xs) r → all_below n xs ≡ all_below n (drop i xs)
     → all_below n xs ≡ all_below n (drop r xs)
 all_below-run n xs i r = run_on (λ p. all_below n xs ≡ all_below n (drop p xs)) (λ p. get_or xs p 0 < n) i (length xs) r (λ p h t e. all_below-on n xs p e h t)
+
+-- a slice's own tests
+pub all_below-all : (n : ℕ) (xs : List ℕ) → list_all (λ x. ltb x n) xs ≡ all_below n xs
+all_below-all n [] = refl
+all_below-all n (x ∷ xs) = ap (λ (b : Bool). ltb x n && b) (all_below-all n xs)
+
+pub eqb-swap : (x y : ℕ) → eqb x y ≡ eqb y x
+eqb-swap x y = bool_eq (eqb x y) (eqb y x) (λ h. eq-eqb y x (sym (eqb-true x y h))) (λ h. eq-eqb x y (sym (eqb-true y x h)))
+
+pub member-any : (a : ℕ) (xs : List ℕ) → list_any (λ x. eqb x a) xs ≡ member a xs
+member-any a [] = refl
+member-any a (x ∷ xs) = ap₂ ◌||◌ (eqb-swap x a) (member-any a xs)
 
 -- what is below 1 is 0
 pub all_zero-below : (xs : List ℕ) → all_below 1 xs ≡ all_zero xs
@@ -117,24 +124,11 @@ all_zero-below (zero ∷ xs) = all_zero-below xs
 all_zero-below (suc x ∷ xs) =
     ap (λ (b : Bool). b && all_below 1 xs) (le-ltb (suc x) 1 (omega arith)) ∙ sym (ap (λ (b : Bool). b && all_zero xs) (eqb-suc-zero x))
 
-module _ (a : ℕ) (xs : List ℕ) (i : ℕ) (e : member a xs ≡ member a (drop i xs)) where
-  member-step : i < length xs → member a xs ≡ (eqb a (get_or xs i 0) || member a (drop (i + 1) xs))
-  member-step h = e ∙ ap (member a) (drop-one xs i h)
-
-  pub member-on : i < length xs → (get_or xs i 0 ≡ a → ⊥) → member a xs ≡ member a (drop (i + 1) xs)
-  member-on h t = member-step h ∙ simp (ne_eqb a (get_or xs i 0) (λ s. t (sym s)))
-
-  pub member-stop : i < length xs → get_or xs i 0 ≡ a → true ≡ member a xs
-  member-stop h t = sym (member-step h ∙ simp (eq-eqb a (get_or xs i 0) (sym t)))
-
-  pub member-end : length xs ≤ i → false ≡ member a xs
-  member-end h = sym (e ∙ ap (member a) (drop_of_length-le xs h))
-
--- b is the answer of a call that looks for the entry i in the part after it
+-- b tells whether the entry i is in the part after it
 module _ (xs : List ℕ) (i : ℕ) (b : Bool) (e : distinct xs ≡ distinct (drop i xs)) (h : i < length xs)
-    (m : b ≡ member (get_or xs i 0) (take (length xs - (i + 1)) (drop (i + 1) xs))) where
+    (m : b ≡ list_any (λ x. eqb x (get_or xs i 0)) (take (length xs - (i + 1)) (drop (i + 1) xs))) where
   distinct-step : distinct xs ≡ (not b && distinct (drop (i + 1) xs))
-  distinct-step = e ∙ ap distinct (drop-one xs i h) ∙ rw (m, part-drop)
+  distinct-step = e ∙ ap distinct (drop-one xs i h) ∙ rw (m, member-any (get_or xs i 0), part-drop)
 
   pub distinct-on : b ≡ false → distinct xs ≡ distinct (drop (i + 1) xs)
   distinct-on t = distinct-step ∙ simp t
@@ -142,10 +136,7 @@ module _ (xs : List ℕ) (i : ℕ) (b : Bool) (e : distinct xs ≡ distinct (dro
   pub distinct-stop : b ≡ true → false ≡ distinct xs
   distinct-stop t = sym (distinct-step ∙ simp t)
 
-pub distinct-end : (xs : List ℕ) (i : ℕ) → distinct xs ≡ distinct (drop i xs) → length xs ≤ i → true ≡ distinct xs
-distinct-end xs i e h = sym (e ∙ ap distinct (drop_of_length-le xs h))
-
--- b is the answer of a call that looks for the place i in the erasures
+-- b tells whether the place i is one of the erasures
 module _ (q : ℕ) (es xs : List ℕ) (i : ℕ) (e : symbols_from q es 0 xs ≡ symbols_from q es i (drop i xs)) where
   symbols-step : i < length xs → symbols_from q es 0 xs ≡ ((ltb (get_or xs i 0) q || member i es) && symbols_from q es (i + 1) (drop (i + 1) xs))
   symbols-step h = e ∙ ap (symbols_from q es i) (drop-one xs i h) ∙ rw add-one
@@ -153,14 +144,11 @@ module _ (q : ℕ) (es xs : List ℕ) (i : ℕ) (e : symbols_from q es 0 xs ≡ 
   pub symbols-on : i < length xs → get_or xs i 0 < q → symbols_from q es 0 xs ≡ symbols_from q es (i + 1) (drop (i + 1) xs)
   symbols-on h t = symbols-step h ∙ simp (lt-ltb _ _ t)
 
-  pub symbols-erased : (b : Bool) → i < length xs → b ≡ member i es → b ≡ true → symbols_from q es 0 xs ≡ symbols_from q es (i + 1) (drop (i + 1) xs)
-  symbols-erased b h m t = symbols-step h ∙ simp (← m, t, or-true)
+  pub symbols-erased : (b : Bool) → i < length xs → b ≡ list_any (λ x. eqb x i) es → b ≡ true → symbols_from q es 0 xs ≡ symbols_from q es (i + 1) (drop (i + 1) xs)
+  symbols-erased b h m t = symbols-step h ∙ simp (← member-any i es, ← m, t, or-true)
 
-  pub symbols-stop : (b : Bool) → i < length xs → q ≤ get_or xs i 0 → b ≡ member i es → b ≡ false → false ≡ symbols_from q es 0 xs
-  symbols-stop b h t m f = sym (symbols-step h ∙ simp (le-ltb _ _ t, ← m, f))
-
-  pub symbols-end : length xs ≤ i → true ≡ symbols_from q es 0 xs
-  symbols-end h = sym (e ∙ ap (symbols_from q es i) (drop_of_length-le xs h))
+  pub symbols-stop : (b : Bool) → i < length xs → q ≤ get_or xs i 0 → b ≡ list_any (λ x. eqb x i) es → b ≡ false → false ≡ symbols_from q es 0 xs
+  symbols-stop b h t m f = sym (symbols-step h ∙ simp (le-ltb _ _ t, ← member-any i es, ← m, f))
 
 pub symbols-run : (q : ℕ) (es xs : List ℕ) (i r : ℕ) → Run (λ p. get_or xs p 0 < q) i (length xs) r
     → symbols_from q es 0 xs ≡ symbols_from q es i (drop i xs) → symbols_from q es 0 xs ≡ symbols_from q es r (drop r xs)

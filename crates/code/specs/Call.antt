@@ -1,23 +1,18 @@
 -- What the calls of this crate answer, and what the lent memory holds afterwards, on every input. Assumes nothing.
-use Rattle.std.specs.Prelude.{◌≡◌, Bool, true, false, cond, ◌&&◌, List, [], ◌∷◌, ℕ, ◌+◌, ◌*◌, ◌%◌, eqb, leb, length, replicate}
+use Rattle.std.specs.Prelude.{Ok, Err, Result, ◌≡◌, Bool, true, false, cond, ◌&&◌, List, [], ◌∷◌, ℕ, ◌+◌, ◌*◌, ◌%◌, eqb, leb, length, replicate}
 use Rattle.field.specs.Field.{order}
-use Rattle.field.specs.Question.{Outcome, accepted, refused, refusal, ask, after, is_width, all_below}
+use Rattle.field.specs.Question.{Verdict, Outcome, accepted, refused, refusal, ask, after, is_width, all_below}
+use Rattle.field.specs.declared.Question.{Question}
+use Rattle.field.specs.Answer.{outcome}
 use Rattle.field.specs.declared.Question.TheVariants.{Width, Length, ErasureCount, ErasurePlace, ErasureDistinct, Symbol, Reach, Correctable, Unique, Syndrome}
-use Rattle.field.specs.declared.Verdict.{Verdict}
-use Rattle.field.specs.declared.Verdict.TheVariants.{Passed, Refused as RefusedBy}
-use Rattle.code.specs.declared.FiveSyndromes.{FiveSyndromes}
-use Rattle.code.specs.declared.Membership.{Membership}
-use Rattle.code.specs.declared.Membership.TheVariants.{Codeword, Other, Refused}
-use Rattle.code.specs.declared.Repair.{Repair}
-use Rattle.code.specs.declared.Repair.TheVariants.{Restored, Refused as RefusedRepair}
 use Rattle.code.specs.Word.{checks, places, items, encode, data_of}
 use Rattle.code.specs.Erasure.{distinct, symbols_from, changes, syndromes_without}
 use Rattle.code.specs.Near.{radius, Restoration, none, one, several, restoration}
 
 -- a lent slice after the call: written where all questions passed, else as it was
 abbrev pub written : Verdict → List ℕ → List ℕ → List ℕ
-written Passed old new = new
-written (RefusedBy q) old new = old
+written (Ok tt) old new = new
+written (Err q) old new = old
 
 -- the list holds zeros alone
 abbrev pub all_zero : List ℕ → Bool
@@ -51,7 +46,7 @@ data_asked m n symbols next = ask (eqb n (items m)) Length (ask (all_below (orde
 
 -- the questions, put to data and the length n of the word that is to hold its codeword
 unfoldable pub encode_asked : ℕ → List ℕ → ℕ → Verdict
-encode_asked m ds n = word_asked m n (data_asked m (length ds) ds Passed)
+encode_asked m ds n = word_asked m n (data_asked m (length ds) ds (Ok tt))
 
 -- what the encoder answers
 abbrev pub encode_of : ℕ → List ℕ → List ℕ → Outcome
@@ -70,23 +65,22 @@ pub record Encodes (m : ℕ) (ds old : List ℕ) (v : Verdict) (new : List ℕ) 
 
 -- the questions, put to a word
 unfoldable pub is_codeword_asked : ℕ → List ℕ → Verdict
-is_codeword_asked m word = word_asked m (length word) (ask (all_below (order m) word) Symbol Passed)
+is_codeword_asked m word = word_asked m (length word) (ask (all_below (order m) word) Symbol (Ok tt))
 
 -- what the test answers
 abbrev pub is_codeword_of : ℕ → List ℕ → Outcome
 is_codeword_of m word = after (is_codeword_asked m word) (accepted (cond (zero_syndromes m word) 1 0))
 
 -- the outcome that the test's answer stands for
-abbrev pub membership : Membership → Outcome
-membership Codeword = accepted 1
-membership Other = accepted 0
-membership (Refused q) = refused (refusal q)
+abbrev pub membership : Result Bool Question → Outcome
+membership (Ok b) = accepted (cond b 1 0)
+membership (Err q) = refused (refusal q)
 
 -- ---- the reader of data: questions 1, 2, 7 and 9
 
 -- the questions, put to a word and the length n of the slice that is to hold its data
 unfoldable pub read_data_asked : ℕ → List ℕ → ℕ → Verdict
-read_data_asked m word n = word_asked m (length word) (data_asked m n word (ask (zero_syndromes m word) Syndrome Passed))
+read_data_asked m word n = word_asked m (length word) (data_asked m n word (ask (zero_syndromes m word) Syndrome (Ok tt)))
 
 -- what the reader answers
 abbrev pub read_data_of : ℕ → List ℕ → List ℕ → Outcome
@@ -113,7 +107,7 @@ erasures_asked m word es =
     ask (leb (length es) (max_erasures m)) ErasureCount
     (ask (all_below (places m) es) ErasurePlace
     (ask (distinct es) ErasureDistinct
-    (ask (symbols_from (order m) es 0 word) Symbol Passed)))
+    (ask (symbols_from (order m) es 0 word) Symbol (Ok tt))))
 
 -- all questions before question 8
 unfoldable pub restore_asked : ℕ → List ℕ → List ℕ → Verdict
@@ -123,8 +117,8 @@ restore_asked m word es = word_asked m (length word) (erasures_asked m word es)
 
 -- five numbers by value beside a verdict: 0 each where a question was answered no
 abbrev pub shown : Verdict → List ℕ → List ℕ
-shown Passed sums = sums
-shown (RefusedBy q) sums = replicate checks 0
+shown (Ok tt) sums = sums
+shown (Err q) sums = replicate checks 0
 
 -- what the display answers
 abbrev pub syndromes_of : ℕ → List ℕ → List ℕ → Outcome
@@ -134,21 +128,25 @@ syndromes_of m word es = done (restore_asked m word es)
 abbrev pub syndromes_given : ℕ → List ℕ → List ℕ → List ℕ
 syndromes_given m word es = shown (restore_asked m word es) (syndromes_without m es word)
 
--- the call's promise: what the display answers and shows
-pub record GivesSyndromes (m : ℕ) (word es : List ℕ) (r : FiveSyndromes) : Type 0 where
-  pub answer : done r.verdict ≡ syndromes_of m word es
-  pub sums : r.sums ≡ syndromes_given m word es
+-- the five numbers alone where all questions passed
+abbrev pub displayed : Verdict → List ℕ → Result (List ℕ) Question
+displayed (Ok tt) sums = Ok sums
+displayed (Err q) sums = Err q
+
+-- the call's promise: the syndromes without the erasures, or the question that was answered no
+abbrev pub syndromes_shown : ℕ → List ℕ → List ℕ → Result (List ℕ) Question
+syndromes_shown m word es = displayed (restore_asked m word es) (syndromes_without m es word)
 
 -- ---- the restorer with a reach: document 02's question about it, then question 8
 
 -- the next question, put where all before it were answered yes
 abbrev pub followed : Verdict → Verdict → Verdict
-followed Passed next = next
-followed (RefusedBy q) next = RefusedBy q
+followed (Ok tt) next = next
+followed (Err q) next = Err q
 
 -- all questions before question 8, the last of them whether the reach is at most r
 unfoldable pub within_asked : ℕ → List ℕ → List ℕ → ℕ → Verdict
-within_asked m word es reach = followed (restore_asked m word es) (ask (leb reach (radius m (length es))) Reach Passed)
+within_asked m word es reach = followed (restore_asked m word es) (ask (leb reach (radius m (length es))) Reach (Ok tt))
 
 -- question 8, then document 02's question whether there are not several near codewords, and the number of changed places
 abbrev pub decided : ℕ → List ℕ → List ℕ → Restoration → Outcome
@@ -171,12 +169,11 @@ abbrev pub within_written : ℕ → List ℕ → List ℕ → ℕ → List ℕ
 within_written m word es reach = written (within_asked m word es reach) word (restored word (restoration m es word reach))
 
 -- the outcome that the restorer's answer stands for
-abbrev pub repair : Repair → Outcome
-repair (Restored k) = accepted k
-repair (RefusedRepair q) = refused (refusal q)
+abbrev pub repair : Result ℕ Question → Outcome
+repair r = outcome r
 
 -- the call's promise: what restore answers and leaves in the word
-pub record RestoresWithin (m : ℕ) (old es : List ℕ) (reach : ℕ) (r : Repair) (new : List ℕ) : Type 0 where
+pub record RestoresWithin (m : ℕ) (old es : List ℕ) (reach : ℕ) (r : Result ℕ Question) (new : List ℕ) : Type 0 where
   pub answer : repair r ≡ within_of m old es reach
   pub word : new ≡ within_written m old es reach
 
@@ -188,5 +185,5 @@ restore_of m word es = within_of m word es (radius m (length es))
 abbrev pub restore_written : ℕ → List ℕ → List ℕ → List ℕ
 restore_written m word es = within_written m word es (radius m (length es))
 
-abbrev pub Restores : ℕ → List ℕ → List ℕ → Repair → List ℕ → Type 0
+abbrev pub Restores : ℕ → List ℕ → List ℕ → Result ℕ Question → List ℕ → Type 0
 Restores m old es r new = RestoresWithin m old es (radius m (length es)) r new

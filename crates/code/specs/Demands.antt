@@ -1,12 +1,12 @@
 -- The demands on encoder, reader and restorer, as statements about the definitions. The calls' contracts say that they answer by these
 -- definitions; proofs/Demands.antt proves each statement under the same name in small letters. Assumes nothing.
+use Rattle.std.specs.Prelude.{Ok, Result}
+use Rattle.field.specs.Question.{Verdict}
+use Rattle.field.specs.declared.Question.{Question}
 use Rattle.std.specs.Prelude.{◌≡◌, ◌↔◌, ◌≢◌, ◌⊎◌, true, false, cond, List, [], ◌∷◌, map, ℕ, ◌+◌, ◌%◌, ◌≤◌, ◌<◌, eqb, leb, length, replicate}
 use Rattle.field.specs.Field.{order}
 use Rattle.field.specs.Question.{Outcome, accepted, refused, ask, after, is_width, all_below}
 use Rattle.field.specs.declared.Question.TheVariants.{ErasureCount, ErasurePlace, ErasureDistinct, Symbol}
-use Rattle.field.specs.declared.Verdict.{Verdict}
-use Rattle.field.specs.declared.Verdict.TheVariants.{Passed}
-use Rattle.code.specs.declared.Repair.{Repair}
 use Rattle.code.specs.Word.{checks, five, places, items, at, syndrome, Codeword, data_of}
 use Rattle.code.specs.Erasure.{member, distinct, symbols_from, changes}
 use Rattle.code.specs.Near.{distance, Distance, radius, Near, nearby}
@@ -42,7 +42,7 @@ ReadBack =
 -- of a word that passes its questions the codeword test says yes exactly when it is a codeword, and else no
 abbrev pub TestsCodeword : Type 0
 TestsCodeword =
-    (m : ℕ) (w : List ℕ) → is_codeword_asked m w ≡ Passed
+    (m : ℕ) (w : List ℕ) → is_codeword_asked m w ≡ (Ok tt)
     → ((is_codeword_of m w ≡ accepted 1) ↔ Codeword m w) × ((is_codeword_of m w ≡ accepted 0) ↔ (Codeword m w → ⊥))
 
 -- ---- the distance
@@ -70,12 +70,12 @@ Radii =
 
 -- the input passes the questions about the word and its erasures
 abbrev pub Passes : ℕ → List ℕ → List ℕ → Type 0
-Passes m w es = restore_asked m w es ≡ Passed
+Passes m w es = restore_asked m w es ≡ (Ok tt)
 
 -- and with the reach all questions before question 8. The calls without a reach are those with r, so that each statement below is about them
 -- too: their reach is `radius m (length es)`, and with it this is Passes (`passes-radius` of proofs/calls/Passing.antt)
 abbrev pub PassesWithin : ℕ → List ℕ → List ℕ → ℕ → Type 0
-PassesWithin m w es reach = within_asked m w es reach ≡ Passed
+PassesWithin m w es reach = within_asked m w es reach ≡ (Ok tt)
 
 -- with fewer erasures than the distance there is never more than one near codeword
 abbrev pub NeverTwo : Type 0
@@ -129,7 +129,7 @@ earlier_asked m word es =
     (ask (leb (length es) 4) ErasureCount
     (ask (all_below (places m) es) ErasurePlace
     (ask (distinct es) ErasureDistinct
-    (ask (symbols_from (order m) es 0 word) Symbol Passed))))
+    (ask (symbols_from (order m) es 0 word) Symbol (Ok tt)))))
 
 -- question 8 as it was, which knew of no several: a near codeword is taken where there is one
 abbrev pub earlier_decided : ℕ → List ℕ → List ℕ → List (List ℕ) → Outcome
@@ -213,14 +213,14 @@ SameRestored =
 -- that try them have this one contract
 abbrev pub MethodsAgree : Type 0
 MethodsAgree =
-    (m : ℕ) (w es : List ℕ) (reach : ℕ) (a b : Repair) (u v : List ℕ) → RestoresWithin m w es reach a u → RestoresWithin m w es reach b v
+    (m : ℕ) (w es : List ℕ) (reach : ℕ) (a b : Result ℕ Question) (u v : List ℕ) → RestoresWithin m w es reach a u → RestoresWithin m w es reach b v
     → (repair a ≡ repair b) × (u ≡ v)
 
 -- ---- demand 3 of the calls themselves
 
 -- Of a call that was lent the word w with the erasures es, answered a and left u in the word's place: what demand 3 says of it at a reach.
 -- `passes` says that the input passes the questions before question 8
-pub record Decoded (passes : Type 0) (m : ℕ) (w es : List ℕ) (reach : ℕ) (a : Repair) (u : List ℕ) : Type 0 where
+pub record Decoded (passes : Type 0) (m : ℕ) (w es : List ℕ) (reach : ℕ) (a : Result ℕ Question) (u : List ℕ) : Type 0 where
   -- with fewer erasures than the distance there is never more than one near codeword
   pub never-two : passes → length es < distance m → (c d : List ℕ) → Near m es w reach c → Near m es w reach d → c ≡ d
   -- k places are restored and the word ends as c exactly when the input passes and c is the one near codeword, with k its count
@@ -235,32 +235,32 @@ pub record Decoded (passes : Type 0) (m : ℕ) (w es : List ℕ) (reach : ℕ) (
 -- so does every call that keeps the contract of the calls without a reach: the restorer decodes
 abbrev pub RestorerDecodes : Type 0
 RestorerDecodes =
-    (m : ℕ) (w es : List ℕ) (a : Repair) (u : List ℕ) → Restores m w es a u → Decoded (Passes m w es) m w es (radius m (length es)) a u
+    (m : ℕ) (w es : List ℕ) (a : Result ℕ Question) (u : List ℕ) → Restores m w es a u → Decoded (Passes m w es) m w es (radius m (length es)) a u
 
 -- and every call that keeps the contract of the calls with a reach
 abbrev pub ReachDecodes : Type 0
 ReachDecodes =
-    (m : ℕ) (w es : List ℕ) (reach : ℕ) (a : Repair) (u : List ℕ) → RestoresWithin m w es reach a u
+    (m : ℕ) (w es : List ℕ) (reach : ℕ) (a : Result ℕ Question) (u : List ℕ) → RestoresWithin m w es reach a u
     → Decoded (PassesWithin m w es reach) m w es reach a u
 
 -- any other number is that of the first earlier question that is answered no
 abbrev pub EarlierRefused : Type 0
 EarlierRefused =
-    (m : ℕ) (w es : List ℕ) (a : Repair) (u : List ℕ) (n : ℕ) → Restores m w es a u → n ≢ 7 → n ≢ 14
+    (m : ℕ) (w es : List ℕ) (a : Result ℕ Question) (u : List ℕ) (n : ℕ) → Restores m w es a u → n ≢ 7 → n ≢ 14
     → (repair a ≡ refused n) ↔ (done (restore_asked m w es) ≡ refused n)
 
 -- the last sentence of demand 3, of two calls without a reach: words of one width and length that agree outside the same erasures get the
 -- same answers, case and question, and if they are accepted they end equal, at every place
 abbrev pub SameDecoded : Type 0
 SameDecoded =
-    (m : ℕ) (w w' es es' : List ℕ) (a a' : Repair) (u u' : List ℕ) → Restores m w es a u → Restores m w' es' a' u'
+    (m : ℕ) (w w' es es' : List ℕ) (a a' : Result ℕ Question) (u u' : List ℕ) → Restores m w es a u → Restores m w' es' a' u'
     → length w ≡ length w' → SameErasures es es' → AgreeOutside es w w'
     → (a ≡ a') × ((k : ℕ) → repair a ≡ accepted k → u ≡ u')
 
 -- and of two calls at the same reach
 abbrev pub SameWithin : Type 0
 SameWithin =
-    (m : ℕ) (w w' es es' : List ℕ) (reach : ℕ) (a a' : Repair) (u u' : List ℕ) → RestoresWithin m w es reach a u
+    (m : ℕ) (w w' es es' : List ℕ) (reach : ℕ) (a a' : Result ℕ Question) (u u' : List ℕ) → RestoresWithin m w es reach a u
     → RestoresWithin m w' es' reach a' u' → length w ≡ length w' → SameErasures es es' → AgreeOutside es w w'
     → (a ≡ a') × ((k : ℕ) → repair a ≡ accepted k → u ≡ u')
 

@@ -10,66 +10,57 @@ ghost use Rattle.code.specs.inner.Locate.{point as pointM};
 ghost use Rattle.code.specs.inner.Beside.{Injective, Arranged, NoneRoot, NoneCheck, NoneOutside, NoneData, Only, Between, Apart, Eliminated};
 
 use crate::candidates::{CheckRange, candidate_checks, eliminated_rows, erasures_excluded};
-use crate::erasures::{
-    Correction, Trial, extended, listed, nothing, place_at, solve_trial, solved,
-};
+use crate::erasures::{Correction, Trial};
 use crate::roots::first_root;
+use crate::solver::Solutions;
 use crate::word::{Place, entry_times, items_of, place_of};
 
 // The trial with the extra place p.
-fn try_place(width: u8, word: &[u8], t: Trial, p: Place) -> Correction
+fn try_place(width: u8, word: &[u8], t: Trial, p: Place) -> Solutions<Correction>
     requires { t.count < unknowns }
-    ensures { (result.count ≤ unknowns)
-        × (Ready width word.now t
-        → Searched width word.now (places_of t) 1 (NoneBeside width word.now p.0 (places_of t)) result) }
+    ensures { Ready width word.now t
+        → Searched width word.now (places_of t) 1 (NoneBeside width word.now p.0 (places_of t)) result }
 {
     let i = p.0 as usize;
-    let places = t.places;
-    let count = t.count;
-    if word.len() <= i {
-        return nothing();
+    if word.len() <= i || t.contains(p) {
+        return Solutions::None;
     }
-    if listed(places, count, p) {
-        return nothing();
-    }
-    solve_trial(width, extended(width, t, p, word[i]))
+    t.extended(width, p, word[i]).solve(width)
 }
 
 // The trial with the extra data place at which the quadratic is 0.
-fn try_root(width: u8, word: &[u8], t: Trial, square: u8, linear: u8, constant: u8) -> Correction
+fn try_root(
+    width: u8,
+    word: &[u8],
+    t: Trial,
+    square: u8,
+    linear: u8,
+    constant: u8,
+) -> Solutions<Correction>
     requires { (t.count < unknowns) × (checks ≤ length word.now) × (length word.now ≤ longest) }
-    ensures { (result.count ≤ unknowns)
-        × (Ready width word.now t
-        → Searched width word.now (places_of t) 1 (NoneRoot width word.now (places_of t) square linear constant) result) }
+    ensures { Ready width word.now t
+        → Searched width word.now (places_of t) 1 (NoneRoot width word.now (places_of t) square linear constant) result }
 {
     let n = items_of(word);
-    let f = first_root(width, square, linear, constant, n);
-    let e = f.at;
-    if n <= e.0 {
-        return nothing();
+    match first_root(width, square, linear, constant, n) {
+        Some(root) => try_place(width, word, t, place_of(root)),
+        None => Solutions::None,
     }
-    try_place(width, word, t, place_of(e))
 }
 
 // The trial with an extra check place of the range.
-fn try_checks(width: u8, word: &[u8], t: Trial, f: CheckRange) -> Correction
+fn try_checks(width: u8, word: &[u8], t: Trial, f: CheckRange) -> Solutions<Correction>
     requires { t.count < unknowns }
-    ensures { (result.count ≤ unknowns)
-        × (Ready width word.now t → NoneOutside width word.now (places_of t) f.low.0 f.high.0
-        → Searched width word.now (places_of t) 1 (NoneCheck width word.now (places_of t)) result) }
+    ensures { Ready width word.now t → NoneOutside width word.now (places_of t) f.low.0 f.high.0
+        → Searched width word.now (places_of t) 1 (NoneCheck width word.now (places_of t)) result }
 {
-    let low = f.low;
-    let high = f.high;
-    let end = high.0;
-    let mut p = low.0;
-    while p < end {
+    for p in f.low.0..f.high.0 {
         let c = try_place(width, word, t, Place(p));
-        if solved(c) {
+        if c.exist() {
             return c;
         }
-        p += 1;
     }
-    nothing()
+    Solutions::None
 }
 
 // Rows `from` and `from` + gap.
@@ -103,8 +94,7 @@ fn rows_between(c: Place, d: Place) -> Span
 fn rows_beside(c: Place) -> Span
     ensures { Apart c.0 result }
 {
-    let row = c.0;
-    match row {
+    match c.0 {
         0 => Span { gap: 1, from: 1 },
         1 => Span { gap: 1, from: 2 },
         2 => Span { gap: 3, from: 0 },
@@ -113,19 +103,21 @@ fn rows_beside(c: Place) -> Span
 }
 
 // The trial with the extra data place of which the syndromes tell, beside the erased check places c and d.
-fn try_data_beside_checks(width: u8, word: &[u8], t: Trial, c: Place, d: Place) -> Correction
+fn try_data_beside_checks(
+    width: u8,
+    word: &[u8],
+    t: Trial,
+    c: Place,
+    d: Place,
+) -> Solutions<Correction>
     requires { (c.0 ≤ d.0) × (t.count < unknowns) × (checks ≤ length word.now) × (length word.now ≤ longest) }
-    ensures { (result.count ≤ unknowns)
-        × (Ready width word.now t → all_below checks (places_of t) ≡ true → Only (places_of t) c.0 d.0
-        → Searched width word.now (places_of t) 1 (NoneData width word.now (places_of t) (at t.sums)) result) }
+    ensures { Ready width word.now t → all_below checks (places_of t) ≡ true → Only (places_of t) c.0 d.0
+        → Searched width word.now (places_of t) 1 (NoneData width word.now (places_of t) (at t.sums)) result }
 {
-    let sums = t.sums;
     let s = rows_between(c, d);
-    let gap = s.gap as usize;
-    let k = s.from as usize;
-    let low = sums[k];
-    let high = sums[gap + k];
-    if gap == 1 {
+    let low = t.sums[s.from as usize];
+    let high = t.sums[(s.gap + s.from) as usize];
+    if s.gap == 1 {
         try_root(width, word, t, 0, low, high)
     } else {
         try_root(width, word, t, low, 0, high)
@@ -147,20 +139,17 @@ fn try_data_beside_data_and_check(
     t: Trial,
     a: Place,
     c: Place,
-) -> Correction
+) -> Solutions<Correction>
     requires { (t.count < unknowns) × (checks ≤ length word.now) × (length word.now ≤ longest) }
-    ensures { (result.count ≤ unknowns)
-        × (Ready width word.now t
-        → ((cs : List ℕ) → Arranged (places_of t) (a.0 ∷ cs) → checks ≤ a.0 → all_below checks cs ≡ true → Only cs c.0 c.0 → (c.0 ≡ 2 → Injective width 3)
-        → Searched width word.now (places_of t) 1 (NoneData width word.now (places_of t) (at t.sums)) result)) }
+    ensures { Ready width word.now t
+        → (cs : List ℕ) → Arranged (places_of t) (a.0 ∷ cs) → checks ≤ a.0 → all_below checks cs ≡ true → Only cs c.0 c.0 → (c.0 ≡ 2 → Injective width 3)
+        → Searched width word.now (places_of t) 1 (NoneData width word.now (places_of t) (at t.sums)) result }
 {
-    let sums = t.sums;
     let s = rows_beside(c);
-    let h = s.gap;
     let k = s.from as usize;
-    let j = h as usize + k;
-    let low = eliminated(width, a, h, sums[k], sums[j]);
-    let high = eliminated(width, a, h, sums[k + 1], sums[j + 1]);
+    let j = s.gap as usize + k;
+    let low = eliminated(width, a, s.gap, t.sums[k], t.sums[j]);
+    let high = eliminated(width, a, s.gap, t.sums[k + 1], t.sums[j + 1]);
     try_root(width, word, t, 0, low, high)
 }
 
@@ -172,41 +161,35 @@ fn try_data_beside_two(
     rows: [u8; 5],
     p: Place,
     q: Place,
-) -> Correction
+) -> Solutions<Correction>
     requires { (t.count < unknowns) × (checks ≤ length word.now) × (length word.now ≤ longest) }
-    ensures { (result.count ≤ unknowns)
-        × (Ready width word.now t → Eliminated width (places_of t) t.sums rows → places_of t ≡ p.0 ∷ q.0 ∷ [] → Injective width 3
-        → Searched width word.now (places_of t) 1 (NoneData width word.now (places_of t) (at t.sums)) result) }
+    ensures { Ready width word.now t → Eliminated width (places_of t) t.sums rows → places_of t ≡ p.0 ∷ q.0 ∷ [] → Injective width 3
+        → Searched width word.now (places_of t) 1 (NoneData width word.now (places_of t) (at t.sums)) result }
 {
-    let i = p.0;
-    let j = q.0;
-    if i < 5 {
-        if 5 <= j {
+    if p.0 < 5 {
+        if 5 <= q.0 {
             return try_data_beside_data_and_check(width, word, t, q, p);
         }
-        if i <= j {
+        if p.0 <= q.0 {
             return try_data_beside_checks(width, word, t, p, q);
         }
         return try_data_beside_checks(width, word, t, q, p);
     }
-    if j < 5 {
+    if q.0 < 5 {
         return try_data_beside_data_and_check(width, word, t, p, q);
     }
     try_root(width, word, t, 0, rows[0], rows[1])
 }
 
 // The same beside the erasures, of which there are one or two.
-fn try_data(width: u8, word: &[u8], t: Trial, rows: [u8; 5]) -> Correction
+fn try_data(width: u8, word: &[u8], t: Trial, rows: [u8; 5]) -> Solutions<Correction>
     requires { (0 < t.count) × (t.count ≤ 2) × (checks ≤ length word.now) × (length word.now ≤ longest) }
-    ensures { (result.count ≤ unknowns)
-        × (Ready width word.now t → Eliminated width (places_of t) t.sums rows → (t.count ≡ 2 → Injective width 3)
-        → Searched width word.now (places_of t) 1 (NoneData width word.now (places_of t) (at t.sums)) result) }
+    ensures { Ready width word.now t → Eliminated width (places_of t) t.sums rows → (t.count ≡ 2 → Injective width 3)
+        → Searched width word.now (places_of t) 1 (NoneData width word.now (places_of t) (at t.sums)) result }
 {
-    let count = t.count;
-    let places = t.places;
-    let p = place_at(places, 0);
-    if count == 2 {
-        return try_data_beside_two(width, word, t, rows, p, place_at(places, 1));
+    let p = t.places[0];
+    if t.count == 2 {
+        return try_data_beside_two(width, word, t, rows, p, t.places[1]);
     }
     if p.0 < 5 {
         return try_data_beside_checks(width, word, t, p, p);
@@ -215,33 +198,31 @@ fn try_data(width: u8, word: &[u8], t: Trial, rows: [u8; 5]) -> Correction
 }
 
 // The trial as it is, unless that is ruled out already.
-fn solve_erasures(width: u8, t: Trial, f: CheckRange) -> Correction
+fn solve_erasures(width: u8, t: Trial, f: CheckRange) -> Solutions<Correction>
     requires { t.count ≤ unknowns }
-    ensures { (result.count ≤ unknowns)
-        × ((w : List ℕ) → Ready width w t → NoneOutside width w (places_of t) f.low.0 f.high.0
-        → Searched width w (places_of t) 0 (NoneAt width w (places_of t)) result) }
+    ensures { (w : List ℕ) → Ready width w t → NoneOutside width w (places_of t) f.low.0 f.high.0
+        → Searched width w (places_of t) 0 (NoneAt width w (places_of t)) result }
 {
     if erasures_excluded(t, f) {
-        return nothing();
+        return Solutions::None;
     }
-    solve_trial(width, t)
+    t.solve(width)
 }
 
 // A correction with at most one extra place, beside one or two erasures.
-pub fn find_beside(width: u8, word: &[u8], t: Trial) -> Correction
+pub fn find_beside(width: u8, word: &[u8], t: Trial) -> Solutions<Correction>
     requires { (0 < t.count) × (t.count ≤ 2) × (checks ≤ length word.now) × (length word.now ≤ longest) }
-    ensures { (result.count ≤ unknowns)
-        × (Ready width word.now t → (t.count ≡ 2 → Injective width 3)
-        → Searched width word.now (places_of t) 1 (NoneWithin width word.now (places_of t) 1) result) }
+    ensures { Ready width word.now t → (t.count ≡ 2 → Injective width 3)
+        → Searched width word.now (places_of t) 1 (NoneWithin width word.now (places_of t) 1) result }
 {
     let rows = eliminated_rows(width, t);
     let f = candidate_checks(t, rows);
     let b = solve_erasures(width, t, f);
-    if solved(b) {
+    if b.exist() {
         return b;
     }
     let c = try_data(width, word, t, rows);
-    if solved(c) {
+    if c.exist() {
         return c;
     }
     try_checks(width, word, t, f)

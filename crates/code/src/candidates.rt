@@ -9,7 +9,7 @@ ghost use Rattle.code.specs.inner.Correction.{NoneAt, places_of, Ready};
 ghost use Rattle.code.specs.inner.Locate.{point as pointM};
 ghost use Rattle.code.specs.inner.Beside.{eliminate, NoneOutside, Tell, Eliminated};
 
-use crate::erasures::{Trial, listed, place_at};
+use crate::erasures::Trial;
 use crate::solver::add_times;
 use crate::word::{Place, point};
 
@@ -31,12 +31,11 @@ fn narrowed(f: CheckRange, k: Place, n: u8, x: u8) -> CheckRange
     if x == 0 {
         return f;
     }
-    let high = f.high;
-    let end = Place(k.0 + n);
-    if high.0 < end.0 {
-        return CheckRange { low: k, high };
+    let end = f.high.0.min(k.0 + n);
+    CheckRange {
+        low: k,
+        high: Place(end),
     }
-    CheckRange { low: k, high: end }
 }
 
 // The check places that are among the n from k on, for each row k that is not 0.
@@ -44,15 +43,12 @@ fn range_of(rows: [u8; 5], n: u8) -> CheckRange
     requires { (0 < n) × (n ≤ checks) }
     ensures { (m : ℕ) (w es : List ℕ) → Tell m w es n (at rows) → NoneOutside m w es result.low.0 result.high.0 }
 {
-    let end = 6 - n;
     let mut f = CheckRange {
         low: Place(0),
         high: Place(5),
     };
-    let mut k: u8 = 0;
-    while k < end {
+    for k in 0..6 - n {
         f = narrowed(f, Place(k), n, rows[k as usize]);
-        k += 1;
     }
     f
 }
@@ -75,11 +71,10 @@ fn without_one(width: u8, t: Trial, p: Place) -> [u8; 5]
         → (checks ≤ p.0 → result ≡ five (eliminate width 1 (pointM width p.0) (at t.sums))) × (p.0 < checks → result ≡ set t.sums p.0 0) }
 {
     let mut rows = t.sums;
-    let i = p.0;
-    if 5 <= i {
+    if 5 <= p.0 {
         return differences(width, rows, p);
     }
-    rows[i as usize] = 0;
+    rows[p.0 as usize] = 0;
     rows
 }
 
@@ -88,13 +83,10 @@ fn without_two(width: u8, t: Trial, p: Place, q: Place) -> [u8; 5]
     ensures { (w : List ℕ) → Ready width w t → checks ≤ p.0 → checks ≤ q.0
         → result ≡ five (eliminate width 1 (pointM width q.0) (at (five (eliminate width 1 (pointM width p.0) (at t.sums))))) }
 {
-    let sums = t.sums;
-    if 5 <= p.0 {
-        if 5 <= q.0 {
-            return differences(width, differences(width, sums, p), q);
-        }
+    if 5 <= p.0 && 5 <= q.0 {
+        return differences(width, differences(width, t.sums, p), q);
     }
-    sums
+    t.sums
 }
 
 // The same without the erasures.
@@ -102,35 +94,27 @@ pub fn eliminated_rows(width: u8, t: Trial) -> [u8; 5]
     requires { (0 < t.count) × (t.count ≤ 2) }
     ensures { (w : List ℕ) → Ready width w t → Eliminated width (places_of t) t.sums result }
 {
-    let places = t.places;
-    let count = t.count;
-    let p = place_at(places, 0);
-    if count == 1 {
+    let p = t.places[0];
+    if t.count == 1 {
         return without_one(width, t, p);
     }
-    without_two(width, t, p, place_at(places, 1))
+    without_two(width, t, p, t.places[1])
 }
 
 // The check places that come into question beside the erasures.
 pub fn candidate_checks(t: Trial, rows: [u8; 5]) -> CheckRange
     ensures { (m : ℕ) (w : List ℕ) → Ready m w t → Eliminated m (places_of t) t.sums rows → NoneOutside m w (places_of t) result.low.0 result.high.0 }
 {
-    let places = t.places;
-    let count = t.count;
-    let p = place_at(places, 0);
-    let q = place_at(places, 1);
-    if count == 1 {
+    let p = t.places[0];
+    let q = t.places[1];
+    if t.count == 1 {
         if 5 <= p.0 {
             return range_of(rows, 2);
         }
         return range_of(rows, 1);
     }
-    if count == 2 {
-        if 5 <= p.0 {
-            if 5 <= q.0 {
-                return range_of(rows, 3);
-            }
-        }
+    if t.count == 2 && 5 <= p.0 && 5 <= q.0 {
+        return range_of(rows, 3);
     }
     CheckRange {
         low: Place(0),
@@ -144,15 +128,11 @@ pub fn erasures_excluded(t: Trial, f: CheckRange) -> bool
     requires { t.count ≤ unknowns }
     ensures { result ≡ true → (m : ℕ) (w : List ℕ) → Ready m w t → NoneOutside m w (places_of t) f.low.0 f.high.0 → NoneAt m w (places_of t) }
 {
-    let places = t.places;
-    let count = t.count;
-    let low = f.low;
-    let high = f.high;
-    if 0 < low.0 {
-        return !listed(places, count, Place(0));
+    if 0 < f.low.0 {
+        return !t.contains(Place(0));
     }
-    if high.0 < 5 {
-        return !listed(places, count, Place(4));
+    if f.high.0 < 5 {
+        return !t.contains(Place(4));
     }
     false
 }

@@ -1,83 +1,30 @@
 // A trial: places that are taken as erased, and the syndromes of the word without the symbols there. Its linear system gives a correction, the
 // symbols that belong at the places, which is written into the word. These functions are no entry points.
-ghost use Rattle.std.specs.Prelude.{◌≡◌, true, false, cond, List, ◌∷◌, [], ◌++◌, ℕ, ◌+◌, ◌≤◌, ◌<◌, length, get_or, take};
+ghost use Rattle.std.specs.Prelude.{◌≡◌, true, false, cond, List, ◌∷◌, [], ◌++◌, ℕ, ◌+◌, ◌≤◌, ◌<◌, length, take};
 ghost use Rattle.field.specs.Question.{is_width, all_below};
-ghost use Rattle.code.specs.Word.{checks, places, longest, at};
+ghost use Rattle.code.specs.Word.{places, longest, at};
 ghost use Rattle.code.specs.Erasure.{member, syndromes_without, distinct, differ, changes_below};
 ghost use Rattle.code.specs.Call.{all_zero};
 ghost use Rattle.code.specs.inner.Place.{numbers};
 ghost use Rattle.code.specs.inner.Matrix.{unknowns, rows, column_of};
-ghost use Rattle.code.specs.inner.Correction.{fill, Lent, places_of, Ready, Workable, SystemColumns, SystemMatrix};
-ghost use Rattle.code.specs.inner.Correction.{corrected_places, corrected, NoneAt, Searched, is_solved};
-ghost use Rattle.code.specs.declared.solver.Solutions.TheVariants.{None};
+ghost use Rattle.code.specs.inner.Correction.{Lent, places_of, Ready, Workable, SystemColumns, SystemMatrix};
+ghost use Rattle.code.specs.inner.Correction.{corrected_places, corrected, NoneAt, Searched};
 
 use crate::solver::{COLUMNS, ROWS, Solutions, UNKNOWNS, solve};
-use crate::validation::{all_zero, contains};
-use crate::word::{Place, copy, masked, whole_column, word_syndromes};
+use crate::validation::all_zero;
+use crate::word::{Place, masked, whole_column, word_syndromes};
 
 // Room for as many places as the solver has unknowns.
 pub type Places = [Place; UNKNOWNS];
 
-// Place number i of them: the one way in which they are read.
-pub fn place_at(places: Places, i: usize) -> Place
-    requires { i < unknowns }
-    ensures { result.0 ≡ get_or (numbers places) i 0 }
-{
-    places[i]
-}
-
-// Places taken as erased, the first `count` of them, and the five syndromes of the other places.
-#[derive(Clone, Copy)]
-pub struct Trial {
-    pub places: Places,
-    pub count: usize,
-    pub sums: [u8; 5],
-}
-
-// The first `count` places with p in front.
-fn prepended(places: Places, count: usize, p: Place) -> Places
-    requires { count < unknowns }
-    ensures { take (count + 1) (numbers result) ≡ p.0 ∷ take count (numbers places) }
+// The places with p in front.
+fn prepended(places: &[Place], p: Place) -> Places
+    requires { length places.now < unknowns }
+    ensures { take (length places.now + 1) (numbers result) ≡ p.0 ∷ numbers places.now }
 {
     let mut out = [p; UNKNOWNS];
-    let mut j = 0;
-    while j < count {
-        out[j + 1] = place_at(places, j);
-        j += 1;
-    }
+    out[1..places.len() + 1].copy_from_slice(places);
     out
-}
-
-// The trial with one more place p, where the word holds x.
-pub fn extended(width: u8, t: Trial, p: Place, x: u8) -> Trial
-    requires { t.count < unknowns }
-    ensures { (result.count ≡ t.count + 1)
-        × ((w : List ℕ) → Ready width w t → p.0 < places width → member p.0 (places_of t) ≡ false → x ≡ at w p.0 → (places_of result ≡ p.0 ∷ places_of t) × Ready width w result) }
-{
-    let places = t.places;
-    let count = t.count;
-    let sums = t.sums;
-    Trial {
-        places: prepended(places, count, p),
-        count: count + 1,
-        sums: masked(width, sums, p, x),
-    }
-}
-
-// Is p one of the first `count` places?
-pub fn listed(places: Places, count: usize, p: Place) -> bool
-    requires { count ≤ unknowns }
-    ensures { result ≡ member p.0 (take count (numbers places)) }
-{
-    let mut i = 0;
-    while i < count {
-        let q = place_at(places, i);
-        if q.0 == p.0 {
-            return true;
-        }
-        i += 1;
-    }
-    false
 }
 
 // The word, copied to the front of an array that has room for the longest.
@@ -85,44 +32,21 @@ fn copied(word: &[u8]) -> [u8; 132]
     requires { length word.now ≤ longest }
     ensures { take (length word.now) result ≡ word.now }
 {
-    let mut out = [0u8; 132];
-    let n = word.len();
-    copy(&mut out[..n], word);
+    let mut out = [0; 132];
+    out[..word.len()].copy_from_slice(word);
     out
 }
 
-// The values put in at the first `count` places of the row, whose first n bytes are the word.
-fn filled(
-    row: [u8; 132],
-    n: usize,
-    places: Places,
-    count: usize,
-    values: [u8; UNKNOWNS],
-) -> [u8; 132]
-    requires { (count ≤ unknowns) × (n ≤ longest) × (all_below n (take count (numbers places)) ≡ true) }
-    ensures { take n result ≡ fill (take n row) (take count (numbers places)) (take count values) }
+// The five syndromes of the word without the symbols at the erasures: zeros take their place.
+fn masked_sums(width: u8, word: &[u8], erasures: &[u8]) -> [u8; 5]
+    requires { Workable word.now erasures.now }
+    ensures { is_width width ≡ true → Lent width word.now erasures.now → result ≡ syndromes_without width erasures.now word.now }
 {
-    let mut out = row;
-    let mut i = count;
-    while 0 < i {
-        i -= 1;
-        let place = place_at(places, i);
-        let p = place.0 as usize;
-        out[p] = values[i];
+    let mut row = copied(word);
+    for p in erasures {
+        row[*p as usize] = 0;
     }
-    out
-}
-
-// The five syndromes of the word without the symbols at the first `count` places: zeros take their place.
-fn masked_sums(width: u8, word: &[u8], places: Places, count: usize) -> [u8; 5]
-    requires { (count ≤ unknowns) × (checks ≤ length word.now) × (length word.now ≤ longest)
-        × (all_below (length word.now) (take count (numbers places)) ≡ true) }
-    ensures { is_width width ≡ true → Lent width word.now (take count (numbers places))
-        → result ≡ syndromes_without width (take count (numbers places)) word.now }
-{
-    let n = word.len();
-    let row = filled(copied(word), n, places, count, [0; UNKNOWNS]);
-    word_syndromes(width, &row[..n])
+    word_syndromes(width, &row[..word.len()])
 }
 
 // The erasures, which are lent as bytes, made places.
@@ -131,94 +55,20 @@ fn row_of_places(erasures: &[u8]) -> Places
     ensures { take (length erasures.now) (numbers result) ≡ erasures.now }
 {
     let mut out = [Place(0); UNKNOWNS];
-    let mut i = 0;
-    while i < erasures.len() {
-        out[i] = Place(erasures[i]);
-        i += 1;
+    for (i, erasure) in erasures.iter().enumerate() {
+        out[i] = Place(*erasure);
     }
     out
 }
 
-// The trial of the erasures alone.
-pub fn erasure_trial(width: u8, word: &[u8], erasures: &[u8]) -> Trial
-    requires { Workable word.now erasures.now }
-    ensures { (result.count ≡ length erasures.now)
-        × (places_of result ≡ erasures.now)
-        × (is_width width ≡ true → Lent width word.now erasures.now → Ready width word.now result) }
+// The columns at the places, then zeros.
+fn columns_of(width: u8, places: &[Place]) -> [[u8; ROWS]; UNKNOWNS]
+    requires { length places.now ≤ unknowns }
+    ensures { SystemColumns width (numbers places.now) result }
 {
-    let places = row_of_places(erasures);
-    let count = erasures.len();
-    if count == 0 {
-        let sums = word_syndromes(width, word);
-        return Trial {
-            places,
-            count,
-            sums,
-        };
-    }
-    let sums = masked_sums(width, word, places, count);
-    Trial {
-        places,
-        count,
-        sums,
-    }
-}
-
-// Has the trial no places, and are its syndromes zero? Then the word is a codeword.
-pub fn is_clean(t: Trial) -> bool
-    ensures { result ≡ true → (t.count ≡ 0) × (all_zero t.sums ≡ true) }
-{
-    let count = t.count;
-    if 0 < count {
-        return false;
-    }
-    let sums = t.sums;
-    all_zero(&sums)
-}
-
-// Whether a codeword was found or several, and, where it was one, the symbols that belong at the first `count` places.
-#[derive(Clone, Copy)]
-pub struct Correction {
-    pub found: Solutions,
-    pub count: usize,
-    pub places: Places,
-    pub values: [u8; UNKNOWNS],
-}
-
-// No correction.
-pub fn nothing() -> Correction
-    ensures { (result.count ≤ unknowns) × (result.found ≡ None) }
-{
-    Correction {
-        found: Solutions::None,
-        count: 0,
-        places: [Place(0); UNKNOWNS],
-        values: [0; UNKNOWNS],
-    }
-}
-
-// Has a codeword been found, or several?
-pub fn solved(c: Correction) -> bool
-    ensures { result ≡ is_solved c.found }
-{
-    let found = c.found;
-    match found {
-        Solutions::None => false,
-        Solutions::One => true,
-        Solutions::Several => true,
-    }
-}
-
-// The columns at the first `count` places, then zeros.
-fn columns_of(width: u8, places: Places, count: usize) -> [[u8; ROWS]; UNKNOWNS]
-    requires { count ≤ unknowns }
-    ensures { SystemColumns width (take count (numbers places)) result }
-{
-    let mut columns = [[0u8; ROWS]; UNKNOWNS];
-    let mut j = 0;
-    while j < count {
-        columns[j] = whole_column(width, place_at(places, j));
-        j += 1;
+    let mut columns = [[0; ROWS]; UNKNOWNS];
+    for (j, place) in places.iter().enumerate() {
+        columns[j] = whole_column(width, *place);
     }
     columns
 }
@@ -240,37 +90,96 @@ fn row_at(sum: u8, columns: [[u8; ROWS]; UNKNOWNS], k: usize) -> [u8; COLUMNS]
     ]
 }
 
-// The system of a trial: the columns at its places, and its syndromes on the right.
-fn matrix_of(width: u8, places: Places, count: usize, sums: [u8; 5]) -> [[u8; COLUMNS]; ROWS]
-    requires { count ≤ unknowns }
-    ensures { SystemMatrix width (numbers places) count sums result }
-{
-    let columns = columns_of(width, places, count);
-    [
-        row_at(sums[0], columns, 0),
-        row_at(sums[1], columns, 1),
-        row_at(sums[2], columns, 2),
-        row_at(sums[3], columns, 3),
-        row_at(sums[4], columns, 4),
-    ]
+// Places taken as erased, the first `count` of them, and the five syndromes of the other places.
+#[derive(Clone, Copy)]
+pub struct Trial {
+    pub places: Places,
+    pub count: usize,
+    pub sums: [u8; 5],
 }
 
-// The codeword that agrees with the word outside the places of the trial, if there is just one.
-pub fn solve_trial(width: u8, t: Trial) -> Correction
-    requires { t.count ≤ unknowns }
-    ensures { (result.count ≤ unknowns) × ((w : List ℕ) → Ready width w t → Searched width w (places_of t) 0 (NoneAt width w (places_of t)) result) }
-{
-    let places = t.places;
-    let count = t.count;
-    let sums = t.sums;
-    let s = solve(width, matrix_of(width, places, count, sums), count);
-    let found = s.found;
-    let values = s.values;
-    Correction {
-        found,
-        count,
-        places,
-        values,
+impl Trial {
+    // The trial of the erasures alone.
+    pub fn of_erasures(width: u8, word: &[u8], erasures: &[u8]) -> Trial
+        requires { Workable word.now erasures.now }
+        ensures { (result.count ≡ length erasures.now)
+            × (places_of result ≡ erasures.now)
+            × (is_width width ≡ true → Lent width word.now erasures.now → Ready width word.now result) }
+    {
+        let places = row_of_places(erasures);
+        let sums = if erasures.is_empty() {
+            word_syndromes(width, word)
+        } else {
+            masked_sums(width, word, erasures)
+        };
+        Trial {
+            places,
+            count: erasures.len(),
+            sums,
+        }
+    }
+
+    // The trial with one more place p, where the word holds x.
+    pub fn extended(self, width: u8, p: Place, x: u8) -> Trial
+        requires { self.count < unknowns }
+        ensures { (result.count ≡ self.count + 1)
+            × ((w : List ℕ) → Ready width w self → p.0 < places width → member p.0 (places_of self) ≡ false → x ≡ at w p.0 → (places_of result ≡ p.0 ∷ places_of self) × Ready width w result) }
+    {
+        let places = prepended(&self.places[..self.count], p);
+        let sums = masked(width, self.sums, p, x);
+        Trial {
+            places,
+            count: self.count + 1,
+            sums,
+        }
+    }
+
+    // Is p one of the places?
+    pub fn contains(self, p: Place) -> bool
+        requires { self.count ≤ unknowns }
+        ensures { result ≡ member p.0 (places_of self) }
+    {
+        self.places[..self.count].contains(&p)
+    }
+
+    // Are there no places, and are the syndromes zero? Then the word is a codeword.
+    pub fn is_clean(self) -> bool
+        ensures { result ≡ true → (self.count ≡ 0) × (all_zero self.sums ≡ true) }
+    {
+        self.count == 0 && all_zero(&self.sums)
+    }
+
+    // The system: the columns at the places, and the syndromes on the right.
+    fn matrix(self, width: u8) -> [[u8; COLUMNS]; ROWS]
+        requires { self.count ≤ unknowns }
+        ensures { SystemMatrix width (numbers self.places) self.count self.sums result }
+    {
+        let columns = columns_of(width, &self.places[..self.count]);
+        [
+            row_at(self.sums[0], columns, 0),
+            row_at(self.sums[1], columns, 1),
+            row_at(self.sums[2], columns, 2),
+            row_at(self.sums[3], columns, 3),
+            row_at(self.sums[4], columns, 4),
+        ]
+    }
+
+    // The codeword that agrees with the word outside the places, if there is just one.
+    pub fn solve(self, width: u8) -> Solutions<Correction>
+        requires { self.count ≤ unknowns }
+        ensures { (w : List ℕ) → Ready width w self → Searched width w (places_of self) 0 (NoneAt width w (places_of self)) result }
+    {
+        let places = self.places;
+        let count = self.count;
+        match solve(width, self.matrix(width), count) {
+            Solutions::None => Solutions::None,
+            Solutions::One(values) => Solutions::One(Correction {
+                count,
+                places,
+                values,
+            }),
+            Solutions::Several => Solutions::Several,
+        }
     }
 }
 
@@ -278,34 +187,33 @@ pub fn solve_trial(width: u8, t: Trial) -> Correction
 fn change_at(erasures: &[u8], p: Place, x: u8, y: u8) -> u8
     ensures { result ≡ cond (member p.0 erasures.now) 0 (differ x y) }
 {
-    if x == y {
-        return 0;
-    }
-    if contains(erasures, p.0) {
-        return 0;
-    }
-    1
+    u8::from(x != y && !erasures.contains(&p.0))
 }
 
-// Writes the corrected word, at the places of the correction alone, and counts the changes outside the erasures.
-pub fn apply_correction(word: &mut [u8], erasures: &[u8], c: Correction) -> u8
-    requires { (c.count ≤ unknowns) × (length word.old ≤ longest) × (all_below (length word.old) (corrected_places c) ≡ true)
-        × (distinct (corrected_places c) ≡ true) }
-    ensures { (word.new ≡ corrected word.old c)
-        × (result ≡ changes_below (length word.old) erasures.now word.old (corrected word.old c)) }
-{
-    let places = c.places;
-    let values = c.values;
-    let mut k: u8 = 0;
-    let mut i = c.count;
-    while 0 < i {
-        i -= 1;
-        let place = place_at(places, i);
-        let p = place.0 as usize;
-        let old = word[p];
-        let value = values[i];
-        k += change_at(erasures, place, old, value);
-        word[p] = value;
+// The symbols that belong at the first `count` places.
+#[derive(Clone, Copy)]
+pub struct Correction {
+    pub count: usize,
+    pub places: Places,
+    pub values: [u8; UNKNOWNS],
+}
+
+impl Correction {
+    // Writes the corrected word, at the places of the correction alone, and counts the changes outside the erasures.
+    pub fn apply(self, word: &mut [u8], erasures: &[u8]) -> u8
+        requires { (self.count ≤ unknowns) × (length word.old ≤ longest) × (all_below (length word.old) (corrected_places self) ≡ true)
+            × (distinct (corrected_places self) ≡ true) }
+        ensures { (word.new ≡ corrected word.old self)
+            × (result ≡ changes_below (length word.old) erasures.now word.old (corrected word.old self)) }
+    {
+        let mut k: u8 = 0;
+        for i in (0..self.count).rev() {
+            let place = self.places[i];
+            let p = place.0 as usize;
+            let old = word[p];
+            k += change_at(erasures, place, old, self.values[i]);
+            word[p] = self.values[i];
+        }
+        k
     }
-    k
 }

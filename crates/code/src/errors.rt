@@ -6,12 +6,10 @@ ghost use Rattle.field.specs.Question.{is_width};
 ghost use Rattle.field.specs.inner.Operand.{Operand};
 ghost use Rattle.code.specs.Word.{checks, places, longest, at};
 ghost use Rattle.code.specs.inner.Place.{column as columnM};
-ghost use Rattle.code.specs.inner.Matrix.{unknowns};
 ghost use Rattle.code.specs.inner.Correction.{places_of, Ready, Searched, NoneWithin};
-ghost use Rattle.code.specs.declared.solver.Solutions.TheVariants.{One};
-ghost use Rattle.code.specs.inner.Locate.{without, full, Lists, AddsAt, NoRatio, NoPair, PairValues};
+ghost use Rattle.code.specs.inner.Locate.{without, full, Lists, AddsAt, NoRatio, NoPair, NoPairs, PairValues};
 
-use crate::erasures::{Correction, Trial, nothing, solved};
+use crate::erasures::{Correction, Trial};
 use crate::roots::{first_root, two_roots};
 use crate::solver::Solutions;
 use crate::validation::all_zero;
@@ -34,12 +32,10 @@ fn with_nonzero(f: FirstTwo, k: Place, x: u8) -> FirstTwo
     if x == 0 {
         return f;
     }
-    let count = f.count;
-    let first = f.first;
     FirstTwo {
-        count: count + 1,
+        count: f.count + 1,
         first: k,
-        second: first,
+        second: f.first,
     }
 }
 
@@ -47,88 +43,78 @@ fn with_nonzero(f: FirstTwo, k: Place, x: u8) -> FirstTwo
 fn nonzeros(sums: [u8; 5]) -> FirstTwo
     ensures { (result.count ≤ checks) × Lists result (full checks (at sums)) }
 {
-    let f = FirstTwo {
+    let mut f = FirstTwo {
         count: 0,
         first: Place(0),
         second: Place(0),
     };
-    let f0 = with_nonzero(f, Place(0), sums[0]);
-    let f1 = with_nonzero(f0, Place(1), sums[1]);
-    let f2 = with_nonzero(f1, Place(2), sums[2]);
-    let f3 = with_nonzero(f2, Place(3), sums[3]);
-    with_nonzero(f3, Place(4), sums[4])
+    for k in 0..5 {
+        f = with_nonzero(f, Place(k), sums[k as usize]);
+    }
+    f
 }
 
 // The byte at a place; 0 behind the last.
 fn byte_at(bytes: &[u8], p: Place) -> u8
     ensures { result ≡ at bytes.now p.0 }
 {
-    let i = p.0 as usize;
-    if i < bytes.len() { bytes[i] } else { 0 }
+    bytes.get(p.0 as usize).copied().unwrap_or(0)
 }
 
 // The correction that adds y at the first of the places and z at the second.
 fn correction_of(word: &[u8], f: FirstTwo, y: u8, z: u8) -> Correction
     requires { f.count ≤ 2 }
-    ensures { (result.count ≤ unknowns)
-        × (result.found ≡ One)
-        × ((ls : List ℕ) (e : ℕ → ℕ) → Lists f ls → y ≡ e f.first.0 → z ≡ e f.second.0 → AddsAt word.now ls e result) }
+    ensures { (ls : List ℕ) (e : ℕ → ℕ) → Lists f ls → y ≡ e f.first.0 → z ≡ e f.second.0 → AddsAt word.now ls e result }
 {
-    let count = f.count;
-    let p = f.first;
-    let q = f.second;
-    let a = byte_at(word, p) ^ y;
-    let b = byte_at(word, q) ^ z;
+    let a = byte_at(word, f.first) ^ y;
+    let b = byte_at(word, f.second) ^ z;
     Correction {
-        found: Solutions::One,
-        count,
-        places: [p, q, Place(0), Place(0), Place(0)],
+        count: f.count,
+        places: [f.first, f.second, Place(0), Place(0), Place(0)],
         values: [a, b, 0, 0, 0],
     }
 }
 
 // Check places alone are wrong, where no more syndromes than the reach are not 0.
-fn correct_checks(word: &[u8], t: Trial, reach: usize) -> Correction
+fn correct_checks(word: &[u8], t: Trial, reach: usize) -> Solutions<Correction>
     requires { reach ≤ 2 }
-    ensures { (result.count ≤ unknowns)
-        × ((m : ℕ) → Ready m word.now t → places_of t ≡ []
-        → Searched m word.now [] reach (reach < length (full checks (at t.sums))) result) }
+    ensures { (m : ℕ) → Ready m word.now t → places_of t ≡ []
+        → Searched m word.now [] reach (reach < length (full checks (at t.sums))) result }
 {
-    let sums = t.sums;
-    let f = nonzeros(sums);
-    let count = f.count;
-    if reach < count {
-        return nothing();
+    let js = nonzeros(t.sums);
+    if reach < js.count {
+        return Solutions::None;
     }
-    let p = f.first;
-    let q = f.second;
-    let y = byte_at(&sums, p);
-    let z = byte_at(&sums, q);
-    correction_of(word, f, y, z)
+    let y = byte_at(&t.sums, js.first);
+    let z = byte_at(&t.sums, js.second);
+    Solutions::One(correction_of(word, js, y, z))
 }
 
 // The data place p is wrong by y, and so are the check places at which the syndromes without y at p are not 0.
-fn correct_beside(width: u8, word: &[u8], t: Trial, p: Place, y: u8, reach: usize) -> Correction
+fn correct_beside(
+    width: u8,
+    word: &[u8],
+    t: Trial,
+    p: Place,
+    y: u8,
+    reach: usize,
+) -> Solutions<Correction>
     requires { reach ≤ 2 }
-    ensures { (result.count ≤ unknowns)
-        × (Ready width word.now t → places_of t ≡ [] → checks ≤ p.0 → p.0 < places width → y < order width
-        → Searched width word.now [] reach (reach ≤ length (full checks (without width (at t.sums) p.0 y))) result) }
+    ensures { Ready width word.now t → places_of t ≡ [] → checks ≤ p.0 → p.0 < places width → y < order width
+        → Searched width word.now [] reach (reach ≤ length (full checks (without width (at t.sums) p.0 y))) result }
 {
-    let sums = t.sums;
-    let rest = masked(width, sums, p, y);
+    let rest = masked(width, t.sums, p, y);
     let js = nonzeros(rest);
-    let count = js.count;
-    if reach <= count {
-        return nothing();
+    if reach <= js.count {
+        return Solutions::None;
     }
-    let q = js.first;
     let f = FirstTwo {
-        count: count + 1,
+        count: js.count + 1,
         first: p,
-        second: q,
+        second: js.first,
     };
-    let z = byte_at(&rest, q);
-    correction_of(word, f, y, z)
+    let z = byte_at(&rest, js.first);
+    Solutions::One(correction_of(word, f, y, z))
 }
 
 // What is to be added at the data place p to make syndrome a, which is x.
@@ -139,26 +125,21 @@ fn value_from(width: u8, x: u8, a: u8, p: Place) -> u8
 }
 
 // The data place that the ratio of the syndromes a and a + 1 tells is wrong, and perhaps check places are.
-fn correct_ratio(width: u8, word: &[u8], t: Trial, a: u8, reach: usize) -> Correction
+fn correct_ratio(width: u8, word: &[u8], t: Trial, a: u8, reach: usize) -> Solutions<Correction>
     requires { (reach ≤ 2) × (a + 1 < checks) × (checks ≤ length word.now) × (length word.now ≤ longest) }
-    ensures { (result.count ≤ unknowns)
-        × (Ready width word.now t → places_of t ≡ []
-        → Searched width word.now [] reach (NoRatio width (at t.sums) reach a) result) }
+    ensures { Ready width word.now t → places_of t ≡ []
+        → Searched width word.now [] reach (NoRatio width (at t.sums) reach a) result }
 {
-    let sums = t.sums;
     let k = a as usize;
-    let x = sums[k];
-    let z = sums[k + 1];
+    let x = t.sums[k];
     if x == 0 {
-        return nothing();
+        return Solutions::None;
     }
     let n = items_of(word);
-    let f = first_root(width, 0, x, z, n);
-    let e = f.at;
-    if n <= e.0 {
-        return nothing();
-    }
-    let p = place_of(e);
+    let Some(root) = first_root(width, 0, x, t.sums[k + 1], n) else {
+        return Solutions::None;
+    };
+    let p = place_of(root);
     correct_beside(width, word, t, p, value_from(width, x, a, p), reach)
 }
 
@@ -191,25 +172,21 @@ fn pair_values(width: u8, s: [u8; 5], p: Place, q: Place) -> Pair
 }
 
 // The data places p and q are wrong, if what is to be added there makes all five syndromes.
-fn correct_pair(width: u8, word: &[u8], t: Trial, p: Place, q: Place) -> Correction
-    ensures { (result.count ≤ unknowns)
-        × (Ready width word.now t → places_of t ≡ [] → checks ≤ q.0 → q.0 < p.0 → p.0 < places width
-        → Searched width word.now [] 2 (NoPair width (at t.sums) p.0 q.0) result) }
+fn correct_pair(width: u8, word: &[u8], t: Trial, p: Place, q: Place) -> Solutions<Correction>
+    ensures { Ready width word.now t → places_of t ≡ [] → checks ≤ q.0 → q.0 < p.0 → p.0 < places width
+        → Searched width word.now [] 2 (NoPair width (at t.sums) p.0 q.0) result }
 {
-    let sums = t.sums;
-    let y = pair_values(width, sums, p, q);
-    let u = y.first;
-    let v = y.second;
-    let rest = masked(width, masked(width, sums, p, u), q, v);
-    if all_zero(&rest) {
-        let f = FirstTwo {
-            count: 2,
-            first: p,
-            second: q,
-        };
-        return correction_of(word, f, u, v);
+    let y = pair_values(width, t.sums, p, q);
+    let rest = masked(width, masked(width, t.sums, p, y.first), q, y.second);
+    if !all_zero(&rest) {
+        return Solutions::None;
     }
-    nothing()
+    let f = FirstTwo {
+        count: 2,
+        first: p,
+        second: q,
+    };
+    Solutions::One(correction_of(word, f, y.first, y.second))
 }
 
 // Syndrome i times syndrome j plus syndrome k times syndrome l: a coefficient of the locator.
@@ -224,66 +201,44 @@ fn coefficient(width: u8, s: [u8; 5], i: usize, j: usize, k: usize, l: usize) ->
 }
 
 // The two data places at which the locator, square·x² + linear·x + constant, is 0 are wrong.
-fn correct_roots(width: u8, word: &[u8], t: Trial) -> Correction
+fn correct_roots(width: u8, word: &[u8], t: Trial) -> Solutions<Correction>
     requires { (checks ≤ length word.now) × (length word.now ≤ longest) }
-    ensures { (result.count ≤ unknowns)
-        × (Ready width word.now t → places_of t ≡ []
-        → Searched width word.now [] 2 ((p q : ℕ) → checks ≤ q → q < p → p < places width → NoPair width (at t.sums) p q) result) }
+    ensures { Ready width word.now t → places_of t ≡ []
+        → Searched width word.now [] 2 (NoPairs width (at t.sums)) result }
 {
-    let sums = t.sums;
-    let square = coefficient(width, sums, 1, 1, 0, 2);
+    let square = coefficient(width, t.sums, 1, 1, 0, 2);
     if square == 0 {
-        return nothing();
+        return Solutions::None;
     }
-    let linear = coefficient(width, sums, 1, 2, 0, 3);
-    let constant = coefficient(width, sums, 2, 2, 1, 3);
+    let linear = coefficient(width, t.sums, 1, 2, 0, 3);
+    let constant = coefficient(width, t.sums, 2, 2, 1, 3);
     let n = items_of(word);
-    let r = two_roots(width, square, linear, constant, n);
-    let low = r.low;
-    let high = r.high;
-    let i = low.0;
-    let j = high.0;
-    if j <= i {
-        return nothing();
+    let Some(r) = two_roots(width, square, linear, constant, n) else {
+        return Solutions::None;
+    };
+    if r.high.0 <= r.low.0 || n <= r.high.0 {
+        return Solutions::None;
     }
-    if n <= j {
-        return nothing();
-    }
-    correct_pair(width, word, t, place_of(high), place_of(low))
+    correct_pair(width, word, t, place_of(r.high), place_of(r.low))
 }
 
 // A correction with at most one place.
-pub fn find_single(width: u8, word: &[u8], t: Trial) -> Correction
+pub fn find_single(width: u8, word: &[u8], t: Trial) -> Solutions<Correction>
     requires { (checks ≤ length word.now) × (length word.now ≤ longest) }
-    ensures { (result.count ≤ unknowns)
-        × (Ready width word.now t → places_of t ≡ []
-        → Searched width word.now [] 1 (NoneWithin width word.now [] 1) result) }
+    ensures { Ready width word.now t → places_of t ≡ []
+        → Searched width word.now [] 1 (NoneWithin width word.now [] 1) result }
 {
-    let b = correct_checks(word, t, 1);
-    if solved(b) {
-        return b;
-    }
-    correct_ratio(width, word, t, 0, 1)
+    correct_checks(word, t, 1).or_else(|| correct_ratio(width, word, t, 0, 1))
 }
 
 // A correction with at most two places.
-pub fn find_pair(width: u8, word: &[u8], t: Trial) -> Correction
+pub fn find_pair(width: u8, word: &[u8], t: Trial) -> Solutions<Correction>
     requires { (checks ≤ length word.now) × (length word.now ≤ longest) }
-    ensures { (result.count ≤ unknowns)
-        × (Ready width word.now t → places_of t ≡ []
-        → Searched width word.now [] 2 (NoneWithin width word.now [] 2) result) }
+    ensures { Ready width word.now t → places_of t ≡ []
+        → Searched width word.now [] 2 (NoneWithin width word.now [] 2) result }
 {
-    let b = correct_checks(word, t, 2);
-    if solved(b) {
-        return b;
-    }
-    let c = correct_roots(width, word, t);
-    if solved(c) {
-        return c;
-    }
-    let d = correct_ratio(width, word, t, 0, 2);
-    if solved(d) {
-        return d;
-    }
-    correct_ratio(width, word, t, 2, 2)
+    correct_checks(word, t, 2)
+        .or_else(|| correct_roots(width, word, t))
+        .or_else(|| correct_ratio(width, word, t, 0, 2))
+        .or_else(|| correct_ratio(width, word, t, 2, 2))
 }

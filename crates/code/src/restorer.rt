@@ -10,17 +10,13 @@ ghost use Rattle.code.specs.Demands.{PassesWithin};
 ghost use Rattle.code.specs.inner.Matrix.{unknowns};
 ghost use Rattle.code.specs.inner.Correction.{places_of, Ready, Searched, NoneWithin, NoneFrom};
 
-use crate::Repair;
 use crate::beside::find_beside;
-use crate::erasures::{
-    Correction, Trial, apply_correction, erasure_trial, extended, is_clean, listed, solve_trial,
-    solved,
-};
+use crate::erasures::{Correction, Trial};
 use crate::errors::{find_pair, find_single};
 use crate::solver::Solutions;
 use crate::validation::ask_within;
 use crate::word::Place;
-use field::{Question, Verdict};
+use field::Question;
 
 // How a correction is sought: the wrong places are found from the syndromes, or each choice of extra places is tried.
 #[derive(Clone, Copy)]
@@ -30,17 +26,15 @@ pub enum Method {
 }
 
 // A correction with at most `reach` extra places.
-fn find_near(width: u8, word: &[u8], t: Trial, reach: usize) -> Correction
+fn find_near(width: u8, word: &[u8], t: Trial, reach: usize) -> Solutions<Correction>
     requires { (t.count ≤ unknowns) × (reach ≤ radius width t.count) × (checks ≤ length word.now) × (length word.now ≤ longest) }
-    ensures { (result.count ≤ unknowns)
-        × (Ready width word.now t
-        → Searched width word.now (places_of t) reach (NoneWithin width word.now (places_of t) reach) result) }
+    ensures { Ready width word.now t
+        → Searched width word.now (places_of t) reach (NoneWithin width word.now (places_of t) reach) result }
 {
-    let count = t.count;
     if reach == 0 {
-        return solve_trial(width, t);
+        return t.solve(width);
     }
-    if 0 < count {
+    if 0 < t.count {
         return find_beside(width, word, t);
     }
     if reach == 1 {
@@ -50,42 +44,39 @@ fn find_near(width: u8, word: &[u8], t: Trial, reach: usize) -> Correction
 }
 
 // A correction with at most `left` extra places in rising order, the first of them the place `from` or a later one.
-fn search(width: u8, word: &[u8], t: Trial, from: Place, left: usize) -> Correction
+fn search(width: u8, word: &[u8], t: Trial, from: Place, left: usize) -> Solutions<Correction>
     requires { (t.count + left ≤ unknowns) × (length word.now ≤ longest) }
-    ensures { (result.count ≤ unknowns)
-        × (Ready width word.now t
-        → Searched width word.now (places_of t) left (NoneFrom width word.now (places_of t) from.0 left) result) }
+    ensures { Ready width word.now t
+        → Searched width word.now (places_of t) left (NoneFrom width word.now (places_of t) from.0 left) result }
 {
-    let c = solve_trial(width, t);
-    if solved(c) {
+    let c = t.solve(width);
+    if c.exist() || left == 0 {
         return c;
     }
-    if left == 0 {
-        return c;
-    }
-    let places = t.places;
-    let count = t.count;
-    let mut p = from.0 as usize;
-    while p < word.len() {
+    for p in from.0 as usize..word.len() {
         let place = Place(p as u8);
-        if !listed(places, count, place) {
-            let u = extended(width, t, place, word[p]);
+        if !t.contains(place) {
+            let u = t.extended(width, place, word[p]);
             let d = search(width, word, u, Place((p + 1) as u8), left - 1);
-            if solved(d) {
+            if d.exist() {
                 return d;
             }
         }
-        p += 1;
     }
-    c
+    Solutions::None
 }
 
 // A correction with at most `reach` extra places.
-fn find_correction(method: Method, width: u8, word: &[u8], t: Trial, reach: u8) -> Correction
+fn find_correction(
+    method: Method,
+    width: u8,
+    word: &[u8],
+    t: Trial,
+    reach: u8,
+) -> Solutions<Correction>
     requires { (t.count ≤ unknowns) × (reach ≤ radius width t.count) × (checks ≤ length word.now) × (length word.now ≤ longest) }
-    ensures { (result.count ≤ unknowns)
-        × (Ready width word.now t
-        → Searched width word.now (places_of t) reach (NoneWithin width word.now (places_of t) reach) result) }
+    ensures { Ready width word.now t
+        → Searched width word.now (places_of t) reach (NoneWithin width word.now (places_of t) reach) result }
 {
     match method {
         Method::Syndromes => find_near(width, word, t, reach as usize),
@@ -94,20 +85,24 @@ fn find_correction(method: Method, width: u8, word: &[u8], t: Trial, reach: u8) 
 }
 
 // Question 8, and whether there is just one codeword within the reach: then it is written.
-fn correct_word(method: Method, width: u8, word: &mut [u8], erasures: &[u8], reach: u8) -> Repair
+fn correct_word(
+    method: Method,
+    width: u8,
+    word: &mut [u8],
+    erasures: &[u8],
+    reach: u8,
+) -> Result<u8, Question>
     requires { PassesWithin width word.old erasures.now reach }
     ensures { RestoresWithin width word.old erasures.now reach result word.new }
 {
-    let t = erasure_trial(width, word, erasures);
-    if is_clean(t) {
-        return Repair::Restored(0);
+    let t = Trial::of_erasures(width, word, erasures);
+    if t.is_clean() {
+        return Ok(0);
     }
-    let c = find_correction(method, width, word, t, reach);
-    let found = c.found;
-    match found {
-        Solutions::None => Repair::Refused(Question::Correctable),
-        Solutions::One => Repair::Restored(apply_correction(word, erasures, c)),
-        Solutions::Several => Repair::Refused(Question::Unique),
+    match find_correction(method, width, word, t, reach) {
+        Solutions::None => Err(Question::Correctable),
+        Solutions::One(c) => Ok(c.apply(word, erasures)),
+        Solutions::Several => Err(Question::Unique),
     }
 }
 
@@ -118,11 +113,9 @@ pub fn restore_with(
     word: &mut [u8],
     erasures: &[u8],
     reach: u8,
-) -> Repair
+) -> Result<u8, Question>
     ensures { RestoresWithin width word.old erasures.now reach result word.new }
 {
-    match ask_within(width, word, erasures, reach) {
-        Verdict::Passed => correct_word(method, width, word, erasures, reach),
-        Verdict::Refused(q) => Repair::Refused(q),
-    }
+    ask_within(width, word, erasures, reach)?;
+    correct_word(method, width, word, erasures, reach)
 }

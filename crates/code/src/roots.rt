@@ -1,9 +1,9 @@
 // Roots of linear and quadratic functions among the powers of α: the data places at which they are 0. These functions are no entry points.
-ghost use Rattle.std.specs.Prelude.{◌≡◌, true, ℕ, ◌≤◌, ◌<◌};
+ghost use Rattle.std.specs.Prelude.{◌≡◌, true, IfSome, Some, ℕ, ◌≤◌, ◌<◌};
 ghost use Rattle.field.specs.Field.{order};
 ghost use Rattle.field.specs.Question.{is_width};
 ghost use Rattle.code.specs.Word.{items};
-ghost use Rattle.code.specs.inner.Scan.{Carried, Scanned, LinearRatio, TwoRoots};
+ghost use Rattle.code.specs.inner.Scan.{Carried, FirstRoot, Scanned, LinearRatio, TwoRoots};
 
 use field::Exponent;
 use field::arithmetic::{invert, multiply, ratio_exponent};
@@ -18,68 +18,52 @@ pub struct Scan {
     pub linear: u8,
 }
 
-// The first root from an exponent on, below n; at n if there is none.
-fn root_from(width: u8, from: Exponent, square: u8, linear: u8, constant: u8, n: u16) -> Scan
+// The first root from an exponent on, below n.
+fn root_from(
+    width: u8,
+    from: Exponent,
+    square: u8,
+    linear: u8,
+    constant: u8,
+    n: u16,
+) -> Option<Scan>
     requires { from.0 ≤ n }
-    ensures { (from.0 ≤ result.at.0) × (result.at.0 ≤ n)
+    ensures { IfSome result (λ r. (from.0 ≤ r.at.0) × (r.at.0 < n))
         × ((a b : ℕ) → is_width width ≡ true → Carried width a b from.0 square linear → Scanned width a b constant from.0 n result) }
 {
-    let mut i = from.0;
     let mut d = square;
     let mut e = linear;
-    while i < n {
+    for i in from.0..n {
         if d ^ e == constant {
-            return Scan {
+            return Some(Scan {
                 at: Exponent(i),
                 square: d,
                 linear: e,
-            };
+            });
         }
         d = shift(width, d, Exponent(2));
         e = shift(width, e, Exponent(1));
-        i += 1;
     }
-    Scan {
-        at: Exponent(i),
-        square: d,
-        linear: e,
-    }
+    None
 }
 
 // Is there just one root among the powers of α at width 7, for the function is linear and its terms are symbols other than 0?
 fn has_ratio(width: u8, square: u8, linear: u8, constant: u8, n: u16) -> bool
     ensures { result ≡ true → LinearRatio width square linear constant n }
 {
-    if width != 7 {
-        return false;
-    }
-    if n != 127 {
-        return false;
-    }
-    if square != 0 {
-        return false;
-    }
-    if linear == 0 {
-        return false;
-    }
-    if constant == 0 {
-        return false;
-    }
-    constant < 128
+    width == 7 && n == 127 && square == 0 && linear != 0 && 0 < constant && constant < 128
 }
 
-// The first root, below n; at n if there is none. The one root of a linear function at width 7 is told by its logarithms.
-pub fn first_root(width: u8, square: u8, linear: u8, constant: u8, n: u16) -> Scan
-    ensures { (result.at.0 ≤ n) × ((a b : ℕ) → is_width width ≡ true → Carried width a b 0 square linear → Scanned width a b constant 0 n result) }
+// The first root, below n. The one root of a linear function at width 7 is told by its logarithms.
+pub fn first_root(width: u8, square: u8, linear: u8, constant: u8, n: u16) -> Option<Exponent>
+    ensures { IfSome result (λ e. e.0 < n)
+        × ((a b : ℕ) → is_width width ≡ true → Carried width a b 0 square linear → FirstRoot width a b constant 0 n result) }
 {
     if has_ratio(width, square, linear, constant, n) {
-        return Scan {
-            at: ratio_exponent(linear, constant),
-            square: 0,
-            linear: constant,
-        };
+        return Some(ratio_exponent(linear, constant));
     }
-    root_from(width, Exponent(0), square, linear, constant, n)
+    let root = root_from(width, Exponent(0), square, linear, constant, n)?;
+    Some(root.at)
 }
 
 // Two exponents, the lower first: the roots of a quadratic that has two.
@@ -90,21 +74,18 @@ pub struct RootPair {
 }
 
 // The two roots below n, by a search.
-fn scanned_roots(width: u8, square: u8, linear: u8, constant: u8, n: u16) -> RootPair
+fn scanned_roots(width: u8, square: u8, linear: u8, constant: u8, n: u16) -> Option<RootPair>
     ensures { is_width width ≡ true → square < order width → linear < order width → n ≡ items width
         → TwoRoots width square linear constant n result }
 {
-    let f = root_from(width, Exponent(0), square, linear, constant, n);
-    let low = f.at;
-    let i = low.0;
-    if n <= i {
-        return RootPair { low, high: low };
-    }
-    let d = shift(width, f.square, Exponent(2));
-    let e = shift(width, f.linear, Exponent(1));
-    let g = root_from(width, Exponent(i + 1), d, e, constant, n);
-    let high = g.at;
-    RootPair { low, high }
+    let low = root_from(width, Exponent(0), square, linear, constant, n)?;
+    let d = shift(width, low.square, Exponent(2));
+    let e = shift(width, low.linear, Exponent(1));
+    let high = root_from(width, Exponent(low.at.0 + 1), d, e, constant, n)?;
+    Some(RootPair {
+        low: low.at,
+        high: high.at,
+    })
 }
 
 // The exponents in rising order.
@@ -119,7 +100,7 @@ fn sorted(i: Exponent, j: Exponent) -> RootPair
 
 // The two roots at width 7. With x = y·linear/square the quadratic becomes y² + y = constant·square/linear².
 fn halved_roots(square: u8, linear: u8, constant: u8) -> RootPair
-    ensures { square < 128 → linear < 128 → constant < 128 → TwoRoots 7 square linear constant 127 result }
+    ensures { square < 128 → linear < 128 → constant < 128 → TwoRoots 7 square linear constant 127 (Some result) }
 {
     let inverse = invert(7, linear);
     let ratio = multiply(7, square, inverse);
@@ -129,12 +110,12 @@ fn halved_roots(square: u8, linear: u8, constant: u8) -> RootPair
 }
 
 // The two roots below n.
-pub fn two_roots(width: u8, square: u8, linear: u8, constant: u8, n: u16) -> RootPair
+pub fn two_roots(width: u8, square: u8, linear: u8, constant: u8, n: u16) -> Option<RootPair>
     ensures { is_width width ≡ true → square < order width → linear < order width → constant < order width → n ≡ items width
         → TwoRoots width square linear constant n result }
 {
     if width == 7 {
-        return halved_roots(square, linear, constant);
+        return Some(halved_roots(square, linear, constant));
     }
     scanned_roots(width, square, linear, constant, n)
 }

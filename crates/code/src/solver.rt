@@ -1,13 +1,13 @@
 // A solver of linear systems over the field: Gauss-Jordan elimination with a search for each pivot. These functions are no entry points:
 // each is safe on all bytes, and says what it gives for symbols at a width of the field.
-ghost use Rattle.std.specs.Prelude.{◌≡◌, true, ◌≤◌, ◌<◌, take};
+ghost use Rattle.std.specs.Prelude.{◌≡◌, true, MatchOption, ◌≤◌, ◌<◌, take};
 ghost use Rattle.field.specs.Polynomial.{add};
 ghost use Rattle.field.specs.Field.{product};
 ghost use Rattle.field.specs.Question.{is_width};
 ghost use Rattle.field.specs.inner.Operand.{Operand};
 ghost use Rattle.field.specs.inner.Lanes.{Below, Multiples};
 ghost use Rattle.code.specs.Word.{at};
-ghost use Rattle.code.specs.inner.Matrix.{rows, unknowns, columns, Matrix, Operands, row_add, scale, Cleared, swapped, Pivot, column_of, Means};
+ghost use Rattle.code.specs.inner.Matrix.{rows, unknowns, columns, Matrix, Operands, row_add, scale, Cleared, swapped, Pivot, column_of, Means, is_solved, OrElse};
 
 use field::arithmetic::{invert, multiply};
 use field::row::{add_multiple, multiples};
@@ -20,19 +20,32 @@ pub const UNKNOWNS: usize = 5;
 
 pub const COLUMNS: usize = 8;
 
-// How many solutions a system has: none, one, or several.
+// The solutions of a system, or the codewords that a search finds: none, the one, or several, of which none is told.
 #[derive(Clone, Copy)]
-pub enum Solutions {
+pub enum Solutions<T> {
     None,
-    One,
+    One(T),
     Several,
 }
 
-// With one solution, its values are the first of the values, one for each unknown; with none or several the values say nothing.
-#[derive(Clone, Copy)]
-pub struct Solution {
-    pub found: Solutions,
-    pub values: [u8; UNKNOWNS],
+impl<T> Solutions<T> {
+    // Is there one, or are there several?
+    pub fn exist(&self) -> bool
+        ensures { result ≡ is_solved self.now }
+    {
+        !matches!(self, Solutions::None)
+    }
+
+    // What is found next, if nothing is found here.
+    pub fn or_else<F: FnOnce() -> Solutions<T>>(self, next: F) -> Solutions<T>
+        requires { F.IsAlwaysCallable next }
+        ensures { OrElse self (F.post next) result }
+    {
+        match self {
+            Solutions::None => next(),
+            found => found,
+        }
+    }
 }
 
 // x with k times y added; a product with 0 is not made.
@@ -50,10 +63,8 @@ fn add_products(width: u8, row: [u8; COLUMNS], k: u8, by: [u8; COLUMNS]) -> [u8;
     ensures { Operand width k → Operands width by → result ≡ row_add width row k by }
 {
     let mut out = row;
-    let mut j = 0;
-    while j < COLUMNS {
+    for j in 0..COLUMNS {
         out[j] = add_product(width, row[j], k, by[j]);
-        j += 1;
     }
     out
 }
@@ -96,29 +107,25 @@ fn clear_column(width: u8, a: [[u8; COLUMNS]; ROWS], c: usize, p: usize) -> [[u8
     let unit = scale_row(width, k, pivot);
     let ms = multiples(unit);
     let mut out = a;
-    let mut i = 0;
-    while i < ROWS {
+    for i in 0..ROWS {
         let row = a[i];
         out[i] = add_row(width, row, row[c], unit, ms);
-        i += 1;
     }
     out[p] = unit;
     out
 }
 
-// The first row, from row r on, whose symbol in column c is not 0, or the number of rows.
-fn find_pivot(a: [[u8; COLUMNS]; ROWS], c: usize, r: usize) -> usize
+// The first row, from row r on, whose symbol in column c is not 0.
+fn find_pivot(a: [[u8; COLUMNS]; ROWS], c: usize, r: usize) -> Option<usize>
     requires { (c < columns) × (r ≤ rows) }
-    ensures { Pivot a c r result }
+    ensures { MatchOption result (Pivot a c r rows) (λ p. (p < rows) × Pivot a c r p) }
 {
-    let mut p = r;
-    while p < ROWS {
+    for p in r..ROWS {
         if a[p][c] != 0 {
-            return p;
+            return Some(p);
         }
-        p += 1;
     }
-    ROWS
+    None
 }
 
 // The matrix with rows i and p exchanged.
@@ -127,9 +134,7 @@ fn swap_rows(a: [[u8; COLUMNS]; ROWS], i: usize, p: usize) -> [[u8; COLUMNS]; RO
     ensures { result ≡ swapped a i p }
 {
     let mut out = a;
-    let row = out[i];
-    out[i] = out[p];
-    out[p] = row;
+    out.swap(i, p);
     out
 }
 
@@ -138,46 +143,33 @@ fn first_column(a: [[u8; COLUMNS]; ROWS]) -> [u8; UNKNOWNS]
     ensures { result ≡ take unknowns (column_of a 0) }
 {
     let mut out = [0; UNKNOWNS];
-    let mut i = 0;
-    while i < UNKNOWNS {
+    for i in 0..UNKNOWNS {
         out[i] = a[i][0];
-        i += 1;
     }
     out
 }
 
 // Solves the system a in its first s unknowns. Column after column, a row from row r on whose symbol there is not 0 becomes row r, and the
 // column is cleared from all the others; a column with no such row is passed over. At the end the rows from r on have no unknown, so that
-// their right-hand sides have to be 0, and a column that was passed over leaves its unknown free.
-pub fn solve(width: u8, a: [[u8; COLUMNS]; ROWS], s: usize) -> Solution
+// their right-hand sides have to be 0, and a column that was passed over leaves its unknown free. The values of the one solution are the first
+// s of those given.
+pub fn solve(width: u8, a: [[u8; COLUMNS]; ROWS], s: usize) -> Solutions<[u8; UNKNOWNS]>
     requires { s ≤ unknowns }
-    ensures { is_width width ≡ true → Matrix width a → Means width result.found a s result.values }
+    ensures { is_width width ≡ true → Matrix width a → Means width result a s }
 {
     let mut t = a;
     let mut r = 0;
-    let mut c = 0;
-    while c < s {
-        let p = find_pivot(t, c + 1, r);
-        if p < ROWS {
+    for c in 0..s {
+        if let Some(p) = find_pivot(t, c + 1, r) {
             t = clear_column(width, swap_rows(t, r, p), c + 1, r);
             r += 1;
         }
-        c += 1;
     }
-    if find_pivot(t, 0, r) < ROWS {
-        return Solution {
-            found: Solutions::None,
-            values: [0; UNKNOWNS],
-        };
+    if find_pivot(t, 0, r).is_some() {
+        return Solutions::None;
     }
     if r < s {
-        return Solution {
-            found: Solutions::Several,
-            values: [0; UNKNOWNS],
-        };
+        return Solutions::Several;
     }
-    Solution {
-        found: Solutions::One,
-        values: first_column(t),
-    }
+    Solutions::One(first_column(t))
 }

@@ -1,23 +1,23 @@
 // The questions of the calls, in their order, and the tests over lists of bytes that answer them, eight bytes at a time. `below` and `all_zero`
 // serve the crates above too.
+ghost use Rattle.std.specs.Prelude.{Ok};
 ghost use Rattle.std.specs.Prelude.{◌≡◌, true, ℕ, ◌+◌, ◌≤◌, ◌<◌, length};
 ghost use Rattle.field.specs.Sum.{at};
 ghost use Rattle.field.specs.Question.{all_below, is_width, ask};
 ghost use Rattle.field.specs.Field.{order};
 ghost use Rattle.field.specs.inner.Operand.{order_of};
 ghost use Rattle.field.specs.declared.Question.TheVariants.{Symbol};
-ghost use Rattle.field.specs.declared.Verdict.TheVariants.{Passed};
 ghost use Rattle.code.specs.Call.{all_zero, zero_syndromes};
 ghost use Rattle.code.specs.Call.{word_asked, data_asked, is_codeword_asked, read_data_asked, erasures_asked, restore_asked, within_asked};
-ghost use Rattle.code.specs.Erasure.{member, distinct, symbols_from};
+ghost use Rattle.code.specs.Erasure.{distinct, symbols_from};
 ghost use Rattle.code.specs.Word.{checks, places, longest};
 ghost use Rattle.code.specs.inner.Block.{Run};
 
 use crate::word::word_syndromes;
 use crate::{max_erasures, radius_of};
+use field::Question;
 use field::arithmetic::order_of;
 use field::lanes::eight;
-use field::{Question, Verdict};
 
 // Have the eight bytes from place i on no digit in common with 256 - q? Then each is below q, for 256 - q and a byte without a common
 // digit have a sum of 8 digits. Where q is a power of two, the answer is yes just then.
@@ -47,7 +47,7 @@ fn all_below(xs: &[u8], q: u8) -> bool
     let mut found = eight(xs, n - 8) & mask;
     let mut p: usize = 0;
     while 8 <= n - p {
-        found = found | (eight(xs, p) & mask);
+        found |= eight(xs, p) & mask;
         p += 8;
     }
     found == 0
@@ -59,12 +59,8 @@ fn pass_below(xs: &[u8], i: usize, q: u8) -> usize
     ensures { Run (λ p. at xs.now p < q) i (length xs.now) result }
 {
     let mut p = i;
-    while 8 <= xs.len() - p {
-        if block_below(xs, p, q) {
-            p += 8;
-        } else {
-            return p;
-        }
+    while 8 <= xs.len() - p && block_below(xs, p, q) {
+        p += 8;
     }
     p
 }
@@ -83,15 +79,8 @@ fn pass_all_below(xs: &[u8], q: u8) -> usize
 pub fn below(xs: &[u8], n: u8) -> bool
     ensures { result ≡ all_below n xs.now }
 {
-    let mut i = pass_all_below(xs, n);
-    while i < xs.len() {
-        if xs[i] < n {
-            i += 1;
-        } else {
-            return false;
-        }
-    }
-    true
+    let i = pass_all_below(xs, n);
+    xs[i..].iter().all(|x| *x < n)
 }
 
 // Is every number 0?
@@ -101,32 +90,14 @@ pub fn all_zero(xs: &[u8]) -> bool
     below(xs, 1)
 }
 
-// Is a one of the numbers?
-pub(crate) fn contains(xs: &[u8], a: u8) -> bool
-    ensures { result ≡ member a xs.now }
-{
-    let mut i = 0;
-    while i < xs.len() {
-        if xs[i] == a {
-            return true;
-        }
-        i += 1;
-    }
-    false
-}
-
 // Are the numbers all different?
 fn all_different(xs: &[u8]) -> bool
     ensures { result ≡ distinct xs.now }
 {
-    let mut i = 0;
-    while i < xs.len() {
-        let a = xs[i];
-        let n = i + 1;
-        if contains(&xs[n..], a) {
+    for (i, x) in xs.iter().enumerate() {
+        if xs[i + 1..].contains(x) {
             return false;
         }
-        i = n;
     }
     true
 }
@@ -138,10 +109,8 @@ fn symbols_below(word: &[u8], erasures: &[u8], q: u8) -> bool
 {
     let mut i = pass_all_below(word, q);
     while i < word.len() {
-        if q <= word[i] {
-            if contains(erasures, i as u8) {} else {
-                return false;
-            }
+        if q <= word[i] && !erasures.contains(&(i as u8)) {
+            return false;
         }
         i = pass_below(word, i + 1, q);
     }
@@ -159,116 +128,105 @@ pub(crate) fn zero_syndromes(width: u8, word: &[u8]) -> bool
 }
 
 // Questions 1 and 2, put to a word of n bytes.
-fn ask_word(width: u8, n: usize) -> Verdict
-    ensures { result ≡ word_asked width n Passed }
+fn ask_word(width: u8, n: usize) -> Result<(), Question>
+    ensures { result ≡ word_asked width n (Ok tt) }
 {
     let q = order_of(width);
     if q == 0 {
-        return Verdict::Refused(Question::Width);
+        return Err(Question::Width);
     }
     if n == q as usize + 4 {
-        Verdict::Passed
+        Ok(())
     } else {
-        Verdict::Refused(Question::Length)
+        Err(Question::Length)
     }
 }
 
 // Question 7, put to a list of symbols.
-fn ask_symbols(width: u8, symbols: &[u8]) -> Verdict
-    ensures { result ≡ ask (all_below (order_of width) symbols.now) Symbol Passed }
+fn ask_symbols(width: u8, symbols: &[u8]) -> Result<(), Question>
+    ensures { result ≡ ask (all_below (order_of width) symbols.now) Symbol (Ok tt) }
 {
     if below(symbols, order_of(width)) {
-        Verdict::Passed
+        Ok(())
     } else {
-        Verdict::Refused(Question::Symbol)
+        Err(Question::Symbol)
     }
 }
 
 // Questions 1, 2 and 7: a word and data of these lengths, and symbols of the word or the data.
-pub(crate) fn ask_slices(width: u8, word: usize, message: usize, symbols: &[u8]) -> Verdict
-    ensures { result ≡ word_asked width word (data_asked width message symbols.now Passed) }
+pub(crate) fn ask_slices(
+    width: u8,
+    word: usize,
+    message: usize,
+    symbols: &[u8],
+) -> Result<(), Question>
+    ensures { result ≡ word_asked width word (data_asked width message symbols.now (Ok tt)) }
 {
-    match ask_word(width, word) {
-        Verdict::Passed => {
-            if message == word - 5 {
-                ask_symbols(width, symbols)
-            } else {
-                Verdict::Refused(Question::Length)
-            }
-        }
-        Verdict::Refused(q) => Verdict::Refused(q),
+    ask_word(width, word)?;
+    if message == word - 5 {
+        ask_symbols(width, symbols)
+    } else {
+        Err(Question::Length)
     }
 }
 
 // Questions 1, 2 and 7, put to a word.
-pub(crate) fn ask_is_codeword(width: u8, word: &[u8]) -> Verdict
+pub(crate) fn ask_is_codeword(width: u8, word: &[u8]) -> Result<(), Question>
     ensures { result ≡ is_codeword_asked width word.now }
 {
-    match ask_word(width, word.len()) {
-        Verdict::Passed => ask_symbols(width, word),
-        Verdict::Refused(q) => Verdict::Refused(q),
-    }
+    ask_word(width, word.len())?;
+    ask_symbols(width, word)
 }
 
 // Questions 1, 2, 7 and 9.
-pub(crate) fn ask_read_data(width: u8, word: &[u8], message: usize) -> Verdict
+pub(crate) fn ask_read_data(width: u8, word: &[u8], message: usize) -> Result<(), Question>
     ensures { result ≡ read_data_asked width word.now message }
 {
-    match ask_slices(width, word.len(), message, word) {
-        Verdict::Passed => {
-            if zero_syndromes(width, word) {
-                Verdict::Passed
-            } else {
-                Verdict::Refused(Question::Syndrome)
-            }
-        }
-        Verdict::Refused(q) => Verdict::Refused(q),
+    ask_slices(width, word.len(), message, word)?;
+    if zero_syndromes(width, word) {
+        Ok(())
+    } else {
+        Err(Question::Syndrome)
     }
 }
 
 // Questions 3, 5, 6 and 7, put to the erasures and a word of the right length.
-fn ask_erasures(width: u8, word: &[u8], erasures: &[u8]) -> Verdict
+fn ask_erasures(width: u8, word: &[u8], erasures: &[u8]) -> Result<(), Question>
     requires { length word.now ≤ longest }
     ensures { is_width width ≡ true → length word.now ≡ places width
         → result ≡ erasures_asked width word.now erasures.now }
 {
     if max_erasures(width) < erasures.len() {
-        return Verdict::Refused(Question::ErasureCount);
+        return Err(Question::ErasureCount);
     }
     if !below(erasures, word.len() as u8) {
-        return Verdict::Refused(Question::ErasurePlace);
+        return Err(Question::ErasurePlace);
     }
     if !all_different(erasures) {
-        return Verdict::Refused(Question::ErasureDistinct);
+        return Err(Question::ErasureDistinct);
     }
     if !symbols_below(word, erasures, order_of(width)) {
-        return Verdict::Refused(Question::Symbol);
+        return Err(Question::Symbol);
     }
-    Verdict::Passed
+    Ok(())
 }
 
 // All questions before question 8.
-pub(crate) fn ask_restore(width: u8, word: &[u8], erasures: &[u8]) -> Verdict
+pub(crate) fn ask_restore(width: u8, word: &[u8], erasures: &[u8]) -> Result<(), Question>
     ensures { result ≡ restore_asked width word.now erasures.now }
 {
-    match ask_word(width, word.len()) {
-        Verdict::Passed => ask_erasures(width, word, erasures),
-        Verdict::Refused(q) => Verdict::Refused(q),
-    }
+    ask_word(width, word.len())?;
+    ask_erasures(width, word, erasures)
 }
 
 // All questions before question 8, with that about the reach.
-pub(crate) fn ask_within(width: u8, word: &[u8], erasures: &[u8], reach: u8) -> Verdict
+pub(crate) fn ask_within(width: u8, word: &[u8], erasures: &[u8], reach: u8) -> Result<(), Question>
     ensures { result ≡ within_asked width word.now erasures.now reach }
 {
-    match ask_restore(width, word, erasures) {
-        Verdict::Passed => {
-            if reach <= radius_of(width, erasures.len()) {
-                Verdict::Passed
-            } else {
-                Verdict::Refused(Question::Reach)
-            }
-        }
-        Verdict::Refused(q) => Verdict::Refused(q),
+    ask_restore(width, word, erasures)?;
+    if reach <= radius_of(width, erasures.len()) {
+        Ok(())
+    } else {
+        Err(Question::Reach)
     }
 }

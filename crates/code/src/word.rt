@@ -13,7 +13,7 @@ use field::parity::parities;
 use field::table::{power_of_alpha, powers_from};
 
 // Place 0 to 4 holds a check symbol, place 5 + i the data symbol i.
-#[derive(Clone, Copy)]
+#[derive(Clone, Copy, PartialEq, Eq)]
 pub struct Place(pub u8);
 
 // The exponent i of place 5 + i.
@@ -21,8 +21,7 @@ fn exponent_of(p: Place) -> Exponent
     requires { 5 ≤ p.0 }
     ensures { result ≡ exponent_of p }
 {
-    let i = p.0;
-    Exponent((i - 5) as u16)
+    Exponent(u16::from(p.0 - 5))
 }
 
 // The place 5 + i of the exponent i, the other way.
@@ -30,8 +29,7 @@ pub(crate) fn place_of(e: Exponent) -> Place
     requires { e.0 + 5 < 256 }
     ensures { result ≡ place_of e }
 {
-    let i = e.0;
-    Place((i + 5) as u8)
+    Place((e.0 + 5) as u8)
 }
 
 // The exponent k times e.
@@ -39,20 +37,15 @@ fn multiple(k: u8, e: Exponent) -> Exponent
     requires { k * e.0 < 65536 }
     ensures { result ≡ multiple_of k e }
 {
-    let i = e.0;
-    Exponent(k as u16 * i)
+    Exponent(u16::from(k) * e.0)
 }
 
 // Row k of the column at place p.
 pub(crate) fn column(width: u8, p: Place, k: u8) -> u8
     ensures { is_width width ≡ true → result ≡ columnM width p.0 k }
 {
-    let place = p.0;
-    if place < 5 {
-        if place == k {
-            return 1;
-        }
-        return 0;
+    if p.0 < 5 {
+        return u8::from(p.0 == k);
     }
     raise(width, 2, multiple(k, exponent_of(p)))
 }
@@ -85,8 +78,7 @@ fn point_times(width: u8, p: Place, x: u8) -> [u8; 5]
 pub(crate) fn whole_column(width: u8, p: Place) -> [u8; 5]
     ensures { is_width width ≡ true → result ≡ five (columnM width p.0) }
 {
-    let place = p.0;
-    if place < 5 {
+    if p.0 < 5 {
         return [
             column(width, p, 0),
             column(width, p, 1),
@@ -95,10 +87,8 @@ pub(crate) fn whole_column(width: u8, p: Place) -> [u8; 5]
             column(width, p, 4),
         ];
     }
-    if width == 7 {
-        if place < 132 {
-            return powers_from(Exponent(0), exponent_of(p));
-        }
+    if width == 7 && p.0 < 132 {
+        return powers_from(Exponent(0), exponent_of(p));
     }
     point_times(width, p, 1)
 }
@@ -134,16 +124,11 @@ fn powers_times(p: Place, x: u8) -> [u8; 5]
 fn column_times(width: u8, p: Place, x: u8) -> [u8; 5]
     ensures { is_width width ≡ true → x < order width → result ≡ five (λ k. product width (columnM width p.0 k) x) }
 {
-    let place = p.0;
-    if place < 5 {
+    if p.0 < 5 {
         return entries_times(width, p, x);
     }
-    if width == 7 {
-        if place < 132 {
-            if x != 0 {
-                return powers_times(p, x);
-            }
-        }
+    if width == 7 && p.0 < 132 && x != 0 {
+        return powers_times(p, x);
     }
     point_times(width, p, x)
 }
@@ -184,11 +169,7 @@ pub fn copy(to: &mut [u8], from: &[u8])
     requires { length to.old ≡ length from.now }
     ensures { to.new ≡ from.now }
 {
-    let mut i = 0;
-    while i < from.len() {
-        to[i] = from[i];
-        i += 1;
-    }
+    to.copy_from_slice(from);
 }
 
 // Writes the codeword of the data: the check symbols, then the data.

@@ -1,8 +1,8 @@
 -- When a call is refused with 19. Assumes nothing.
+use Rattle.std.proofs.Common.{Ok}
 use Rattle.field.proofs.Base.{ltb-true, ltb-false, le-ltb, ◌≡◌, refl, sym, ap, ◌∙◌, ◌≢◌, Bool, true, false, ◌||◌, false≢true, List, ℕ, arith, ltb}
 use Rattle.field.specs.Question.{Outcome, accepted, refused, ask, after}
 use Rattle.field.specs.declared.Question.TheVariants.{Bay}
-use Rattle.field.specs.declared.Verdict.TheVariants.{Passed}
 use Rattle.code.specs.Call.{same_bytes}
 use Rattle.code.proofs.Same.{same_refl, same-equal}
 use Rattle.dock.specs.declared.Rewrites.{Rewrites}
@@ -39,7 +39,7 @@ not_same a b d = go (same_bytes a b) refl
 
 -- ---- the answer 19
 
-bay-denied : (b : Bool) (o : Outcome) → after (ask b Bay Passed) o ≡ refused 19 → (b ≡ true) × (o ≡ refused 19)
+bay-denied : (b : Bool) (o : Outcome) → after (ask b Bay (Ok tt)) o ≡ refused 19 → (b ≡ true) × (o ≡ refused 19)
 bay-denied true o e = (refl, e)
 bay-denied false o e = let z : ◌≡◌ {A = ℕ} 18 19 = cc in absurd (omega arith)
 

@@ -1,5 +1,5 @@
 -- The rewrites left: what is left to a bay, and one less. Assumes nothing.
-use Rattle.field.proofs.Base.{lt-ltb, le-ltb, ltb-true, ◌≡◌, refl, sym, ◌∙◌, ◌≢◌, Bool, true, List, [], ◌∷◌, ℕ, zero, suc, ◌+◌, ◌-◌, ◌≤◌, ◌<◌, dec_lt}
+use Rattle.field.proofs.Base.{lt-ltb, le-ltb, ltb-true, ◌≡◌, refl, sym, ◌∙◌, ◌≢◌, true, List, [], ◌∷◌, ℕ, zero, suc, ◌+◌, ◌-◌, ◌≤◌, ◌<◌, dec_lt}
 use Rattle.field.proofs.Base.{arith, ltb, length, get_or, set, length-set, get_or-set_same, get_or-set_other}
 use Rattle.dock.specs.declared.Rewrites.{Rewrites}
 use Rattle.dock.specs.Dock.{own_of, any_left, spent}
@@ -25,9 +25,6 @@ module _ (left : Rewrites) (bay : ℕ) where
   pub common-left : own_of left bay ≤ 0 → ltb 0 left.common ≡ any_left left bay
   unfolding any_left
   common-left h = simp (le-ltb 0 (own_of left bay) h)
-
-  pub any_told : (b : Bool) → b ≡ any_left left bay → b ≡ true → any_left left bay ≡ true
-  any_told b e t = sym e ∙ t
 
   pub common-some : any_left left bay ≡ true → own_of left bay ≤ 0 → 0 < left.common
   common-some some h = ltb-true 0 left.common (common-left h ∙ some)

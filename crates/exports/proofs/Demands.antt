@@ -1,20 +1,17 @@
 -- The statements of specs/Demands.antt, each under its name in small letters. Assumes nothing.
+use Rattle.std.proofs.Common.{None, Some, Option, Ok, Err, Result}
 use Rattle.field.proofs.Base.{eq-eqb, ne_eqb, le-ltb, ◌≡◌, refl, sym, ap, ap₂, ◌∙◌, subst, ◌≢◌, Bool, true, false, cond, not, List, [], ◌∷◌, ◌++◌, ℕ}
 use Rattle.field.proofs.Base.{zero, suc, ◌+◌, ◌*◌, ◌/◌, ◌%◌, ◌≤◌, ◌<◌, dec_lt, arith, eqb, leb, ltb, length, replicate, length-append, length-take}
 use Rattle.field.specs.Polynomial.{add}
 use Rattle.field.specs.Field.{order, product as product_m, power as power_m, inverse as inverse_m}
 use Rattle.field.specs.Answer.{operands, sum_of, product_of, power_of, inverse_of}
-use Rattle.field.specs.Question.{Outcome, accepted, refused, refusal, ask, after}
+use Rattle.field.specs.Question.{Verdict, Outcome, accepted, refused, refusal, ask, after}
 use Rattle.field.specs.declared.Question.{Question}
 use Rattle.field.specs.declared.Question.TheVariants.{Bay, Nonzero, Correctable, Unique, Rewrite, SameDay}
-use Rattle.field.specs.declared.Verdict.{Verdict}
-use Rattle.field.specs.declared.Verdict.TheVariants.{Passed, Refused}
 use Rattle.field.proofs.Widths.{field_of, order_small}
 use Rattle.field.proofs.Demands.{numbers-range}
 use Rattle.code.specs.Word.{checks, five}
 use Rattle.code.specs.Erasure.{masked_syndrome, syndromes_without}
-use Rattle.code.specs.declared.Repair.{Repair}
-use Rattle.code.specs.declared.Repair.TheVariants.{Restored, Refused as RefusedRepair}
 use Rattle.code.specs.Near.{radius, Restoration, none, one, several, restoration}
 use Rattle.code.specs.Call.{encode_asked, encode_of, is_codeword_asked, is_codeword_of, read_data_asked, read_data_of, zero_syndromes}
 use Rattle.code.specs.Call.{repair, restore_of, done, written, shown, decided, restore_asked, within_asked, within_of, syndromes_of}
@@ -32,8 +29,6 @@ use Rattle.sheet.specs.Sheet.{sheet_size, symbols_of}
 use Rattle.sheet.specs.Call.{write_sheet_asked, write_sheet_of, read_sheet_asked, read_sheet_of}
 use Rattle.walk.specs.Walk.{step_asked, step_of}
 use Rattle.walk.specs.Look.{uncounted, look_asked, look_of}
-use Rattle.dock.specs.declared.Reach.{Reach}
-use Rattle.dock.specs.declared.Reach.TheVariants.{Longest, Named}
 use Rattle.dock.specs.declared.Rewrites.{Rewrites}
 use Rattle.dock.specs.Dock.{bays, charged, Call, call_on, answer_at, answer_of, content_of, allowed, granted, call_of, call_written, call_left}
 use Rattle.dock.specs.Run.{Entry, left_after, history, own_sum, all_left, used, used_by}
@@ -65,8 +60,8 @@ small-refusal q n e =
     (subst (λ (x : ℕ). 1 ≤ x) same r.0, subst (λ (x : ℕ). x ≤ 21) same r.1)
 
 small-after : (v : Verdict) (o : Outcome) → Small o → Small (after v o)
-small-after Passed o h = h
-small-after (Refused q) o h = small-refusal q
+small-after (Ok tt) o h = h
+small-after (Err q) o h = small-refusal q
 
 small-done : (v : Verdict) → Small (done v)
 small-done v = small-after v (accepted 0) (small-accepted 0)
@@ -97,26 +92,26 @@ small-look card n row =
     small-after (look_asked (length card) n (length row)) _
     (small-uncounted (record_of (record_numbered card n)) (small-record (record_numbered card n)))
 
-small-answer : (reach : Reach) (r : List ℕ) → Small (answer_at reach r)
-small-answer Longest r = small-record r
-small-answer (Named k) r = small-record-within r k
+small-answer : (reach : Option ℕ) (r : List ℕ) → Small (answer_at reach r)
+small-answer None r = small-record r
+small-answer (Some k) r = small-record-within r k
 
 small-granted : (o : Outcome) (b : Bool) → Small o → Small (granted o b)
-small-granted (accepted k) b h = small-after (ask b Rewrite Passed) (accepted k) (small-accepted k)
+small-granted (accepted k) b h = small-after (ask b Rewrite (Ok tt)) (accepted k) (small-accepted k)
 small-granted (refused n) b h = h
 
 small-call : (left : Rewrites) (c : Call) → Small (call_of left c)
 unfolding call_of
 small-call left c =
-    small-after (ask (ltb c.bay bays) Bay Passed) _
+    small-after (ask (ltb c.bay bays) Bay (Ok tt)) _
     (small-granted (answer_of c) (allowed left c.bay c.lent (content_of c)) (small-answer c.reach c.lent))
 
 abbrev SmallDay : Day → Type 0
 SmallDay d = (n : ℕ) → d ≡ no_sheet n → (1 ≤ n) × (n ≤ 21)
 
 small-read : (v : Verdict) (k : ℕ) (ss : List ℕ) → SmallDay (read_day v k ss)
-small-read Passed k ss n e = let z : ◌≡◌ {A = ℕ} 0 1 = cc in absurd (omega arith)
-small-read (Refused q) k ss n e = let same : refusal q ≡ n = cc in small-refusal q n (ap refused same)
+small-read (Ok tt) k ss n e = let z : ◌≡◌ {A = ℕ} 0 1 = cc in absurd (omega arith)
+small-read (Err q) k ss n e = let same : refusal q ≡ n = cc in small-refusal q n (ap refused same)
 
 small-copy : (o : Outcome) (copy : List ℕ) → Small o → SmallDay (copy_day o copy)
 small-copy (accepted k) copy h = small-read (read_sheet_asked (width_of copy) (word_of copy) sheet_size) k (symbols_of (word_of copy))
@@ -130,7 +125,7 @@ small-compared : (a b : Day) → SmallDay a → SmallDay b → Small (compared_o
 small-compared (no_sheet n) b h k = λ i e. let same : n ≡ i = cc in h i (ap no_sheet same)
 small-compared (sheet j ss) (no_sheet n) h k = λ i e. let same : n ≡ i = cc in k i (ap no_sheet same)
 small-compared (sheet j ss) (sheet l ts) h k =
-    small-after (ask (same_day ss ts) SameDay Passed) (accepted (chosen_of j l)) (small-accepted (chosen_of j l))
+    small-after (ask (same_day ss ts) SameDay (Ok tt)) (accepted (chosen_of j l)) (small-accepted (chosen_of j l))
 
 small-compare : (c : List ℕ) (i : ℕ) (d : List ℕ) (j : ℕ) → Small (compare_of c i d j)
 unfolding compare_of
@@ -154,8 +149,8 @@ told-refusal : (q : Question) → Told (refused (refusal q))
 told-refusal q n e = (q, cc)
 
 told-after : (v : Verdict) (o : Outcome) → Told o → Told (after v o)
-told-after Passed o h = h
-told-after (Refused q) o h = told-refusal q
+told-after (Ok tt) o h = h
+told-after (Err q) o h = told-refusal q
 
 told-decided : (m : ℕ) (w es : List ℕ) (x : Restoration) → Told (decided m w es x)
 told-decided m w es none = told-refusal Correctable
@@ -188,7 +183,7 @@ packing-undone = record {
   product = λ m a b. undone (product_of m a b) (small-after (operands m (a ∷ b ∷ [])) _ (small-accepted (product_m m a b)));
   power = λ m a e. undone (power_of m a e) (small-after (operands m (a ∷ [])) _ (small-accepted (power_m m a e)));
   inverse = λ m a. undone (inverse_of m a)
-      (small-after (operands m (a ∷ [])) _ (small-after (ask (not (eqb a 0)) Nonzero Passed) _ (small-accepted (inverse_m m a))));
+      (small-after (operands m (a ∷ [])) _ (small-after (ask (not (eqb a 0)) Nonzero (Ok tt)) _ (small-accepted (inverse_m m a))));
   encode = λ m ds out. undone (encode_of m ds out) (small-done (encode_asked m ds (length out)));
   is-codeword = λ m w. undone (is_codeword_of m w) (small-after (is_codeword_asked m w) _ (small-accepted (cond (zero_syndromes m w) 1 0)));
   read-data = λ m w out. undone (read_data_of m w out) (small-done (read_data_asked m w (length out)));
@@ -262,7 +257,7 @@ module _ (p b0 b1 b2 b3 b4 : ℕ) (hp : p < 256) (h0 : b0 < 256) (h1 : b1 < 256)
   )
 
 -- a syndrome fits a byte
-syndrome-low : (m : ℕ) (w es : List ℕ) → restore_asked m w es ≡ Passed → (k : ℕ) → k < checks → masked_syndrome m es w k < 256
+syndrome-low : (m : ℕ) (w es : List ℕ) → restore_asked m w es ≡ (Ok tt) → (k : ℕ) → k < checks → masked_syndrome m es w k < 256
 syndrome-low m w es p k h =
     let G = given m w es p in
     let F = field_of m G.width in
@@ -280,17 +275,17 @@ syndromes-undone m w es = go (restore_asked m w es) refl
     go : (v : Verdict) → restore_asked m w es ≡ v
         → (unpacked (byte_of (packed_bytes (packed (done v)) (shown v (syndromes_without m es w))) 0) ≡ done v)
         × (five (λ k. byte_of (packed_bytes (packed (done v)) (shown v (syndromes_without m es w))) (1 + k)) ≡ shown v (syndromes_without m es w))
-    go Passed e =
+    go (Ok tt) e =
         let low = syndrome-low m w es e in
         let f = masked_syndrome m es w in
         let b =
         bytes_back 0 (f 0) (f 1) (f 2) (f 3) (f 4) (omega arith) (low 0 (omega arith)) (low 1 (omega arith)) (low 2 (omega arith))
         (low 3 (omega arith)) (low 4 (omega arith)) in
-        (back Passed (syndromes_without m es w) b.0, b.1)
-    go (Refused q) e =
+        (back (Ok tt) (syndromes_without m es w) b.0, b.1)
+    go (Err q) e =
         let b =
         bytes_back (refusal q) 0 0 0 0 0 (omega (arith, (numbers-range q).1)) (omega arith) (omega arith) (omega arith) (omega arith) (omega arith) in
-        (back (Refused q) (replicate checks 0) b.0, b.1)
+        (back (Err q) (replicate checks 0) b.0, b.1)
 
 -- three totals above an answer of two bytes
 totals-back : (p e a b : ℕ) → p < 65536 → e < 256 → a < 256 → b < 256
@@ -312,8 +307,8 @@ module _ (c : List ℕ) (i : ℕ) (d : List ℕ) (j : ℕ) (signs : List ℕ) wh
   into-accepted w e = go (into_asked c i d j (length signs)) e
     where
       go : (v : Verdict) → after v (compare_of c i d j) ≡ accepted w → compare_of c i d j ≡ accepted w
-      go Passed f = f
-      go (Refused q) f = let z : ◌≡◌ {A = ℕ} 0 1 = cc in absurd (omega arith)
+      go (Ok tt) f = f
+      go (Err q) f = let z : ◌≡◌ {A = ℕ} 0 1 = cc in absurd (omega arith)
 
   abbrev has_sign : ℕ → ℕ
   has_sign s = occurs s (sheet_signs (symbols_at c i) (symbols_at d j))
@@ -402,12 +397,12 @@ word-decodes m w es n u e f =
     }
 
 -- an answer with this outcome
-answering : (r : List ℕ) → (a : Repair) × (repair a ≡ record_of r)
+answering : (r : List ℕ) → (a : Result ℕ Question) × (repair a ≡ record_of r)
 answering r = go (record_of r) (told-record r)
   where
-    go : (o : Outcome) → Told o → (a : Repair) × (repair a ≡ o)
-    go (accepted k) t = (Restored k, refl)
-    go (refused n) t = (RefusedRepair (t n refl).0, ap refused (sym (t n refl).1))
+    go : (o : Outcome) → Told o → (a : Result ℕ Question) × (repair a ≡ o)
+    go (accepted k) t = (Ok k, refl)
+    go (refused n) t = (Err (t n refl).0, ap refused (sym (t n refl).1))
 
 pub record-call-decodes : RecordCallDecodes
 record-call-decodes r n u e f =
@@ -483,12 +478,12 @@ stepped xs c h = go (dec_lt c.bay bays)
 
     go : Dec (c.bay < bays) → Stepped xs left c
     go (yes l) =
-        by Passed (sym (asked-passed c.bay (length xs) (omega arith) h))
+        by (Ok tt) (sym (asked-passed c.bay (length xs) (omega arith) h))
         (length-append (call_left left c).own ((call_left left c).common ∷ []) ∙ omega (arith, own))
         (lent_back (call_left left c).own (call_left left c).common own) refl
     go (no n) =
         let s = refused-stays left c 18 (no-bay left c (omega arith)) in
-        by (Refused Bay) (sym (asked-bay c.bay (length xs) (omega arith))) h (sym s.1) (sym s.0)
+        by (Err Bay) (sym (asked-bay c.bay (length xs) (omega arith))) h (sym s.1) (sym s.0)
 
 record Chained (xs : List ℕ) (left : Rewrites) (cs : List Call) : Type 0 where
   size : length (counts_after xs cs) ≡ counts_size
@@ -509,7 +504,7 @@ chained (c ∷ cs) xs left h e =
 
 since-charge : (xs : List ℕ) (cs : List Call) → length xs ≡ counts_size → Chained (charge_written xs) charged cs
 since-charge xs cs h =
-    subst (λ (ys : List ℕ). Chained ys charged cs) (charge-written xs h charged refl (lent_counts charged) refl)
+    subst (λ (ys : List ℕ). Chained ys charged cs) (charge-written xs h)
     (chained cs (lent_counts charged) charged refl refl)
 
 pub chain_runs : ChainRuns
@@ -525,7 +520,7 @@ chain-not-denied xs cs c h l few =
     let C = since-charge xs cs h in
     let counts = counts_after (charge_written xs) cs in
     let A = not-denied cs c l (omega (arith, few, ap (used_by c.bay) C.story)) in
-    let p : bay_asked c.bay (length counts) ≡ Passed = sym (asked-passed c.bay (length counts) (omega arith) C.size) in
+    let p : bay_asked c.bay (length counts) ≡ (Ok tt) = sym (asked-passed c.bay (length counts) (omega arith) C.size) in
     let answer : bay_of c.bay c.reach counts c.lent ≡ answer_of c =
     ap₂ (λ (v : Verdict) (l : Rewrites). after v (call_of l c)) p C.rest ∙ A.answer in (
       answer,

@@ -1,4 +1,3 @@
-pub mod Packing  -- the numbers that the calls return
 pub mod Counting  -- the dock's counts as lent numbers
 pub mod Parting  -- the part of a comparison, by its offset and size
 pub mod Demands  -- the statements of specs/Demands.antt

@@ -1,6 +1,6 @@
 -- What is asked of the calls for C, as statements about the numbers that they return and the memory that they leave; proofs/Demands.antt
 -- proves each under its name in small letters. Assumes nothing.
-use Rattle.std.specs.Prelude.{◌≡◌, ◌↔◌, ◌≢◌, cond, List, [], ◌∷◌, ℕ, zero, suc, ◌+◌, ◌*◌, ◌/◌, ◌%◌, ◌<◌, eqb, length, take, drop}
+use Rattle.std.specs.Prelude.{Option, ◌≡◌, ◌↔◌, ◌≢◌, cond, List, [], ◌∷◌, ℕ, zero, suc, ◌+◌, ◌*◌, ◌/◌, ◌%◌, ◌<◌, eqb, length, take, drop}
 use Rattle.field.specs.Question.{Outcome, accepted, refused}
 use Rattle.field.specs.Answer.{sum_of, product_of, power_of, inverse_of}
 use Rattle.code.specs.Word.{five}
@@ -15,7 +15,6 @@ use Rattle.sheet.specs.Call.{write_sheet_of, read_sheet_of}
 use Rattle.walk.specs.Walk.{step_of}
 use Rattle.walk.specs.Look.{look_of}
 use Rattle.walk.specs.declared.Walk.{Walk}
-use Rattle.dock.specs.declared.Reach.{Reach}
 use Rattle.dock.specs.Dock.{bays, own_charge, Call, answer_of, content_of}
 use Rattle.dock.specs.Run.{Entry, used, used_by, own_sum, left_after, history}
 use Rattle.dock.specs.Dock.{charged}
@@ -57,7 +56,7 @@ pub record PackingUndone : Type 0 where
   pub walk_step : (w : Walk) (card : List ℕ) → Undone (step_of w card)
   pub look : (card : List ℕ) (n : ℕ) (row : List ℕ) → Undone (look_of card n row)
   pub charge : (xs : List ℕ) → Undone (charge_of xs)
-  pub bay-restore : (bay : ℕ) (reach : Reach) (xs bytes : List ℕ) → Undone (bay_of bay reach xs bytes)
+  pub bay-restore : (bay : ℕ) (reach : Option ℕ) (xs bytes : List ℕ) → Undone (bay_of bay reach xs bytes)
   pub compare-sheets : (c : List ℕ) (i : ℕ) (d : List ℕ) (j : ℕ) (signs : List ℕ) → Undone (into_of c i d j signs)
   pub compare-part : (c : List ℕ) (i : ℕ) (d : List ℕ) (j : ℕ) → Undone (compare_of c i d j)
   pub window : (w : Window) (report : List ℕ) → Undone (window_of w report)

@@ -3,7 +3,7 @@
 // A slice is passed as its pointer, then its length.
 #![tactic(auto)]
 
-ghost use Rattle.std.specs.Prelude.{◌≡◌};
+ghost use Rattle.std.specs.Prelude.{◌≡◌, None, Some};
 ghost use Rattle.field.specs.Answer.{sum_of, product_of, power_of, inverse_of};
 ghost use Rattle.code.specs.Call.{syndromes_of, syndromes_given, within_of, within_written};
 ghost use Rattle.code.specs.Call.{encode_of, encode_written, is_codeword_of, read_data_of, read_data_written, restore_of, restore_written};
@@ -12,7 +12,6 @@ ghost use Rattle.card.specs.Card.{first_refused};
 ghost use Rattle.card.specs.Conversion.{to_new_of, to_new_written, to_old_of, to_old_written};
 ghost use Rattle.walk.specs.Walk.{walk_at, step_of, step_state, step_written};
 ghost use Rattle.walk.specs.Look.{look_of, look_written};
-ghost use Rattle.dock.specs.declared.Reach.TheVariants.{Longest, Named};
 ghost use Rattle.sheet.specs.Call.{write_sheet_of, write_sheet_written, read_sheet_of, read_sheet_written};
 ghost use Rattle.report.specs.Compare.{compare_of, into_of, into_total, into_written};
 ghost use Rattle.report.specs.Window.{window_from, window_of, window_written};
@@ -23,17 +22,14 @@ ghost use Rattle.exports.specs.Counts.{charge_of, charge_written, bay_of, bay_co
 mod answers;
 mod bays;
 
-use answers::{
-    pack, pack_bytes, pack_choice, pack_membership, pack_repair, pack_totals, pack_verdict, wide,
-};
+use answers::{pack, pack_bytes, pack_choice, pack_membership, pack_totals, pack_verdict};
 use bays::{COUNTS, restore_in_bay, write_counts};
-use card::CardCheck;
 use card::cards::check;
 use card::conversion::{card_to_new, card_to_old};
-use card::records::{restore_record, restore_record_within};
-use dock::{Reach, charge};
-use field::{Exponent, Question, Verdict};
-use report::compare::{Choice, compare_into, compare_part};
+use card::records::{RECORD, restore_record, restore_record_within};
+use dock::charge;
+use field::{Exponent, Question};
+use report::compare::{Side, compare_into, compare_part};
 use report::row::Window;
 use report::window::window;
 use sheet::{read_sheet, write_sheet};
@@ -100,10 +96,10 @@ pub extern "C" fn xrs_syndromes(width: u8, word: &[u8], erasures: &[u8]) -> u64
         ≡ packed_bytes (packed (syndromes_of width word.now erasures.now))
         (syndromes_given width word.now erasures.now) }
 {
-    let s = code::syndromes(width, word, erasures);
-    let verdict = s.verdict;
-    let sums = s.sums;
-    pack_bytes(pack_verdict(verdict), sums)
+    match code::syndromes(width, word, erasures) {
+        Ok(sums) => pack_bytes(0, sums),
+        Err(q) => pack_bytes(pack(Err(q)), [0; 5]),
+    }
 }
 
 // Writes the near codeword in place of the word.
@@ -112,7 +108,7 @@ pub extern "C" fn xrs_restore_word(width: u8, word: &mut [u8], erasures: &[u8]) 
     ensures answer { result ≡ packed (restore_of width word.old erasures.now) }
     ensures written { word.new ≡ restore_written width word.old erasures.now }
 {
-    pack_repair(code::restore(width, word, erasures))
+    pack(code::restore(width, word, erasures))
 }
 
 // The same with a reach: the codeword differs from the word, outside the erasures, at no more places.
@@ -126,7 +122,7 @@ pub extern "C" fn xrs_restore_word_within(
     ensures answer { result ≡ packed (within_of width word.old erasures.now reach) }
     ensures written { word.new ≡ within_written width word.old erasures.now reach }
 {
-    pack_repair(code::restore_within(width, word, erasures, reach))
+    pack(code::restore_within(width, word, erasures, reach))
 }
 
 // The same as `xrs_restore_word`, by trials.
@@ -135,7 +131,7 @@ pub extern "C" fn xrs_restore_word_by_trials(width: u8, word: &mut [u8], erasure
     ensures answer { result ≡ packed (restore_of width word.old erasures.now) }
     ensures written { word.new ≡ restore_written width word.old erasures.now }
 {
-    pack_repair(code::restore_by_trials(width, word, erasures))
+    pack(code::restore_by_trials(width, word, erasures))
 }
 
 // The same with a reach.
@@ -149,7 +145,7 @@ pub extern "C" fn xrs_restore_word_by_trials_within(
     ensures answer { result ≡ packed (within_of width word.old erasures.now reach) }
     ensures written { word.new ≡ within_written width word.old erasures.now reach }
 {
-    pack_repair(code::restore_by_trials_within(width, word, erasures, reach))
+    pack(code::restore_by_trials_within(width, word, erasures, reach))
 }
 
 // Writes the near codeword in place of the record's word, and no erasures.
@@ -158,7 +154,7 @@ pub extern "C" fn xrs_restore_record(bytes: &mut [u8]) -> u32
     ensures answer { result ≡ packed (record_of bytes.old) }
     ensures written { bytes.new ≡ record_written bytes.old }
 {
-    pack_repair(restore_record(bytes))
+    pack(restore_record(bytes))
 }
 
 // The same with a reach.
@@ -167,7 +163,7 @@ pub extern "C" fn xrs_restore_record_within(bytes: &mut [u8], reach: u8) -> u32
     ensures answer { result ≡ packed (record_within_of bytes.old reach) }
     ensures written { bytes.new ≡ record_within_written bytes.old reach }
 {
-    pack_repair(restore_record_within(bytes, reach))
+    pack(restore_record_within(bytes, reach))
 }
 
 // The card check: 0 where every record would be accepted, else the number of the first that would not be.
@@ -176,8 +172,8 @@ pub extern "C" fn xrs_check_card(card: &[u8]) -> u64
     ensures { result ≡ checked (first_refused card.now) }
 {
     match check(card) {
-        CardCheck::AllAccepted => 0,
-        CardCheck::Refused(k) => k as u64,
+        None => 0,
+        Some(k) => k as u64,
     }
 }
 
@@ -228,11 +224,13 @@ pub extern "C" fn xrs_walk_step(length: u64, next: &mut u64, card: &mut [u8]) ->
         length: length as usize,
         next: *next as usize,
     };
-    let stepped = walk.step(card);
-    let state = stepped.state;
-    *next = state.next as u64;
-    let verdict = stepped.verdict;
-    pack_verdict(verdict)
+    match walk.step(card) {
+        Ok(walk) => {
+            *next = walk.next as u64;
+            0
+        }
+        Err(q) => pack(Err(q)),
+    }
 }
 
 // A look at the record of that number, counted from 1: its symbols and zeros behind them, 132 in all, are written into the row.
@@ -251,7 +249,7 @@ pub extern "C" fn xrs_charge(left: &mut [u16]) -> u32
     ensures written { left.new ≡ charge_written left.old }
 {
     if left.len() != COUNTS {
-        return pack_verdict(Verdict::Refused(Question::Length));
+        return pack(Err(Question::Length));
     }
     write_counts(left, charge());
     0
@@ -260,11 +258,11 @@ pub extern "C" fn xrs_charge(left: &mut [u16]) -> u32
 // A bay's call: a record of which a byte would change is restored only where a rewrite is left to the bay, and counted.
 #[unsafe(no_mangle)]
 pub extern "C" fn xrs_bay_restore(bay: u8, left: &mut [u16], bytes: &mut [u8]) -> u32
-    ensures answer { result ≡ packed (bay_of bay Longest left.old bytes.old) }
-    ensures counts { left.new ≡ bay_counts bay Longest left.old bytes.old }
-    ensures written { bytes.new ≡ bay_written bay Longest left.old bytes.old }
+    ensures answer { result ≡ packed (bay_of bay None left.old bytes.old) }
+    ensures counts { left.new ≡ bay_counts bay None left.old bytes.old }
+    ensures written { bytes.new ≡ bay_written bay None left.old bytes.old }
 {
-    restore_in_bay(bay, left, bytes, Reach::Longest)
+    pack(restore_in_bay(bay, left, bytes, None))
 }
 
 // The same with a reach.
@@ -275,11 +273,11 @@ pub extern "C" fn xrs_bay_restore_within(
     bytes: &mut [u8],
     reach: u8,
 ) -> u32
-    ensures answer { result ≡ packed (bay_of bay (Named reach) left.old bytes.old) }
-    ensures counts { left.new ≡ bay_counts bay (Named reach) left.old bytes.old }
-    ensures written { bytes.new ≡ bay_written bay (Named reach) left.old bytes.old }
+    ensures answer { result ≡ packed (bay_of bay (Some reach) left.old bytes.old) }
+    ensures counts { left.new ≡ bay_counts bay (Some reach) left.old bytes.old }
+    ensures written { bytes.new ≡ bay_written bay (Some reach) left.old bytes.old }
 {
-    restore_in_bay(bay, left, bytes, Reach::Named(reach))
+    pack(restore_in_bay(bay, left, bytes, Some(reach)))
 }
 
 // Compares two day sheets, and writes the sign of each quarter hour into `signs`; above the choice stand the three totals.
@@ -298,9 +296,10 @@ pub extern "C" fn xrs_compare_sheets<'a>(
         (into_total controller.now i cupboard.now j signs.old 2) }
     ensures written { signs.new ≡ into_written controller.now i cupboard.now j signs.old }
 {
-    let c = compare_into(controller, i as usize, cupboard, j as usize, signs);
-    let choice = c.choice;
-    pack_totals(pack_choice(choice), c.equal, c.controller, c.cupboard)
+    match compare_into(controller, i as usize, cupboard, j as usize, signs) {
+        Ok(c) => pack_totals(pack_choice(c.choice), c.equal, c.controller, c.cupboard),
+        Err(q) => pack_totals(pack(Err(q)), 0, 0, 0),
+    }
 }
 
 // Where the part of the chosen record stands: on the controller's card for 1, on the cupboard's for 2, so many bytes from the offset on, as lent.
@@ -317,20 +316,17 @@ pub extern "C" fn xrs_compare_part<'a>(
     ensures begins { offset.new ≡ part_offset (compare_of controller.now i cupboard.now j) i j offset.old }
     ensures lasts { size.new ≡ part_size (compare_of controller.now i cupboard.now j) size.old }
 {
-    let told = compare_part(controller, i as usize, cupboard, j as usize);
-    let choice = told.choice;
-    match choice {
-        Choice::Controller => {
-            *offset = (i - 1) * 139;
+    match compare_part(controller, i as usize, cupboard, j as usize) {
+        Ok(told) => {
+            let number = match told.choice {
+                Side::Controller => i,
+                Side::Cupboard => j,
+            };
+            *offset = (number - 1) * RECORD as u64;
             *size = told.size as u64;
-            256
+            pack_choice(told.choice)
         }
-        Choice::Cupboard => {
-            *offset = (j - 1) * 139;
-            *size = told.size as u64;
-            512
-        }
-        Choice::Refused(q) => wide(field::refusal_number(q)),
+        Err(q) => pack(Err(q)),
     }
 }
 

@@ -3,7 +3,7 @@
 // A slice is passed as its pointer, then its length.
 #![tactic(auto)]
 
-ghost use Rattle.std.specs.Prelude.{◌≡◌};
+ghost use Rattle.std.specs.Prelude.{◌≡◌, None, Some};
 ghost use Rattle.field.specs.Answer.{sum_of, product_of, power_of, inverse_of};
 ghost use Rattle.code.specs.Call.{syndromes_of, syndromes_given, within_of, within_written};
 ghost use Rattle.code.specs.Call.{encode_of, encode_written, is_codeword_of, read_data_of, read_data_written, restore_of, restore_written};
@@ -12,7 +12,6 @@ ghost use Rattle.card.specs.Card.{first_refused};
 ghost use Rattle.card.specs.Conversion.{to_new_of, to_new_written, to_old_of, to_old_written};
 ghost use Rattle.walk.specs.Walk.{walk_at, step_of, step_state, step_written};
 ghost use Rattle.walk.specs.Look.{look_of, look_written};
-ghost use Rattle.dock.specs.declared.Reach.TheVariants.{Longest, Named};
 ghost use Rattle.sheet.specs.Call.{write_sheet_of, write_sheet_written, read_sheet_of, read_sheet_written};
 ghost use Rattle.report.specs.Compare.{compare_of, into_of, into_total, into_written};
 ghost use Rattle.report.specs.Window.{window_from, window_of, window_written};
@@ -223,9 +222,9 @@ pub extern "C" fn xrs_charge(left: &mut [u16]) -> u32
 // A bay's call: a record of which a byte would change is restored only where a rewrite is left to the bay, and counted.
 #[unsafe(no_mangle)]
 pub extern "C" fn xrs_bay_restore(bay: u8, left: &mut [u16], bytes: &mut [u8]) -> u32
-    ensures answer { result ≡ packed (bay_of bay Longest left.old bytes.old) }
-    ensures counts { left.new ≡ bay_counts bay Longest left.old bytes.old }
-    ensures written { bytes.new ≡ bay_written bay Longest left.old bytes.old }
+    ensures answer { result ≡ packed (bay_of bay None left.old bytes.old) }
+    ensures counts { left.new ≡ bay_counts bay None left.old bytes.old }
+    ensures written { bytes.new ≡ bay_written bay None left.old bytes.old }
 {
     exports::xrs_bay_restore(bay, left, bytes)
 }
@@ -238,9 +237,9 @@ pub extern "C" fn xrs_bay_restore_within(
     bytes: &mut [u8],
     reach: u8,
 ) -> u32
-    ensures answer { result ≡ packed (bay_of bay (Named reach) left.old bytes.old) }
-    ensures counts { left.new ≡ bay_counts bay (Named reach) left.old bytes.old }
-    ensures written { bytes.new ≡ bay_written bay (Named reach) left.old bytes.old }
+    ensures answer { result ≡ packed (bay_of bay (Some reach) left.old bytes.old) }
+    ensures counts { left.new ≡ bay_counts bay (Some reach) left.old bytes.old }
+    ensures written { bytes.new ≡ bay_written bay (Some reach) left.old bytes.old }
 {
     exports::xrs_bay_restore_within(bay, left, bytes, reach)
 }

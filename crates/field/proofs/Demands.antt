@@ -1,4 +1,6 @@
 -- The statements of specs/Demands.antt, each under its name in small letters. Assumes nothing.
+use Rattle.std.proofs.Common.{Ok, Err}
+use Rattle.field.specs.Question.{Verdict}
 use Rattle.field.proofs.Base.{◌≡◌, refl, sym, ap, ◌∙◌, subst, ◌≢◌, Bool, true, cond, not, [], ◌∷◌, ℕ, ◌<◌, arith, lt-ltb, ne_eqb, eqb-false}
 use Rattle.field.proofs.Base.{not-true, eqb, lit<}
 use Rattle.field.specs.inner.Operand.{arithmetic}
@@ -9,8 +11,6 @@ use Rattle.field.specs.Answer.{operands}
 use Rattle.field.specs.declared.Question.{Question}
 use Rattle.field.specs.declared.Question.TheVariants.{Width, Length, ErasureCount, Padding, ErasurePlace, ErasureDistinct, Symbol, Correctable, Syndrome, Nonzero}
 use Rattle.field.specs.declared.Question.TheVariants.{SheetWidth, Date, Unused, Unique, FourErasures, Reach, RecordNumber, Bay, Rewrite, SameDay, Window}
-use Rattle.field.specs.declared.Verdict.{Verdict}
-use Rattle.field.specs.declared.Verdict.TheVariants.{Passed, Refused}
 use Rattle.field.specs.Demands.{NumbersTell, NumbersRange, PowersOfAlpha, AlphaGenerates, CarrylessSteps, Symbols, ProductRemainder}
 use Rattle.field.specs.Demands.{InverseInverts, FieldLaws, CubesOdd, CubesFour}
 use Rattle.field.proofs.Below.{all_below-means}
@@ -101,22 +101,22 @@ pub carryless-steps : CarrylessSteps
 carryless-steps a b = (carryless-zero-l b, carryless-step a b)
 
 -- a call whose verdict is given and that answers a value has passed its questions
-answered : (v : Verdict) (o : Outcome) (r : ℕ) → after v o ≡ accepted r → (v ≡ Passed) × (o ≡ accepted r)
-answered Passed o r e = (refl, e)
-answered (Refused q) o r e = let z : ◌≡◌ {A = ℕ} 0 1 = cc in absurd (omega arith)
+answered : (v : Verdict) (o : Outcome) (r : ℕ) → after v o ≡ accepted r → (v ≡ (Ok tt)) × (o ≡ accepted r)
+answered (Ok tt) o r e = (refl, e)
+answered (Err q) o r e = let z : ◌≡◌ {A = ℕ} 0 1 = cc in absurd (omega arith)
 
 module _ (m a b : ℕ) where
-  pair-symbols : operands m (a ∷ b ∷ []) ≡ Passed → Symbols m a b
+  pair-symbols : operands m (a ∷ b ∷ []) ≡ (Ok tt) → Symbols m a b
   unfolding operands
   pair-symbols p =
-      let below = ask-yes (all_below (order m) (a ∷ b ∷ [])) Symbol Passed (ask-next (is_width m) Width _ p) in
+      let below = ask-yes (all_below (order m) (a ∷ b ∷ [])) Symbol (Ok tt) (ask-next (is_width m) Width _ p) in
       record {
         width = ask-yes (is_width m) Width _ p;
         first = all_below-means (order m) (a ∷ b ∷ []) below 0 (lit< tt);
         second = all_below-means (order m) (a ∷ b ∷ []) below 1 (lit< tt);
       }
 
-  symbols-pair : Symbols m a b → operands m (a ∷ b ∷ []) ≡ Passed
+  symbols-pair : Symbols m a b → operands m (a ∷ b ∷ []) ≡ (Ok tt)
   unfolding operands
   symbols-pair S = simp (S.width, lt-ltb a (order m) S.first, lt-ltb b (order m) S.second)
 
@@ -143,27 +143,27 @@ product-remainder m a b r = (
 )
 
 module _ (m a : ℕ) where
-  one_symbol : operands m (a ∷ []) ≡ Passed → (is_width m ≡ true) × (a < order m)
+  one_symbol : operands m (a ∷ []) ≡ (Ok tt) → (is_width m ≡ true) × (a < order m)
   unfolding operands
   one_symbol p = (
     ask-yes (is_width m) Width _ p,
-    all_below-means (order m) (a ∷ []) (ask-yes (all_below (order m) (a ∷ [])) Symbol Passed (ask-next (is_width m) Width _ p)) 0 (lit< tt),
+    all_below-means (order m) (a ∷ []) (ask-yes (all_below (order m) (a ∷ [])) Symbol (Ok tt) (ask-next (is_width m) Width _ p)) 0 (lit< tt),
   )
 
-  symbol-one : is_width m ≡ true → a < order m → operands m (a ∷ []) ≡ Passed
+  symbol-one : is_width m ≡ true → a < order m → operands m (a ∷ []) ≡ (Ok tt)
   unfolding operands
   symbol-one h l = simp (h, lt-ltb a (order m) l)
 
   -- question 10 and the inverse
   abbrev inverted : Outcome
-  inverted = after (ask (not (eqb a 0)) Nonzero Passed) (accepted (inverse m a))
+  inverted = after (ask (not (eqb a 0)) Nonzero (Ok tt)) (accepted (inverse m a))
 
 pub inverse-inverts : InverseInverts
 inverse-inverts m a b = (
   λ e.
       let p = answered (operands m (a ∷ [])) (inverted m a) b e in
-      let t = answered (ask (not (eqb a 0)) Nonzero Passed) (accepted (inverse m a)) b p.1 in
-      let n : a ≢ 0 = eqb-false a 0 (not-true (eqb a 0) (ask-yes (not (eqb a 0)) Nonzero Passed t.0)) in
+      let t = answered (ask (not (eqb a 0)) Nonzero (Ok tt)) (accepted (inverse m a)) b p.1 in
+      let n : a ≢ 0 = eqb-false a 0 (not-true (eqb a 0) (ask-yes (not (eqb a 0)) Nonzero (Ok tt) t.0)) in
       let h = one_symbol m a p.0 in
       let F = field_of m h.0 in
       let same : inverse m a ≡ b = cc in
@@ -177,7 +177,7 @@ inverse-inverts m a b = (
       let one : product m a b ≡ 1 = cc in
       let n : a ≢ 0 = λ z. (let o : ◌≡◌ {A = ℕ} 0 1 = sym (F.zero-product b) ∙ ap (λ (x : ℕ). product m x b) (sym z) ∙ one in omega arith) in
       ap (λ (v : Verdict). after v (inverted m a)) (symbol-one m a S.width S.first)
-      ∙ ap (λ (t : Bool). after (ask (not t) Nonzero Passed) (accepted (inverse m a))) (ne_eqb a 0 n)
+      ∙ ap (λ (t : Bool). after (ask (not t) Nonzero (Ok tt)) (accepted (inverse m a))) (ne_eqb a 0 n)
       ∙ ap accepted (F.product-cancel a (inverse m a) b n S.first (F.inverse-lt a) S.second (F.product-inverse a n S.first ∙ sym one)),
 )
 

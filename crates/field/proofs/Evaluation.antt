@@ -1,9 +1,8 @@
 -- Horner's rule for weighted sums, and one step of the pass that computes them. Bytes count by the symbols that they stand for.
 -- Assumes nothing.
-use Rattle.field.proofs.Base.{◌≡◌, refl, sym, ap, ap₂, ◌∙◌, subst, true, List, [], ◌∷◌, ℕ, zero, suc, ◌-◌, ◌*◌, ◌%◌, ◌≤◌, ◌<◌, mod-eq_of_lt}
-use Rattle.field.proofs.Base.{arith, length, get_or, drop, drop-cons}
+use Rattle.field.proofs.Base.{◌≡◌, refl, sym, ap, ap₂, ◌∙◌, subst, true, List, [], ◌∷◌, ◌++◌, ℕ, zero, suc, ◌*◌, ◌%◌, ◌<◌, mod-eq_of_lt}
+use Rattle.field.proofs.Base.{arith, length}
 use native.Mathlib.Nat.{mul-zero, mul-suc, add_comm}
-use lib.Seq.{drop-length}
 use Rattle.field.specs.Polynomial.{add}
 use Rattle.field.specs.Field.{order, product, power, α}
 use Rattle.field.specs.Question.{is_width, all_below}
@@ -76,32 +75,28 @@ module _ (m : ℕ) where
   pub first-shift : (a : ℕ) → a < order n → a ≡ product n (power n α 0) a
   first-shift a h = sym (ap (λ (x : ℕ). product n x a) (F.power_zero α) ∙ F.one_product a h)
 
-  -- s holds the sums over the symbols from i on
-  module _ (cs : List ℕ) where
-    pub pass-start : five (λ k. 0) ≡ five (evaluate (drop (length cs) cs))
-    unfolding evaluate
-    pass-start = ap (λ (xs : List ℕ). five (evaluate xs)) (sym (drop-length cs))
+  -- ---- s holds the sums over the symbols cs that the pass has left behind
 
-    pub pass-small : (s : List ℕ) (i k : ℕ) → s ≡ five (evaluate (drop i cs)) → k < 5 → at s k < order n
-    pass-small s i k e l =
-        subst (λ (x : ℕ). x < order n) (sym (ap (λ (t : List ℕ). at t k) e ∙ five-at (evaluate (drop i cs)) k l)) (evaluate-lt (drop i cs) k)
+  pub pass-start : five (λ k. 0) ≡ five (evaluate [])
+  unfolding evaluate
+  pass-start = refl
 
-    pub pass_on : (s t : List ℕ) (i : ℕ) → s ≡ five (evaluate (drop i cs)) → 0 < i → i ≤ length cs
-        → t ≡ five (λ k. add (product n (power n α k) (at s k)) (symbol_for m (get_or cs (i - 1) 0))) → t ≡ five (evaluate (drop (i - 1) cs))
-    unfolding evaluate
-    pass_on s t i e p h f =
-        f
-        ∙ five-cong _ _ (λ k l. ap (λ (x : ℕ). add (product n (power n α k) x) (symbol_for m (get_or cs (i - 1) 0)))
-        (ap (λ (u : List ℕ). at u k) e ∙ five-at (evaluate (drop i cs)) k l))
-        ∙ ap (λ (j : ℕ). five (λ k. add (product n (power n α k) (evaluate (drop j cs) k)) (symbol_for m (get_or cs (i - 1) 0)))) back
-        ∙ ap (λ (xs : List ℕ). five (evaluate xs)) (sym (drop-cons cs (i - 1) 0 (omega arith)))
-      where
-        back : i ≡ suc (i - 1)
-        back = omega arith
+  pub pass-small : (s cs : List ℕ) (k : ℕ) → s ≡ five (evaluate cs) → k < 5 → at s k < order n
+  pass-small s cs k e l =
+      subst (λ (x : ℕ). x < order n) (sym (ap (λ (t : List ℕ). at t k) e ∙ five-at (evaluate cs) k l)) (evaluate-lt cs k)
 
-    pub pass-end : (s : List ℕ) (i : ℕ) → s ≡ five (evaluate (drop i cs)) → i ≡ 0 → s ≡ sums_for m cs
-    unfolding sums_for
-    pass-end s i e z = e ∙ ap (λ (j : ℕ). five (evaluate (drop j cs))) z ∙ five-cong _ _ (λ k l. evaluate-weighted cs k)
+  pub pass_on : (s t cs : List ℕ) (c : ℕ) → s ≡ five (evaluate cs) → t ≡ five (λ k. add (product n (power n α k) (at s k)) (symbol_for m c))
+      → t ≡ five (evaluate (c ∷ cs))
+  unfolding evaluate
+  pass_on s t cs c e f =
+      f
+      ∙ five-cong _ _ (λ k l. ap (λ (x : ℕ). add (product n (power n α k) x) (symbol_for m c))
+      (ap (λ (u : List ℕ). at u k) e ∙ five-at (evaluate cs) k l))
+
+  pub pass-end : (s cs rest xs : List ℕ) → s ≡ five (evaluate cs) → xs ≡ rest ++ cs → length rest ≡ 0 → s ≡ sums_for m xs
+  unfolding sums_for
+  pass-end s cs [] xs e split z = e ∙ five-cong _ _ (λ k l. evaluate-weighted cs k) ∙ ap (sums_for m) (sym split)
+  pass-end s cs (x ∷ rest) xs e split z = absurd (omega arith)
 
 -- ---- the five sums
 

@@ -4,8 +4,6 @@ use native.Mathlib.Nat.{mul-zero}
 use lib.Pow.{high, low}
 use Rattle.field.specs.Polynomial.{add}
 use Rattle.field.specs.Field.{product, power, α}
-use Rattle.field.specs.inner.Operand.{arithmetic}
-use Rattle.field.proofs.Widths.{doubles, doubles-power}
 use Rattle.field.specs.Sum.{sum, weighted}
 use Rattle.field.proofs.Sums.{sum-cong, sum-split, sum-add}
 use Rattle.field.specs.inner.Lanes.{lanes, Below, Times}
@@ -20,11 +18,6 @@ bytes n f b j h = omega (arith, b j h)
 product-byte : (a b : ℕ) → product 7 a b < 256
 product-byte a b = let h : product 7 a b < 128 = F.product_lt a b in omega arith
 
-pub times-sum : (d e g a r s : ℕ) → power 7 α g ≡ add (power 7 α d) (power 7 α e) → Times d a r → Times e a s → Times g a (add r s)
-times-sum d e g a r s p x y n f h b q =
-    ap₂ add (x n f h b q) (y n f h b q) ∙ lanes-add n _ _ (λ j l. product-byte _ _) (λ j l. product-byte _ _)
-    ∙ lanes-cong n _ _ (λ j l. sym (F.add-product _ _ (f j)) ∙ ap (λ (z : ℕ). product 7 z (f j)) (sym p))
-
 pub times-then : (d e g a r s : ℕ) → power 7 α g ≡ product 7 (power 7 α e) (power 7 α d) → Times d a r → Times e r s → Times g a s
 times-then d e g a r s p x y n f h b q =
     y n (λ j. product 7 (power 7 α d) (f j)) h (λ j l. F.product_lt _ _) (x n f h b q)
@@ -33,22 +26,6 @@ times-then d e g a r s p x y n f h b q =
 pub times_none : (a : ℕ) → Times 0 a a
 times_none a n f h b q =
     q ∙ lanes-cong n _ _ (λ j l. sym (ap (λ (z : ℕ). product 7 z (f j)) (F.power_zero α) ∙ F.one_product (f j) (b j l)))
-
--- ---- the powers that are used
-
-by-doubles : (d : ℕ) → doubles 7 d ≡ power 7 α d
-by-doubles = doubles-power 7 F.positive
-
-sum-doubles : (g d e : ℕ) → doubles 7 g ≡ add (doubles 7 d) (doubles 7 e) → power 7 α g ≡ add (power 7 α d) (power 7 α e)
-sum-doubles g d e p = sym (by-doubles g) ∙ p ∙ ap₂ add (by-doubles d) (by-doubles e)
-
-pub power-32 : power 7 α 32 ≡ add (power 7 α 1) (power 7 α 2)
-unfolding arithmetic doubles
-power-32 = sum-doubles 32 1 2 refl
-
-pub power_16 : power 7 α 16 ≡ add (power 7 α 32) (power 7 α 4)
-unfolding arithmetic doubles
-power_16 = sum-doubles 16 32 4 refl
 
 -- ---- sums
 
@@ -107,15 +84,18 @@ lanes-one f = omega arith
 pub folded : (e a u v w : ℕ) (f : ℕ → ℕ)
     → Times (e * 4) (a / 4294967296) u
     → Times (e * 2) (add (a % 4294967296) u / 65536) v
-    → Times (e * 1) (add (add (a % 4294967296) u % 65536) v / 256) w
+    → Times e (add (add (a % 4294967296) u % 65536) v / 256) w
     → Below 128 8 f → a ≡ lanes 8 f
     → add (add (add (a % 4294967296) u % 65536) v % 256) w ≡ weighted 7 8 f e
 folded e a u v w f x y z b q =
-    halved 1 8 f2 refl (bytes 2 f2 b2) (e * 1) _ w (omega arith) b2 q2 z
+    halved 1 8 f2 refl (bytes 2 f2 b2) (e * 1) _ w (omega arith) b2 q2 (subst (λ (k : ℕ). Times k (add (add (a % 4294967296) u % 65536) v / 256) w) once z)
     ∙ lanes-one (halve 1 (e * 1) f2)
     ∙ sym (weighted-one e (halve 1 (e * 1) f2) (halve-below 1 (e * 1) f2 b2 0 (omega arith)))
     ∙ sym (halve-weighted 4 e f ∙ halve-weighted 2 e f1 ∙ halve-weighted 1 e f2)
   where
+    once : e ≡ e * 1
+    once = omega arith
+
     f1 : ℕ → ℕ
     f1 = halve 4 (e * 4) f
 

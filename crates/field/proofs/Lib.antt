@@ -21,9 +21,9 @@ mod PowerTable  -- the table's doubling rule, computed once and carried to each 
 mod Shifts  -- products with the first powers of α by shifts, computed at each width
 mod Steps  -- one step of the loops of product and power, and the exponent of an inverse
 -- sums by folds, and rows in lanes
-mod Blocks  -- bytes of a list in one number, and what a test of it says of each
+mod Generated  -- an array that a closure makes
 mod Folding  -- the lanes folded into one, by halves
 mod Segments  -- the sum over eight segments of sixteen symbols
-mod Relations
-mod Filling
-mod Values
+mod Relations  -- the law of the folds: the last number goes to the places of a relation
+mod Filling  -- the last of the sixteen numbers
+mod Values  -- numbers as twice as many halves, and the chain of folds and halvings

@@ -4,7 +4,9 @@ use Rattle.field.proofs.Base.{le_of_suc-le-suc, arith}
 use native.Mathlib.Nat.{mul_comm, mul-div_cancel, div-div-eq-div-mul, pow-suc}
 use lib.Bits.{bit_and, bit_xor, and_block, xor_block, xor_shr, xor_mod}
 use lib.Pow.{pow-add}
+use Rattle.std.specs.Int.{w64, from_le_bytes, to_le_bytes}
 use Rattle.field.specs.Polynomial.{add}
+use Rattle.field.specs.Sum.{at}
 use Rattle.field.specs.inner.Lanes.{lanes, lane, Below, eight}
 
 abbrev tail : (ℕ → ℕ) → ℕ → ℕ
@@ -123,13 +125,14 @@ eight-cong f g e =
     eight-of g (e 0 (omega arith)) (e 1 (omega arith)) (e 2 (omega arith)) (e 3 (omega arith)) (e 4 (omega arith)) (e 5 (omega arith))
     (e 6 (omega arith)) (e 7 (omega arith))
 
-pub below-eight : (f : ℕ → ℕ) → f 0 < 256 → f 1 < 256 → f 2 < 256 → f 3 < 256 → f 4 < 256 → f 5 < 256 → f 6 < 256 → f 7 < 256 → Below 256 8 f
-below-eight f a b c d e g i k zero h = a
-below-eight f a b c d e g i k (suc zero) h = b
-below-eight f a b c d e g i k (suc (suc zero)) h = c
-below-eight f a b c d e g i k (suc (suc (suc zero))) h = d
-below-eight f a b c d e g i k (suc (suc (suc (suc zero)))) h = e
-below-eight f a b c d e g i k (suc (suc (suc (suc (suc zero))))) h = g
-below-eight f a b c d e g i k (suc (suc (suc (suc (suc (suc zero)))))) h = i
-below-eight f a b c d e g i k (suc (suc (suc (suc (suc (suc (suc zero))))))) h = k
-below-eight f a b c d e g i k (suc (suc (suc (suc (suc (suc (suc (suc j)))))))) h = absurd (omega arith)
+-- ---- the bytes of a number of 64 bits, and the number of eight bytes
+
+pub number-of-bytes : (bs : List ℕ) → from_le_bytes w64 bs ≡ lanes 8 (at bs)
+unfolding lanes
+number-of-bytes bs = omega arith
+
+pub bytes-of-number : (a : ℕ) → to_le_bytes w64 a ≡ eight (lane a)
+bytes-of-number a = eight-of (lane a) first refl refl refl refl refl refl refl
+  where
+    first : a % 256 ≡ a / 1 % 256
+    first = omega arith

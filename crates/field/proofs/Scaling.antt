@@ -1,5 +1,5 @@
 -- Lanes times a symbol: the sum of their products with the powers of α that the symbol's digits name. Assumes nothing.
-use Rattle.field.proofs.Base.{◌≡◌, refl, sym, ap, ap₂, ◌∙◌, subst, List, [], ◌∷◌, ℕ, zero, suc, ◌*◌, ◌/◌, ◌%◌, ◌^◌, ◌≤◌, ◌<◌, mod-eq_of_lt}
+use Rattle.field.proofs.Base.{◌≡◌, ◌≢◌, refl, sym, ap, ap₂, ◌∙◌, subst, List, ℕ, zero, suc, ◌+◌, ◌*◌, ◌/◌, ◌%◌, ◌^◌, ◌≤◌, ◌<◌, mod-eq_of_lt}
 use Rattle.field.proofs.Base.{arith, T, eqb, eqb→eq}
 use Rattle.field.specs.Polynomial.{add}
 use Rattle.field.specs.Field.{product, power, α}
@@ -7,11 +7,10 @@ use Rattle.field.specs.inner.Operand.{arithmetic}
 use Rattle.field.proofs.Widths.{doubles, doubles-power}
 use Rattle.field.proofs.Check.{all, all-at}
 use Rattle.field.specs.Sum.{at, sum}
-use Rattle.field.specs.inner.Lanes.{lanes, lane, Below, Times, eight, Multiples, named}
-use Rattle.field.proofs.Sums.{sum-cong, sum-times, sum_lt}
+use Rattle.field.specs.inner.Lanes.{lanes, lane, Below, eight, Multiples, named}
+use Rattle.field.proofs.Sums.{sum-suc, sum-cong, sum-times, sum_lt}
 use Rattle.field.proofs.Packing.{lanes-cong, lanes-times, lanes-add, lane-lanes, eight-cong}
 use Rattle.field.proofs.Lanewise.{F}
-use Rattle.field.proofs.Folding.{times_none, times-then}
 
 -- digit i of k
 abbrev pub digit : ℕ → ℕ → ℕ
@@ -87,40 +86,31 @@ module _ (k : ℕ) (f : ℕ → ℕ) where
         byte : (x : ℕ) → x < 128 → x < 256
         byte x h = omega arith
 
--- what the code adds up, one number for each digit of k
-pub named-of : (k : ℕ) (ms : List ℕ) (w0 w1 w2 w3 w4 w5 w6 : ℕ)
-    → w0 ≡ at ms 0 * (k % 2) → w1 ≡ at ms 1 * digit k 1 → w2 ≡ at ms 2 * digit k 2 → w3 ≡ at ms 3 * digit k 3 → w4 ≡ at ms 4 * digit k 4
-    → w5 ≡ at ms 5 * digit k 5 → w6 ≡ at ms 6 * digit k 6
-    → add (add (add (add (add (add w0 w1) w2) w3) w4) w5) w6 ≡ named k ms
-unfolding sum
-named-of k ms w0 w1 w2 w3 w4 w5 w6 e0 e1 e2 e3 e4 e5 e6 =
-    ap₂ add (ap₂ add (ap₂ add (ap₂ add (ap₂ add (ap₂ add first e1) e2) e3) e4) e5) e6
-  where
-    low : k % 2 ≡ digit k 0
-    low = omega arith
+-- the sum of those of the first i numbers that the digits of k name, as the code has it: one more is named, or is not
+abbrev pub named-below : ℕ → ℕ → List ℕ → ℕ
+named-below i k ms = sum i (λ t. at ms t * digit k t)
 
-    first : w0 ≡ add 0 (at ms 0 * digit k 0)
-    first = e0 ∙ ap (λ (x : ℕ). at ms 0 * x) low ∙ sym (F.zero-add _)
+pub named-more : (i k s : ℕ) (ms : List ℕ) → s ≡ named-below i k ms → digit k i ≡ 1 → add s (at ms i) ≡ named-below (i + 1) k ms
+named-more i k s ms e d = ap₂ add e one ∙ sym (sum-suc i _) ∙ ap (λ (n : ℕ). named-below n k ms) next
+  where
+    one : at ms i ≡ at ms i * digit k i
+    one = rw d (omega arith)
+
+    next : suc i ≡ i + 1
+    next = omega arith
+
+pub named-same : (i k s : ℕ) (ms : List ℕ) → s ≡ named-below i k ms → digit k i ≢ 1 → s ≡ named-below (i + 1) k ms
+named-same i k s ms e d = sym (F.add-zero s) ∙ ap₂ add e none ∙ sym (sum-suc i _) ∙ ap (λ (n : ℕ). named-below n k ms) next
+  where
+    off : digit k i ≡ 0
+    off = omega (arith, d)
+
+    none : 0 ≡ at ms i * digit k i
+    none = rw off (omega arith)
+
+    next : suc i ≡ i + 1
+    next = omega arith
 
 -- the multiples of a row of symbols are those of the symbols that its bytes stand for
 pub multiples-own : (row ms : List ℕ) → Below 128 8 (at row) → Multiples (λ j. at row j % 128) ms → Multiples (at row) ms
 multiples-own row ms b M i l = M i l ∙ lanes-cong 8 _ _ (λ j h. ap (product 7 (power 7 α i)) (mod-eq_of_lt (b j h)))
-
--- the multiples of a row a that holds the symbols f, from the products that the code makes
-pub multiples-of : (f : ℕ → ℕ) (a b x1 x2 x3 x5 x6 : ℕ) → Below 128 8 f → a ≡ lanes 8 f
-    → Times 1 a x1 → Times 2 a x2 → Times 3 a x3 → Times 4 a b → Times 1 b x5 → Times 2 b x6
-    → Multiples f (a ∷ x1 ∷ x2 ∷ x3 ∷ b ∷ x5 ∷ x6 ∷ [])
-multiples-of f a b x1 x2 x3 x5 x6 d e t1 t2 t3 t4 t5 t6 = go
-  where
-    many : 8 ≤ 8
-    many = omega arith
-
-    go : Multiples f (a ∷ x1 ∷ x2 ∷ x3 ∷ b ∷ x5 ∷ x6 ∷ [])
-    go zero h = times_none a 8 f many d e
-    go (suc zero) h = t1 8 f many d e
-    go (suc (suc zero)) h = t2 8 f many d e
-    go (suc (suc (suc zero))) h = t3 8 f many d e
-    go (suc (suc (suc (suc zero)))) h = t4 8 f many d e
-    go (suc (suc (suc (suc (suc zero))))) h = times-then 4 1 5 a b x5 (F.power-add α 1 4) t4 t5 8 f many d e
-    go (suc (suc (suc (suc (suc (suc zero)))))) h = times-then 4 2 6 a b x6 (F.power-add α 2 4) t4 t6 8 f many d e
-    go (suc (suc (suc (suc (suc (suc (suc i))))))) h = absurd (omega arith)

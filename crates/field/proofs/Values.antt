@@ -1,14 +1,14 @@
 -- The value of a number that holds one, two, four or eight symbols: their sum at exponent e, by halves. A row of numbers is a row of twice as
 -- many halves; so folds and halvings in turn leave eight symbols that have the sums of all. Assumes nothing.
-use Rattle.field.proofs.Base.{◌≡◌, refl, sym, ap, ap₂, ◌∙◌, subst, List, ℕ, ◌+◌, ◌*◌, ◌/◌, ◌%◌, ◌^◌, ◌<◌, mod-eq_of_lt, arith, length}
-use native.Mathlib.Nat.{mod-lt, lt_trans}
+use Rattle.field.proofs.Base.{◌≡◌, refl, sym, ap, ap₂, ◌∙◌, subst, List, ℕ, ◌+◌, ◌*◌, ◌/◌, ◌%◌, ◌^◌, ◌<◌, arith, length}
+use native.Mathlib.Nat.{mod-lt}
 use lib.Bits.{xor_shr, xor_mod}
 use Rattle.field.specs.Polynomial.{add}
 use Rattle.field.specs.Field.{product, power, α}
 use Rattle.field.specs.Sum.{at, weighted}
 use Rattle.field.specs.inner.Lanes.{lanes, Below, Block}
 use Rattle.field.specs.inner.Folds.{Additive, SmallValues, value_total, half, single, pair, quad, octet, Folded, Halved, Packed}
-use Rattle.field.proofs.Sums.{sum-suc, sum-cong, sum-split, sum-scale, sum_lt}
+use Rattle.field.proofs.Sums.{sum-suc, sum-cong, sum-split, sum-scale}
 use Rattle.field.proofs.Below.{past_end}
 use Rattle.field.proofs.Lanewise.{F}
 use Rattle.field.proofs.Folding.{power-apply, weighted-one, lower, upper}
@@ -146,12 +146,8 @@ module _ (cs : List ℕ) (size : length cs ≡ 127) where
       (ap (λ (x : ℕ). product 7 (power 7 α (e * 127)) (x % 128)) (past_end cs 127 (omega (arith, size))) ∙ F.product-zero _)
       ∙ F.add-zero _
 
-  -- a sum, from the packed symbols and the byte r of their sum p
+  -- a sum, from that of the packed symbols
   pub sum-of-packed : (R : ℕ → Type 0) (ws : List ℕ) (a : ℕ) → ((i : ℕ) → i < 16 → Block 8 cs (8 * i) (at ws i))
-      → Packed R ws a → (e p r : ℕ) → R (8 * e) → R (4 * e) → R (2 * e) → R e
-      → ((f : ℕ → ℕ) → Below 128 8 f → a ≡ lanes 8 f → p ≡ weighted 7 8 f e) → r ≡ p % 256 → r ≡ weighted 7 127 (λ i. at cs i % 128) e
-  sum-of-packed R ws a h k e p r p8 p4 p2 p1 fold byte =
-      byte ∙ mod-eq_of_lt (subst (λ (y : ℕ). y < 256) (sym is) (lt_trans (sum_lt F 127 _ (λ i h. F.product_lt _ _)) (omega arith))) ∙ is
-    where
-      is : p ≡ weighted 7 127 (λ i. at cs i % 128) e
-      is = fold k.symbols k.below k.held ∙ k.same e p8 p4 p2 p1 ∙ octets ws h e
+      → Packed R ws a → (e r : ℕ) → R (8 * e) → R (4 * e) → R (2 * e) → R e
+      → ((f : ℕ → ℕ) → Below 128 8 f → a ≡ lanes 8 f → r ≡ weighted 7 8 f e) → r ≡ weighted 7 127 (λ i. at cs i % 128) e
+  sum-of-packed R ws a h k e r p8 p4 p2 p1 fold = fold k.symbols k.below k.held ∙ k.same e p8 p4 p2 p1 ∙ octets ws h e

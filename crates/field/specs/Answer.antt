@@ -1,22 +1,21 @@
 -- What the four calls of the field answer on every input. Assumes nothing.
+use Rattle.std.specs.Prelude.{Ok, Err, Result}
+use Rattle.field.specs.Question.{Verdict}
+use Rattle.field.specs.declared.Question.{Question}
 use Rattle.std.specs.Prelude.{not, List, [], ◌∷◌, ℕ, eqb}
 use Rattle.field.specs.Polynomial.{add}
 use Rattle.field.specs.Field.{order, product, power, inverse}
 use Rattle.field.specs.Question.{Outcome, accepted, refused, refusal, ask, after, is_width, all_below}
-use Rattle.field.specs.declared.Answer.{Answer}
-use Rattle.field.specs.declared.Answer.TheVariants.{Value, Refused}
 use Rattle.field.specs.declared.Question.TheVariants.{Width, Symbol, Nonzero}
-use Rattle.field.specs.declared.Verdict.{Verdict}
-use Rattle.field.specs.declared.Verdict.TheVariants.{Passed}
 
 -- the number and the value of each case of the answer
-abbrev pub outcome : Answer → Outcome
-outcome (Value x) = accepted x
-outcome (Refused q) = refused (refusal q)
+abbrev pub outcome : (Result ℕ Question) → Outcome
+outcome (Ok x) = accepted x
+outcome (Err q) = refused (refusal q)
 
 -- questions 1 and 7, put to the operands
 unfoldable pub operands : ℕ → List ℕ → Verdict
-operands m xs = ask (is_width m) Width (ask (all_below (order m) xs) Symbol Passed)
+operands m xs = ask (is_width m) Width (ask (all_below (order m) xs) Symbol (Ok tt))
 
 abbrev pub sum_of : ℕ → ℕ → ℕ → Outcome
 sum_of m a b = after (operands m (a ∷ b ∷ [])) (accepted (add a b))
@@ -29,4 +28,4 @@ power_of m a e = after (operands m (a ∷ [])) (accepted (power m a e))
 
 -- question 10 comes last
 abbrev pub inverse_of : ℕ → ℕ → Outcome
-inverse_of m a = after (operands m (a ∷ [])) (after (ask (not (eqb a 0)) Nonzero Passed) (accepted (inverse m a)))
+inverse_of m a = after (operands m (a ∷ [])) (after (ask (not (eqb a 0)) Nonzero (Ok tt)) (accepted (inverse m a)))

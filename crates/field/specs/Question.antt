@@ -1,10 +1,8 @@
 -- The questions of documents 01 and 02, their refusal numbers, and what a call answers. Assumes nothing.
-use Rattle.std.specs.Prelude.{Bool, true, false, ◌&&◌, ◌||◌, List, [], ◌∷◌, ℕ, ltb, eqb}
+use Rattle.std.specs.Prelude.{Ok, Err, Result, Bool, true, false, ◌&&◌, ◌||◌, List, [], ◌∷◌, ℕ, ltb, eqb}
 use Rattle.field.specs.declared.Question.{Question}
 use Rattle.field.specs.declared.Question.TheVariants.{Width, Length, ErasureCount, Padding, ErasurePlace, ErasureDistinct, Symbol, Correctable, Syndrome, Nonzero}
 use Rattle.field.specs.declared.Question.TheVariants.{SheetWidth, Date, Unused, Unique, FourErasures, Reach, RecordNumber, Bay, Rewrite, SameDay, Window}
-use Rattle.field.specs.declared.Verdict.{Verdict}
-use Rattle.field.specs.declared.Verdict.TheVariants.{Passed, Refused}
 
 -- the refusal number of each question, in the order of the questions
 abbrev pub refusal : Question → ℕ
@@ -35,15 +33,19 @@ pub data Outcome : Type 0 where
   accepted : ℕ → Outcome
   refused : ℕ → Outcome
 
+-- what the questions of a call answer: all of them yes, or one of them no
+abbrev pub Verdict : Type 0
+Verdict = Result (Unit {0}) Question
+
 -- a question that is answered no ends the call; one that is answered yes leads to the next
 abbrev pub ask : Bool → Question → Verdict → Verdict
 ask true q next = next
-ask false q next = Refused q
+ask false q next = Err q
 
 -- the outcome of a call whose questions have been put
 abbrev pub after : Verdict → Outcome → Outcome
-after Passed o = o
-after (Refused q) o = refused (refusal q)
+after (Ok tt) o = o
+after (Err q) o = refused (refusal q)
 
 -- question 1: is the width 3, 4, 5 or 7?
 abbrev pub is_width : ℕ → Bool

@@ -75,10 +75,10 @@ fn multiply_by_digits(width: u8, a: u8, b: u8) -> u8
     let mut y = a % q;
     while 0 < y {
         if y % 2 == 1 {
-            r = r ^ x;
+            r ^= x;
         }
         x = double(q, p, x);
-        y = y / 2;
+        y /= 2;
     }
     r
 }
@@ -87,15 +87,10 @@ fn multiply_by_digits(width: u8, a: u8, b: u8) -> u8
 fn multiply7(a: u8, b: u8) -> u8
     ensures { result ≡ product_m 7 (a % 128) (b % 128) }
 {
-    if a % 128 == 0 {
+    if a % 128 == 0 || b % 128 == 0 {
         return 0;
     }
-    if b % 128 == 0 {
-        return 0;
-    }
-    let i = logarithm(a).0;
-    let j = logarithm(b).0;
-    power_of_alpha(Exponent(i + j))
+    power_of_alpha(Exponent(logarithm(a).0 + logarithm(b).0))
 }
 
 pub fn multiply(width: u8, a: u8, b: u8) -> u8
@@ -111,24 +106,20 @@ pub fn multiply(width: u8, a: u8, b: u8) -> u8
 pub fn ratio_exponent(a: u8, b: u8) -> Exponent
     ensures { (result.0 < 127) × (product_m 7 (power_m 7 α result.0) (unit_for a) ≡ unit_for b) }
 {
-    let i = logarithm(a).0;
-    let j = logarithm(b).0;
-    Exponent((j + 127 - i) % 127)
+    Exponent((logarithm(b).0 + 127 - logarithm(a).0) % 127)
 }
 
 // A power at width 7: the exponent of α is multiplied, and counts modulo 127.
 fn raise7(a: u8, e: Exponent) -> u8
     ensures { result ≡ power_m 7 (a % 128) e.0 }
 {
-    let n = e.0;
-    if n == 0 {
+    if e.0 == 0 {
         return 1;
     }
     if a % 128 == 0 {
         return 0;
     }
-    let i = logarithm(a).0 as u32;
-    let k = i * (n as u32) % 127;
+    let k = logarithm(a).0 as u32 * e.0 as u32 % 127;
     power_of_alpha(Exponent(k as u16))
 }
 
@@ -144,7 +135,7 @@ fn raise_by_squares(width: u8, a: u8, e: Exponent) -> u8
             r = multiply(width, r, x);
         }
         x = multiply(width, x, x);
-        n = n / 2;
+        n /= 2;
     }
     r
 }

@@ -15,23 +15,23 @@ fn step(width: u8, s: [u8; 5], c: u8) -> [u8; 5]
     ensures { ((k : ℕ) → k < 5 → at s k < order (width_for width))
         → result ≡ five (λ k. add (product (width_for width) (power (width_for width) α k) (at s k)) (symbol_for width c)) }
 {
-    let s1 = shift(width, s[1], Exponent(1));
-    let s2 = shift(width, s[2], Exponent(2));
-    let s3 = shift(width, s[3], Exponent(3));
-    let s4 = shift(width, s[4], Exponent(4));
     let x = symbol_of(width, c);
-    [s[0] ^ x, s1 ^ x, s2 ^ x, s3 ^ x, s4 ^ x]
+    [
+        s[0] ^ x,
+        shift(width, s[1], Exponent(1)) ^ x,
+        shift(width, s[2], Exponent(2)) ^ x,
+        shift(width, s[3], Exponent(3)) ^ x,
+        shift(width, s[4], Exponent(4)) ^ x,
+    ]
 }
 
 // For k from 0 to 4 the field sum over i of α^(k·i) times symbol i.
 pub fn one_by_one(width: u8, symbols: &[u8]) -> [u8; 5]
     ensures { result ≡ sums_for width symbols.now }
 {
-    let mut s = [0u8; 5];
-    let mut i = symbols.len();
-    while 0 < i {
-        i -= 1;
-        let next = step(width, s, symbols[i]);
+    let mut s = [0; 5];
+    for c in symbols.iter().rev() {
+        let next = step(width, s, *c);
         s = next;
     }
     s

@@ -16,59 +16,40 @@ pub(crate) fn shift(a: u64, k: Exponent) -> u64
     ((a & (0x0101010101010101 * low)) << n) ^ top ^ (top << 3)
 }
 
-fn by32(a: u64) -> u64
-    ensures { Times 32 a result }
+// Each lane times the power k of α.
+pub(crate) fn times(a: u64, k: Exponent) -> u64
+    ensures { Times k.0 a result }
 {
-    shift(a, Exponent(1)) ^ shift(a, Exponent(2))
+    let mut r = a;
+    for _ in 0..k.0 / 4 {
+        r = shift(r, Exponent(4));
+    }
+    shift(r, Exponent(k.0 % 4))
 }
 
-pub(crate) fn by16(a: u64) -> u64
-    ensures { Times 16 a result }
+// The sum over the lanes, lane j times the power e·j of α.
+pub(crate) fn weighted_sum(a: u64, e: Exponent) -> u8
+    requires { e.0 ≤ 4 }
+    ensures { (f : ℕ → ℕ) → Below 128 8 f → a ≡ lanes 8 f → result ≡ weighted 7 8 f e.0 }
 {
-    by32(a) ^ shift(a, Exponent(4))
+    let b = (a % 4294967296) ^ times(a / 4294967296, Exponent(e.0 * 4));
+    let c = (b % 65536) ^ times(b / 65536, Exponent(e.0 * 2));
+    (((c % 256) ^ times(c / 256, e)) % 256) as u8
 }
 
-// The sum over the lanes.
-pub(crate) fn fold0(a: u64) -> u64
-    ensures { (f : ℕ → ℕ) → Below 128 8 f → a ≡ lanes 8 f → result ≡ weighted 7 8 f 0 }
-{
-    let b = (a % 4294967296) ^ (a / 4294967296);
-    let c = (b % 65536) ^ (b / 65536);
-    (c % 256) ^ (c / 256)
-}
-
-// The lowest lane.
-pub(crate) fn byte(a: u64) -> u8
-    ensures { result ≡ a % 256 }
-{
-    (a % 256) as u8
-}
-
-fn wide(cs: &[u8], i: usize) -> u64
-    requires { i < length cs.now }
-    ensures { (result ≡ at cs.now i) × (result < 256) }
-{
-    cs[i] as u64
-}
-
-// Neighbouring bytes in lanes.
-fn two(xs: &[u8], i: usize) -> u64
-    requires { i + 2 ≤ length xs.now }
-    ensures { Block 2 xs.now i result }
-{
-    wide(xs, i) + wide(xs, i + 1) * 256
-}
-
-fn four(xs: &[u8], i: usize) -> u64
-    requires { i + 4 ≤ length xs.now }
-    ensures { Block 4 xs.now i result }
-{
-    two(xs, i) + two(xs, i + 2) * 65536
-}
-
+// Eight neighbouring bytes in lanes.
 pub fn eight(xs: &[u8], i: usize) -> u64
     requires { i + 8 ≤ length xs.now }
     ensures { Block 8 xs.now i result }
 {
-    four(xs, i) + four(xs, i + 4) * 4294967296
+    u64::from_le_bytes([
+        xs[i],
+        xs[i + 1],
+        xs[i + 2],
+        xs[i + 3],
+        xs[i + 4],
+        xs[i + 5],
+        xs[i + 6],
+        xs[i + 7],
+    ])
 }

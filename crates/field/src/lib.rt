@@ -17,8 +17,9 @@ pub mod trace;
 
 use arithmetic::{multiply, order_of, raise};
 
-// The questions of document 01, in its order, then those of document 02. What they call marks are the erasures here.
-#[derive(Clone, Copy)]
+// The questions of document 01, in its order, then those of document 02. What they call marks are the erasures here. A call that answers
+// one of them no is refused by it.
+#[derive(Clone, Copy, Debug, PartialEq, Eq)]
 pub enum Question {
     // Is the width 3, 4, 5 or 7?
     Width,
@@ -64,20 +65,6 @@ pub enum Question {
     Window,
 }
 
-// Every question so far was answered yes, or one was answered no.
-#[derive(Clone, Copy)]
-pub enum Verdict {
-    Passed,
-    Refused(Question),
-}
-
-// A symbol, or the question that was answered no.
-#[derive(Clone, Copy)]
-pub enum Answer {
-    Value(u8),
-    Refused(Question),
-}
-
 // An exponent. A place of a word is a type of its own.
 #[derive(Clone, Copy)]
 pub struct Exponent(pub u16);
@@ -112,67 +99,51 @@ pub fn refusal_number(q: Question) -> u8
 }
 
 // Questions 1 and 7, put to one operand.
-fn ask_symbol(width: u8, a: u8) -> Verdict
+fn ask_symbol(width: u8, a: u8) -> Result<(), Question>
     ensures { result ≡ operands width (a ∷ []) }
 {
     let q = order_of(width);
     if q == 0 {
-        return Verdict::Refused(Question::Width);
+        return Err(Question::Width);
     }
-    if a < q {
-        Verdict::Passed
-    } else {
-        Verdict::Refused(Question::Symbol)
-    }
+    if a < q { Ok(()) } else { Err(Question::Symbol) }
 }
 
 // Questions 1 and 7, put to two operands.
-fn ask_symbols(width: u8, a: u8, b: u8) -> Verdict
+fn ask_symbols(width: u8, a: u8, b: u8) -> Result<(), Question>
     ensures { result ≡ operands width (a ∷ b ∷ []) }
 {
-    match ask_symbol(width, a) {
-        Verdict::Passed => ask_symbol(width, b),
-        Verdict::Refused(q) => Verdict::Refused(q),
-    }
+    ask_symbol(width, a)?;
+    ask_symbol(width, b)
 }
 
-pub fn sum(width: u8, a: u8, b: u8) -> Answer
+pub fn sum(width: u8, a: u8, b: u8) -> Result<u8, Question>
     ensures { outcome result ≡ sum_of width a b }
 {
-    match ask_symbols(width, a, b) {
-        Verdict::Passed => Answer::Value(a ^ b),
-        Verdict::Refused(q) => Answer::Refused(q),
-    }
+    ask_symbols(width, a, b)?;
+    Ok(a ^ b)
 }
 
-pub fn product(width: u8, a: u8, b: u8) -> Answer
+pub fn product(width: u8, a: u8, b: u8) -> Result<u8, Question>
     ensures { outcome result ≡ product_of width a b }
 {
-    match ask_symbols(width, a, b) {
-        Verdict::Passed => Answer::Value(multiply(width, a, b)),
-        Verdict::Refused(q) => Answer::Refused(q),
-    }
+    ask_symbols(width, a, b)?;
+    Ok(multiply(width, a, b))
 }
 
-pub fn power(width: u8, a: u8, e: Exponent) -> Answer
+pub fn power(width: u8, a: u8, e: Exponent) -> Result<u8, Question>
     ensures { outcome result ≡ power_of width a e.0 }
 {
-    match ask_symbol(width, a) {
-        Verdict::Passed => Answer::Value(raise(width, a, e)),
-        Verdict::Refused(q) => Answer::Refused(q),
-    }
+    ask_symbol(width, a)?;
+    Ok(raise(width, a, e))
 }
 
-pub fn inverse(width: u8, a: u8) -> Answer
+pub fn inverse(width: u8, a: u8) -> Result<u8, Question>
     ensures { outcome result ≡ inverse_of width a }
 {
-    match ask_symbol(width, a) {
-        Verdict::Passed => {
-            if a == 0 {
-                return Answer::Refused(Question::Nonzero);
-            }
-            Answer::Value(arithmetic::invert(width, a))
-        }
-        Verdict::Refused(q) => Answer::Refused(q),
+    ask_symbol(width, a)?;
+    if a == 0 {
+        return Err(Question::Nonzero);
     }
+    Ok(arithmetic::invert(width, a))
 }

@@ -10,10 +10,9 @@ use crate::horner::one_by_one;
 pub fn parities(width: u8, symbols: &[u8]) -> [u8; 5]
     ensures { result ≡ sums_for width symbols.now }
 {
-    if width == 7 {
-        if symbols.len() == 127 {
-            return by_folds(symbols);
-        }
+    if width == 7 && symbols.len() == 127 {
+        by_folds(symbols)
+    } else {
+        one_by_one(width, symbols)
     }
-    one_by_one(width, symbols)
 }

@@ -1,12 +1,12 @@
 // The tables of width 7: the powers of α, and the logarithms to the base α. These functions are no entry points.
 ghost use Rattle.std.specs.Prelude.{◌≡◌, ◌∷◌, [], ◌+◌, ◌*◌, ◌<◌};
 ghost use Rattle.field.specs.Field.{power as power_m, α};
-ghost use Rattle.field.specs.inner.Bytes.{unit_for, Logarithms};
+ghost use Rattle.field.specs.inner.Bytes.{unit_for};
 
 use crate::Exponent;
 
 // α to the exponents 0 to 253: two logarithms can be added without a reduction modulo 127.
-const POWERS: [u8; 254] = [
+static POWERS: [u8; 254] = [
     1, // exponent 0
     2, 4, 8, 16, 32, 64, 9, 18, 36, 72, 25, 50, 100, 65, 11, 22, // exponent 16
     44, 88, 57, 114, 109, 83, 47, 94, 53, 106, 93, 51, 102, 69, 3, 6, // exponent 32
@@ -31,12 +31,10 @@ pub fn power_of_alpha(e: Exponent) -> u8
     requires { e.0 < 254 }
     ensures { result ≡ power_m 7 α e.0 }
 {
-    let i = e.0 as usize;
-    POWERS[i]
+    POWERS[e.0 as usize]
 }
 
-// The powers of α at e, and at 1 to 4 times i more, at width 7. No entry point: it requires that both are below 127. The table is named
-// once, since each use of a constant array copies it; of the exponents below 127 alone, since what is never read is not copied.
+// The powers of α at e, and at 1 to 4 times i more, at width 7. No entry point: it requires that both are below 127.
 pub fn powers_from(e: Exponent, i: Exponent) -> [u8; 5]
     requires { (e.0 < 127) × (i.0 < 127) }
     ensures { result
@@ -47,49 +45,32 @@ pub fn powers_from(e: Exponent, i: Exponent) -> [u8; 5]
         ∷ power_m 7 α (4 * i.0 + e.0)
         ∷ [] }
 {
-    let powers = POWERS;
     let a = e.0 as usize;
     let s = i.0 as usize;
     [
-        powers[a],
-        powers[(s + a) % 127],
-        powers[(2 * s + a) % 127],
-        powers[(3 * s + a) % 127],
-        powers[(4 * s + a) % 127],
+        POWERS[a],
+        POWERS[(s + a) % 127],
+        POWERS[(2 * s + a) % 127],
+        POWERS[(3 * s + a) % 127],
+        POWERS[(4 * s + a) % 127],
     ]
 }
 
-// The logarithms of the symbols 8k to 8k + 7, the first in the lowest byte: the exponent at which the power of α is the symbol. The symbol 0
-// has none; its entry is that of 1. A `match` is not copied at a read, as a constant array is.
-fn eight_logarithms(k: u64) -> u64
-    requires { k < 16 }
-    ensures { Logarithms k result }
-{
-    match k {
-        0 => 0x67203e021f010000,
-        1 => 0x5d6854210f3f0703,
-        2 => 0x73104f4079087c04,
-        3 => 0x335e2e6926550b22,
-        4 => 0x4d7a2c093c7d5205,
-        5 => 0x177445112a504341,
-        6 => 0x392719561c0c7623,
-        7 => 0x6e34475f592f136a,
-        8 => 0x663d1e7e5c530e06,
-        9 => 0x724e787b322d250a,
-        10 => 0x4c2b3b5116442942,
-        11 => 0x38181b756d465812,
-        12 => 0x651d5b0d71773124,
-        13 => 0x4b3a1528371a6c57,
-        14 => 0x645a70304a14366b,
-        _ => 0x636f493562486160,
-    }
-}
+// The logarithm of each symbol to the base α: the exponent at which the power of α is the symbol. The symbol 0 has none; its entry is that of 1.
+static LOGARITHMS: [u8; 128] = [
+    0, 0, 1, 31, 2, 62, 32, 103, 3, 7, 63, 15, 33, 84, 104, 93, // symbol 15
+    4, 124, 8, 121, 64, 79, 16, 115, 34, 11, 85, 38, 105, 46, 94, 51, // symbol 31
+    5, 82, 125, 60, 9, 44, 122, 77, 65, 67, 80, 42, 17, 69, 116, 23, // symbol 47
+    35, 118, 12, 28, 86, 25, 39, 57, 106, 19, 47, 89, 95, 71, 52, 110, // symbol 63
+    6, 14, 83, 92, 126, 30, 61, 102, 10, 37, 45, 50, 123, 120, 78, 114, // symbol 79
+    66, 41, 68, 22, 81, 59, 43, 76, 18, 88, 70, 109, 117, 27, 24, 56, // symbol 95
+    36, 49, 119, 113, 13, 91, 29, 101, 87, 108, 26, 55, 40, 21, 58, 75, // symbol 111
+    107, 54, 20, 74, 48, 112, 90, 100, 96, 97, 72, 98, 53, 73, 111, 99, // symbol 127
+];
 
 // The exponent of α at which its power at width 7 is the unit of a.
 pub(crate) fn logarithm(a: u8) -> Exponent
     ensures { (result.0 < 127) × (power_m 7 α result.0 ≡ unit_for a) }
 {
-    let i = (a % 128) as u64;
-    let e = (eight_logarithms(i / 8) >> (i % 8 * 8)) % 128;
-    Exponent(e as u16)
+    Exponent(LOGARITHMS[(a % 128) as usize] as u16)
 }

@@ -1,10 +1,9 @@
 -- From batch to batch of an input, whatever is carried. Assumes nothing.
 use Rattle.field.proofs.Base.{◌≡◌, refl, sym, ap, ◌∙◌, Bool, true, false, not, ◌&&◌, ◌||◌, false≢true, true≢false, ◌⊎◌, inl, inr, List, [], ◌++◌, ℕ}
-use Rattle.field.proofs.Base.{◌+◌, ◌*◌, ◌≤◌, ◌<◌, zero-mul, arith, lt-ltb, not-false, not-true, ltb, length, take, drop, length-append}
-use Rattle.field.proofs.Base.{length-take-le, take_at}
+use Rattle.field.proofs.Base.{◌+◌, ◌*◌, ◌≤◌, ◌<◌, zero-mul, arith, lt-ltb, not-false, not-true, ltb, length, take, length-append}
+use Rattle.field.proofs.Base.{length-take-le}
 use Rattle.card.specs.Slots.{Came}
 use Rattle.card.specs.Batch.{batch_records}
-use Rattle.card.specs.Placed.{placed, Writes}
 use Rattle.card.proofs.Coming.{came-more}
 use Rattle.field.proofs.Ask.{and-true-left, and-true-right}
 use Rattle.programs.specs.declared.input.Input.{Input}
@@ -12,20 +11,12 @@ use Rattle.programs.specs.declared.output.Output.{Output}
 use Rattle.programs.specs.declared.turn.Turn.{Turn}
 use Rattle.programs.specs.inner.Turns.{can_go_on, TookAll}
 use Rattle.programs.specs.Stream.{has_ended, is_well, Reads}
-use Rattle.programs.specs.Batches.{Took, seen_all}
+use Rattle.programs.specs.Batches.{Took, seen_all, is_whole}
 
 -- ---- what stands at the front of a buffer
 
 pub front-size : (xs : List ℕ) {m n : ℕ} → n ≡ m → m ≤ length xs → n ≡ length (take n xs)
 front-size xs {m} {n} e h = sym (length-take-le n xs (omega arith))
-
-pub some-front : {part : List ℕ} (n : ℕ) (xs : List ℕ) → part ≡ take n xs → 1 ≤ n → n ≤ length xs → 1 ≤ length part
-some-front n xs e l h = omega (arith, ap length e, length-take-le n xs h, l)
-
--- a text that was written into it
-pub front-text : {old xs new : List ℕ} {n : ℕ} → Writes old 0 xs new n → take n new ≡ xs
-unfolding placed
-front-text {old} {xs} {new} {n} w = ap (take n) w.content ∙ take_at xs (drop (0 + length xs) old) n (omega (arith, w.behind))
 
 -- ---- whatever is carried
 
@@ -118,12 +109,23 @@ both_true true false p q = q
 both_true false b p q = p
 
 -- a turn can go on: the input may, and every write succeeded
-module _ (t : Turn) (p : can_go_on t ≡ true) where
+module _ {A : Type 0} (t : Turn A) (p : can_go_on t ≡ true) where
   pub goes-going : t.input.going ≡ true
   goes-going = and-true-left t.input.going t.output.ok p
 
   pub goes-ok : t.output.ok ≡ true
   goes-ok = and-true-right t.input.going t.output.ok p
+
+-- the whole of the input was read, and all of it written
+module _ {A : Type 0} (t : Turn A) {b : Bool} (e : b ≡ is_whole t) (w : not b ≡ false) where
+  pub whole : is_whole t ≡ true
+  whole = sym e ∙ not-false b w
+
+  pub whole-ended : has_ended t.input ≡ true
+  whole-ended = and-true-left (has_ended t.input) t.output.ok whole
+
+  pub whole-written : t.output.ok ≡ true
+  whole-written = and-true-right (has_ended t.input) t.output.ok whole
 
 -- ---- tests
 

@@ -1,27 +1,25 @@
 -- A card asked, and converted, batch by batch. Assumes nothing.
-use Rattle.field.proofs.Base.{◌≡◌, sym, ap, ◌∙◌, subst, Bool, true, false, cond, false≢true, List, [], ◌++◌, ◌⊎◌, inl, inr, ⊎_elim, ℕ, ◌+◌, ◌-◌, ◌*◌}
-use Rattle.field.proofs.Base.{◌%◌, ◌^◌, ◌≤◌, ◌<◌, zero-mul, arith, eqb-true, eqb, length, take, length-append, length-take-le}
+use Rattle.std.proofs.Common.{Ok, Err, Result, is_err, refl}
+use Rattle.std.specs.Result.{IfOk}
+use Rattle.field.specs.Question.{Verdict}
+use Rattle.field.proofs.Base.{◌≡◌, sym, ap, ◌∙◌, subst, Bool, true, false, List, [], ◌++◌, ⊎_elim, ℕ, ◌+◌, ◌-◌, ◌*◌, ◌%◌, ◌^◌, ◌≤◌, ◌<◌, zero-mul}
+use Rattle.field.proofs.Base.{arith, length, take, length-append, length-take-le}
 use native.Mathlib.Nat.{zero-div, eq-or-lt_of_le, add-mul, mul_assoc, mul_comm, mul-mod_left}
 use native.Mathlib.Nat.{mul-le-mul, mul-le-mul_right, div-le_of_le-mul, div-le_self}
 use lib.Seq.{take-append-le}
-use Rattle.field.specs.declared.Verdict.{Verdict}
-use Rattle.field.specs.declared.Verdict.TheVariants.{Passed, Refused}
-use Rattle.code.specs.Call.{same_bytes, done}
+use Rattle.code.specs.Call.{done}
 use Rattle.card.specs.declared.parts.Findings.{Findings}
 use Rattle.card.specs.Record.{size_of, erasure_bytes}
 use Rattle.card.specs.Slots.{slot_count, over_first}
-use Rattle.card.specs.Listing.{bytes_of}
 use Rattle.card.specs.Batch.{batch_records, most_batches}
 use Rattle.card.specs.Conversion.{old_erasure_bytes, Converts, converted_card, to_new_asked, to_old_asked}
 use Rattle.card.specs.Findings.{nothing_found, slot_found, part_found}
 use Rattle.card.proofs.Folding.{over_none, whole_parts, rest-two}
 use Rattle.card.proofs.Findings.{found-slots}
 use Rattle.programs.specs.declared.input.Input.{Input}
-use Rattle.programs.specs.declared.output.Output.{Output}
 use Rattle.programs.specs.declared.cardconvert.Inquiry.{Inquiry}
 use Rattle.programs.specs.declared.cardconvert.Copying.{Copying}
-use Rattle.programs.specs.Arguments.{edition_of}
-use Rattle.programs.specs.Stream.{has_ended, Reads, Wrote}
+use Rattle.programs.specs.Stream.{has_ended, Reads}
 use Rattle.programs.specs.Convert.{other_edition, AsksCard, Converted, CopiesCard}
 use Rattle.programs.specs.inner.Turns.{CanRead, TookAll}
 use Rattle.programs.specs.inner.Copies.{AsksBatch, Fine, CopiesBatch, CopiesSlots, copy_slots, copy_size}
@@ -135,17 +133,21 @@ copy-room want size k n h e l f =
     omega (arith, room)
 
 -- what was converted is written
-passed_is : (k j : ℕ) (asked : Verdict) (card old : List ℕ) (v : Verdict) (new : List ℕ) → Converts k j asked card old v new → v ≡ Passed
+passed_is : (k j : ℕ) (asked : Verdict) (card old : List ℕ) (v : Verdict) (new : List ℕ) → Converts k j asked card old v new → v ≡ (Ok tt)
     → new ≡ converted_card k j card
-passed_is k j Passed card old v new C e = C.output
-passed_is k j (Refused q) card old v new C e =
-    let no : done Passed ≡ done (Refused q) = ap done (sym e) ∙ C.answer in
+passed_is k j (Ok tt) card old v new C e = C.output
+passed_is k j (Err q) card old v new C e =
+    let no : done (Ok tt) ≡ done (Err q) = ap done (sym e) ∙ C.answer in
     let z : ◌≡◌ {A = ℕ} 0 1 = cc in
     absurd (omega arith)
 
+pub not-refused : (v : Verdict) → is_err v ≡ false → v ≡ (Ok tt)
+not-refused (Ok tt) e = refl
+not-refused (Err q) e = let z : ◌≡◌ {A = Bool} true false = e in let y : ◌≡◌ {A = ℕ} 0 1 = cc in absurd (omega arith)
+
 pub passed-converted : (k : ℕ) (card old : List ℕ) (v : Verdict) (new : List ℕ)
     → (k ≡ old_erasure_bytes → Converts old_erasure_bytes erasure_bytes (to_new_asked card (length old)) card old v new)
-    → (k ≡ erasure_bytes → Converts erasure_bytes old_erasure_bytes (to_old_asked card (length old)) card old v new) → v ≡ Passed → old_erasure_bytes ≤ k
+    → (k ≡ erasure_bytes → Converts erasure_bytes old_erasure_bytes (to_old_asked card (length old)) card old v new) → v ≡ (Ok tt) → old_erasure_bytes ≤ k
     → k ≤ erasure_bytes → Converted k new
 passed-converted k card old v new A B e l h = ⊎_elim (λ f. of-old (sym f)) (λ f. of-new (omega arith)) (eq-or-lt_of_le l)
   where
@@ -155,35 +157,12 @@ passed-converted k card old v new A B e l h = ⊎_elim (λ f. of-old (sym f)) (�
     of-new : k ≡ erasure_bytes → Converted k new
     of-new f = subst (λ (x : ℕ). Converted x new) (sym f) (record { card = card; is = passed_is _ _ _ card old v new (B f) e })
 
-pub copies-sized : {a b n m : ℕ} {c r : Copying} → a ≡ n → b ≡ m → CopiesBatch a b c r → CopiesBatch n m c r
-copies-sized {b = b} {n = n} {c = c} {r = r} e f B = subst (λ (x : ℕ). CopiesBatch n x c r) f (subst (λ (x : ℕ). CopiesBatch x b c r) e B)
-
--- a batch that is not fine
-pub copies-stopped : (n m : ℕ) (c r : Copying) → r.fine ≡ false → CopiesBatch n m c r
-copies-stopped n m c r e =
-    record {
-      going = λ t. absurd (false≢true (sym e ∙ t));
-      well = λ t. absurd (false≢true (sym e ∙ t));
-      ok = λ t. absurd (false≢true (sym e ∙ t));
-      read = λ t. absurd (false≢true (sym e ∙ t));
-      written = λ t. absurd (false≢true (sym e ∙ t));
-    }
-
--- a batch that was written
-pub copies-batch : (c : Copying) {i : Input} {o : Output} {f : Bool} {old new : List ℕ} {n m : ℕ} → Reads c.input old i new → i.going ≡ true
-    → Wrote c.output m o → m ≡ n → f ≡ o.ok → CopiesBatch (length old) n c (record { input = i; output = o; fine = f })
-copies-batch c {o = o} R g W e h =
-    record {
-      going = λ t. g;
-      well = λ t. R.well g;
-      ok = λ t. sym h ∙ t;
-      read = λ t. R.total ∙ ap (λ (x : ℕ). c.input.read + x) (R.full g ∙ R.size);
-      written = λ t. W (sym h ∙ t) ∙ ap (λ (x : ℕ). c.output.written + x) e;
-    }
+pub copies-sized : {a b n m : ℕ} (c : Copying) (r : Result Copying Copying) → a ≡ n → b ≡ m → IfOk r (CopiesBatch a b c) → IfOk r (CopiesBatch n m c)
+copies-sized {b = b} {n = n} c r e f B =
+    subst (λ (x : ℕ). IfOk r (CopiesBatch n x c)) f (subst (λ (x : ℕ). IfOk r (CopiesBatch x b c)) e B)
 
 -- so many slots are left
 pub record Copied (k slots left : ℕ) (c : Copying) : Type 0 where
-  pub fine : c.fine ≡ true
   pub going : c.input.going ≡ true
   pub well : c.input.failed ≡ false
   pub ok : c.output.ok ≡ true
@@ -196,7 +175,6 @@ module _ {k slots left : ℕ} {c : Copying} (C : Copied k slots left c) (l : old
       let a : slots * size_of k ≤ most_batches * batch_records * 139 = mul-le-mul {m₂ = 139} f (omega arith) in
       let b : slots * size_of (other_edition k) ≤ most_batches * batch_records * 139 = mul-le-mul {m₂ = 139} f (omega arith) in
       record {
-        fine = C.fine;
         going = C.going;
         well = C.well;
         ok = C.ok;
@@ -205,80 +183,37 @@ module _ {k slots left : ℕ} {c : Copying} (C : Copied k slots left c) (l : old
       }
 
   -- one batch more
-  module _ (want : ℕ) {r : Copying} (B : CopiesBatch (want * size_of k) (want * size_of (other_edition k)) c r) where
-    pub copied_more : want ≤ left → r.fine ≡ true → Copied k slots (left - want) r
-    copied_more w t =
-        record {
-          fine = t;
-          going = B.going t;
-          well = B.well t;
-          ok = B.ok t;
-          read = further c.input.read r.input.read (size_of k) (B.read t) C.read;
-          written = further c.output.written r.output.written (size_of (other_edition k)) (B.written t) C.written;
-        }
-      where
-        further : (a b size : ℕ) → b ≡ a + want * size → a + left * size ≡ slots * size → b + (left - want) * size ≡ slots * size
-        further a b size e f =
-            let all : left * size ≡ want * size + (left - want) * size = ap (λ (x : ℕ). x * size) (omega arith) ∙ add-mul want (left - want) size in
-            omega (arith, all)
-
-    pub copied-stopped : r.fine ≡ false → CopiesSlots k slots r
-    copied-stopped e =
-        record {
-          going = λ t. absurd (false≢true (sym e ∙ t));
-          well = λ t. absurd (false≢true (sym e ∙ t));
-          ok = λ t. absurd (false≢true (sym e ∙ t));
-          read = λ t. absurd (false≢true (sym e ∙ t));
-          written = λ t. absurd (false≢true (sym e ∙ t));
-        }
+  pub copied_more : (want : ℕ) {r : Copying} → CopiesBatch (want * size_of k) (want * size_of (other_edition k)) c r → want ≤ left
+      → Copied k slots (left - want) r
+  copied_more want {r} B w =
+      record {
+        going = B.going;
+        well = B.well;
+        ok = B.ok;
+        read = further c.input.read r.input.read (size_of k) B.read C.read;
+        written = further c.output.written r.output.written (size_of (other_edition k)) B.written C.written;
+      }
+    where
+      further : (a b size : ℕ) → b ≡ a + want * size → a + left * size ≡ slots * size → b + (left - want) * size ≡ slots * size
+      further a b size e f =
+          let all : left * size ≡ want * size + (left - want) * size = ap (λ (x : ℕ). x * size) (omega arith) ∙ add-mul want (left - want) size in
+          omega (arith, all)
 
   pub copied_all : left ≡ 0 → CopiesSlots k slots c
   copied_all e =
       let a : left * size_of k ≡ 0 = ap (λ (x : ℕ). x * size_of k) e ∙ zero-mul (size_of k) in
       let b : left * size_of (other_edition k) ≡ 0 = ap (λ (x : ℕ). x * size_of (other_edition k)) e ∙ zero-mul (size_of (other_edition k)) in
-      record {
-        going = λ t. C.going;
-        well = λ t. C.well;
-        ok = λ t. C.ok;
-        read = λ t. omega (arith, a, C.read);
-        written = λ t. omega (arith, b, C.written);
-      }
+      record { going = C.going; well = C.well; ok = C.ok; read = omega (arith, a, C.read); written = omega (arith, b, C.written) }
 
 -- ---- behind the last slot
 
-module _ {k slots : ℕ} {c : Copying} (C : CopiesSlots k slots c) (t : c.fine ≡ true) where
+module _ {k slots : ℕ} {c : Copying} (C : CopiesSlots k slots c) where
   pub copies-readable : slots ≤ most_batches * batch_records → k ≤ erasure_bytes → CanRead c.input
   copies-readable f h =
       let a : slots * size_of k ≤ most_batches * batch_records * 139 = mul-le-mul {m₂ = 139} f (omega arith) in
-      record { going = C.going t; well = C.well t; small = omega (arith, a, C.read t) }
+      record { going = C.going; well = C.well; small = omega (arith, a, C.read) }
 
-  -- n bytes more are read
-  pub copies-card : {i : Input} {old new : List ℕ} {n : ℕ} → Reads c.input old i new → has_ended i ≡ true → n ≡ i.count
-      → CopiesCard k slots (record { input = i; output = c.output; fine = eqb n 0 })
-  copies-card {i} {old} {new} {n} R e h =
-      record {
-        ended = λ f. e;
-        read = λ f. omega (arith, R.total, h, eqb-true n 0 f, C.read t);
-        ok = λ f. C.ok t;
-        written = λ f. C.written t;
-      }
-
-pub copies-not : (k slots : ℕ) (c : Copying) → c.fine ≡ false → CopiesCard k slots c
-copies-not k slots c e =
-    record {
-      ended = λ t. absurd (false≢true (sym e ∙ t));
-      read = λ t. absurd (false≢true (sym e ∙ t));
-      ok = λ t. absurd (false≢true (sym e ∙ t));
-      written = λ t. absurd (false≢true (sym e ∙ t));
-    }
-
--- ---- the edition that a text names
-
-pub edition-named : (text : List ℕ) (r : ℕ) → r ≡ edition_of text → (r ≡ 0) ⊎ ((old_erasure_bytes ≤ r) × (r ≤ erasure_bytes))
-unfolding edition_of
-edition-named text r e = chosen (same_bytes text (bytes_of "to-new")) (same_bytes text (bytes_of "to-old")) r e
-  where
-    chosen : (a b : Bool) (r : ℕ) → r ≡ cond a old_erasure_bytes (cond b erasure_bytes 0) → (r ≡ 0) ⊎ ((old_erasure_bytes ≤ r) × (r ≤ erasure_bytes))
-    chosen true b r e = inr (omega arith)
-    chosen false true r e = inr (omega arith)
-    chosen false false r e = inl e
+  -- and no byte more is read
+  pub copies-card : {i : Input} {old new : List ℕ} → Reads c.input old i new → has_ended i ≡ true → i.count ≡ 0
+      → CopiesCard k slots (record { input = i; output = c.output })
+  copies-card R e z = record { ended = e; read = omega (arith, R.total, z, C.read); ok = C.ok; written = C.written }

@@ -1,16 +1,17 @@
 -- A text of day sheets taken part by part. Assumes nothing.
 use Rattle.field.proofs.Base.{◌≡◌, refl, sym, ap, ◌∙◌, Bool, true, false, ◌&&◌, ◌||◌, false≢true, List, [], ◌++◌, append_assoc, append-nil, ℕ, ◌+◌}
-use Rattle.field.proofs.Base.{◌-◌, ◌*◌, ◌^◌, ◌≤◌, ◌<◌, arith, eqb-true, eqb-false, eqb, ltb, length, take, drop, get_or, set, length-append}
-use Rattle.field.proofs.Base.{length-drop, length-take-le, get_or-set_same, get_or-set_other, get_or-take, get_or-drop, ext_get_or, drop_at}
-use lib.IntN.{ℤ}
+use Rattle.field.proofs.Base.{◌-◌, ◌*◌, ◌^◌, ◌≤◌, arith, ltb, length, take, drop, length-append, length-drop, length-take-le, drop_at}
+use Rattle.std.proofs.Common.{Ok, Err}
+use Rattle.std.specs.List.{copy_within}
+use Rattle.std.proofs.lemmas.List.{drop-take}
+use Rattle.std.proofs.lemmas.List.Edits.{take-paste}
 use borrow.Rule.Slice.PartMut.{put_mid, same_len_mid, take_put}
 use lib.Seq.{take-add}
-use Rattle.card.specs.Placed.{Writes}
+use Rattle.card.specs.Text.{Written}
 use Rattle.card_csv.specs.declared.Made.{Made}
 use Rattle.card_csv.specs.declared.TextState.{TextState}
-use Rattle.card_csv.specs.declared.TextVerdict.{TextVerdict}
-use Rattle.card_csv.specs.declared.TextVerdict.TheVariants.{Fine, NoHeader, Wrong, TooLong}
-use Rattle.card_csv.specs.Making.{is_fine, is_complete, text_begun, lines_read, lines_made, lines_from, last_line, MakesRecords, MakesLast}
+use Rattle.card_csv.specs.Making.{TextVerdict, is_fine, is_complete, text_begun, lines_read, lines_made, lines_from, last_line, MakesRecords}
+use Rattle.card_csv.specs.Making.{MakesLast}
 use Rattle.card_csv.specs.inner.Room.{text_size, records_room}
 use Rattle.card_csv.proofs.LinesMade.{read-on, made-on, read_stays, made-stays}
 use Rattle.field.proofs.Ask.{and-true-left, and-true-right}
@@ -20,49 +21,17 @@ use Rattle.programs.specs.declared.intake.Taken.{Taken}
 use Rattle.programs.specs.Stream.{has_ended, unread, unwritten, Reads, Wrote}
 use Rattle.programs.specs.Write.{PartOfCard, is_refused, is_settled, TakesText, all_taken, CardWritten}
 use Rattle.programs.specs.inner.Turns.{CanRead, CanWrite}
-use Rattle.programs.specs.inner.Cuts.{MovesFront, ReadsOn, goes_further, is_open, TakesParts, refused_long}
-use Rattle.programs.proofs.Batches.{front-text}
+use Rattle.programs.specs.inner.Cuts.{ReadsOn, goes_further, is_open, TakesParts, refused_long}
 
 -- ---- moved to the front
 
--- i bytes were moved
-pub record Moved (old : List ℕ) (from i : ℕ) (new : List ℕ) : Type 0 where
-  pub front : (j : ℕ) → j < i → get_or new j 0 ≡ get_or old (from + j) 0
-  pub behind : (j : ℕ) → i ≤ j → get_or new j 0 ≡ get_or old j 0
-
-pub moved-start : (old : List ℕ) (from : ℕ) → Moved old from 0 old
-moved-start old from = record { front = λ j h. absurd (omega arith); behind = λ j h. refl }
-
-pub moved_more : {old new : List ℕ} {from i at : ℕ} → Moved old from i new → at ≡ from + i → i < length new
-    → Moved old from (i + 1) (set new i (get_or new at 0))
-moved_more {old} {new} {from} {i} {at} M e h =
-    record {
-      front = λ j l. go j l (eqb j i) refl;
-      behind = λ j l. get_or-set_other new i j (get_or new at 0) 0 (λ (p : j ≡ i). omega (arith, p, l)) ∙ M.behind j (omega (arith, l));
-    }
-  where
-    go : (j : ℕ) → j < i + 1 → (t : Bool) → eqb j i ≡ t → get_or (set new i (get_or new at 0)) j 0 ≡ get_or old (from + j) 0
-    go j l true p =
-        let same : j ≡ i = eqb-true j i p in
-        ap (λ (k : ℕ). get_or (set new i (get_or new at 0)) k 0) same
-        ∙ get_or-set_same new i (get_or new at 0) 0 h
-        ∙ M.behind at (omega (arith, e))
-        ∙ ap (λ (k : ℕ). get_or old k 0) (omega (arith, e, same))
-    go j l false p = get_or-set_other new i j (get_or new at 0) 0 (eqb-false j i p) ∙ M.front j (omega (arith, l, eqb-false j i p))
-
-pub moves_front : {old new : List ℕ} {from end i : ℕ} → Moved old from i new → from + i ≡ end → end ≤ text_size → length old ≡ text_size
-    → length new ≡ text_size → MovesFront old from end new
-moves_front {old} {new} {from} {end} {i} M e h o l =
-    let front : length (take (end - from) new) ≡ i = length-take-le (end - from) new (omega (arith, e, h, l)) ∙ omega (arith, e) in
-    let back : length (drop from (take end old)) ≡ i =
-    length-drop from (take end old) ∙ omega (arith, e, length-take-le end old (omega (arith, h, o))) in
-    record {
-      size = l;
-      moved = ext_get_or 0 (take (end - from) new) (drop from (take end old)) (front ∙ sym back) (λ j b.
-          get_or-take (end - from) new j 0 (omega (arith, b, front, e))
-          ∙ M.front j (omega (arith, b, front))
-          ∙ sym (get_or-drop from (take end old) j 0 ∙ get_or-take end old (from + j) 0 (omega (arith, b, front, e))));
-    }
+-- the bytes from `from` up to `end` stand at the front of the buffer
+front_moved : (old : List ℕ) (from end : ℕ) → from ≤ end → end ≤ length old → take (end - from) (copy_within old from end 0) ≡ drop from (take end old)
+front_moved old from end h l =
+    ap (λ (n : ℕ). take n (copy_within old from end 0)) (omega arith)
+    ∙ take-paste old 0 (drop from old) (end - from) (omega (arith, l)) (omega (arith, length-drop from old, h, l))
+    ∙ sym (drop-take from (end - from) old)
+    ∙ ap (λ (n : ℕ). drop from (take n old)) (omega (arith, h))
 
 -- ---- read behind what is kept
 
@@ -94,35 +63,31 @@ module _ {write : Bool} {t : Taken} {buf : List ℕ} (P : TakesParts write (2 ^ 
     pub parts-ok : t.output.ok ≡ true
     parts-ok = and-true-right (is_fine t.state.verdict) t.output.ok g
 
-    -- records of more lines, at the front of their buffer
-    module _ (more : List (List ℕ)) {old new : List ℕ} {used : ℕ} (l : length old ≡ records_room)
-        (R : Writes old 0 (lines_made t.state more) new used) where
-      parts-front : take used new ≡ lines_made (lines_read text_begun P.lines) more
-      parts-front = front-text R ∙ ap (λ (s : TextState). lines_made s more) P.state
+    -- the records of more lines
+    module _ (more : List (List ℕ)) {recs : List ℕ} (l : length recs ≤ records_room) (R : recs ≡ lines_made t.state more) where
+      parts-made : recs ≡ lines_made (lines_read text_begun P.lines) more
+      parts-made = R ∙ ap (λ (s : TextState). lines_made s more) P.state
 
-      pub parts-length : length (take used new) ≡ used
-      parts-length = ap length (front-text R) ∙ omega (arith, R.behind)
-
-      pub parts-part : write ≡ true → CanWrite t.output (length (take used new)) × PartOfCard t.output (take used new)
+      pub parts-part : write ≡ true → CanWrite t.output (length recs) × PartOfCard t.output recs
       parts-part w = (
-        record { ok = parts-ok; small = omega (arith, parts-length, R.room, l, P.small w parts-ok) },
+        record { ok = parts-ok; small = omega (arith, l, P.small w parts-ok) },
         record {
           lines = P.lines ++ more;
-          content = parts-front
+          content = parts-made
               ∙ sym (ap (drop t.output.written) (made-on text_begun P.lines more)
               ∙ drop_at (lines_made text_begun P.lines) (lines_made (lines_read text_begun P.lines) more) t.output.written
               (sym (P.written w parts-ok)));
         },
       )
 
-      pub parts-written : (o : Output) → (write ≡ true → Wrote t.output (length (take used new)) o) → write ≡ true → o.ok ≡ true
+      pub parts-written : (o : Output) → (write ≡ true → Wrote t.output (length recs) o) → write ≡ true → o.ok ≡ true
           → o.written ≡ length (lines_made text_begun (P.lines ++ more))
       parts-written o W w p =
           omega (
             arith,
             W w p,
             P.written w parts-ok,
-            ap length parts-front,
+            ap length parts-made,
             ap length (made-on text_begun P.lines more),
             length-append (lines_made text_begun P.lines) (lines_made (lines_read text_begun P.lines) more),
           )
@@ -150,11 +115,15 @@ module _ {write : Bool} {t : Taken} {buf : List ℕ} (P : TakesParts write (2 ^ 
       part-whole : take (t.kept + k) new ≡ take t.kept buf ++ came
       part-whole = take-add t.kept k new ∙ ap (λ (xs : List ℕ). xs ++ came) R.same
 
-      module _ {m : Made} {old recs : List ℕ} (M : MakesRecords (take (t.kept + k) new) t.state old m recs) (l : length old ≡ records_room) where
+      module _ {m : Made} {old made : Written} (M : MakesRecords (take (t.kept + k) new) t.state old m made) where
         pub part-rest : m.taken ≤ t.kept + k
         part-rest = omega (arith, M.inside, part-size)
 
-        module _ {moved : List ℕ} (F : MovesFront new m.taken (t.kept + k) moved) where
+        module _ {moved : List ℕ} (F : moved ≡ copy_within new m.taken (t.kept + k) 0) where
+          at-front : take (t.kept + k - m.taken) moved ≡ drop m.taken (take (t.kept + k) new)
+          at-front =
+              ap (take (t.kept + k - m.taken)) F ∙ front_moved new m.taken (t.kept + k) part-rest (omega (arith, R.fits, e, R.size))
+
           part_cut : (more : List ℕ)
               → lines_from [] ((P.text ++ came) ++ more) ≡ (P.lines ++ M.lines) ++ lines_from [] (take (t.kept + k - m.taken) moved ++ more)
           part_cut more =
@@ -164,34 +133,35 @@ module _ {write : Bool} {t : Taken} {buf : List ℕ} (P : TakesParts write (2 ^ 
               ∙ ap (λ (xs : List ℕ). P.lines ++ lines_from [] (xs ++ more)) (sym part-whole)
               ∙ ap (λ (ls : List (List ℕ)). P.lines ++ ls) (M.cut more)
               ∙ sym (append_assoc P.lines M.lines (lines_from [] (drop m.taken (take (t.kept + k) new) ++ more)))
-              ∙ ap (λ (xs : List ℕ). (P.lines ++ M.lines) ++ lines_from [] (xs ++ more)) (sym F.moved)
+              ∙ ap (λ (xs : List ℕ). (P.lines ++ M.lines) ++ lines_from [] (xs ++ more)) (sym at-front)
 
-          pub part-taken : {o : Output} → (write ≡ true → Wrote t.output (length (take m.used recs)) o)
+          pub part-taken : {o : Output} {recs : List ℕ} → length moved ≡ text_size → length recs ≤ records_room → recs ≡ lines_made t.state M.lines
+              → (write ≡ true → Wrote t.output (length recs) o)
               → TakesParts write (t.input.read + text_size) (t.output.written + records_room)
               (record { state = m.state; input = j; output = o; kept = t.kept + k - m.taken }) moved
-          part-taken {o} W =
+          part-taken {o} {recs} size l S W =
               record {
                 text = P.text ++ came;
                 lines = P.lines ++ M.lines;
                 size = omega (arith, R.total, P.size, length-append P.text came, came-size, e);
                 cut = part_cut;
                 state = M.state ∙ ap (λ (s : TextState). lines_read s M.lines) P.state ∙ sym (read-on text_begun P.lines M.lines);
-                last = λ f. ap (lines_from []) F.moved ∙ M.all f ∙ ap last_line (sym F.moved);
-                written = parts-written part-further M.lines l M.records o W;
+                last = λ f. ap (lines_from []) at-front ∙ M.all f ∙ ap last_line (sym at-front);
+                written = parts-written part-further M.lines l S o W;
                 well = R.well;
-                buffer = F.size;
+                buffer = size;
                 kept = omega (arith, R.fits, e);
                 few = omega (arith, M.few, part-rest, P.few, R.total, e);
                 read = omega (arith, R.total, R.fits);
-                small = λ w p. omega (arith, W w p, parts-length part-further M.lines l M.records, M.records.room, l);
+                small = λ w p. omega (arith, W w p, l);
               }
 
 -- ---- part by part
 
-pub parts-start : (write : Bool) {fd to : ℤ} {o : Output} {i : Input} {buf : List ℕ} → o ≡ unwritten to → i ≡ unread fd → length buf ≡ text_size
-    → TakesParts write 0 0 (record { state = record { full = false; lines = 0; verdict = Fine }; input = i; output = o; kept = 0 }) buf
+pub parts-start : (write : Bool) {o : Output} {i : Input} {buf : List ℕ} → o ≡ unwritten → i ≡ unread → length buf ≡ text_size
+    → TakesParts write 0 0 (record { state = record { full = false; lines = 0; verdict = Ok tt }; input = i; output = o; kept = 0 }) buf
 unfolding lines_from lines_read lines_made
-parts-start write {fd} {to} {o} {i} {buf} e f l =
+parts-start write {o} {i} {buf} e f l =
     record {
       text = [];
       lines = [];
@@ -242,10 +212,8 @@ module _ {write : Bool} {i : ℕ} {t : Taken} {buf : List ℕ} (P : TakesParts w
 -- ---- behind the last part
 
 fine-unrefused : (v : TextVerdict) → is_fine v ≡ true → is_refused v ≡ false
-fine-unrefused Fine e = refl
-fine-unrefused NoHeader e = absurd (false≢true e)
-fine-unrefused (Wrong f) e = absurd (false≢true e)
-fine-unrefused TooLong e = refl
+fine-unrefused (Ok tt) e = refl
+fine-unrefused (Err f) e = absurd (false≢true e)
 
 -- a text that goes on is not settled
 unsettled : (t : Taken) → is_refused t.state.verdict ≡ false → (has_ended t.input && t.output.ok) ≡ false → is_settled t ≡ true → ⊥
@@ -310,14 +278,14 @@ module _ {write : Bool} {t : Taken} {buf : List ℕ} (P : TakesParts write (2 ^ 
   pub rest-open : goes_further t ≡ true → has_ended t.input ≡ false → TakesText write t
   rest-open g n = open-rest t refl (unsettled t (fine-unrefused t.state.verdict (parts-fine P g)) (ap (λ (b : Bool). b && t.output.ok) n))
 
-  module _ (g : goes_further t ≡ true) {m : Made} {old recs : List ℕ} (M : MakesLast (take t.kept buf) t.state old m recs)
-      (l : length old ≡ records_room) where
+  module _ (g : goes_further t ≡ true) {m : Made} {old made : Written} (M : MakesLast (take t.kept buf) t.state old m made) where
     last-lines : lines_from [] P.text ≡ P.lines ++ last_line (take t.kept buf)
     last-lines = text-lines ∙ ap (λ (ls : List (List ℕ)). P.lines ++ ls) (P.last (parts-fine P g))
 
-    pub rest-last : {o : Output} → (write ≡ true → Wrote t.output (length (take m.used recs)) o)
+    pub rest-last : {o : Output} {recs : List ℕ} → length recs ≤ records_room → recs ≡ lines_made t.state (last_line (take t.kept buf))
+        → (write ≡ true → Wrote t.output (length recs) o)
         → TakesText write (record { state = m.state; input = t.input; output = o; kept = 0 })
-    rest-last {o} W =
+    rest-last {o} {recs} l S W =
         record {
           text = P.text;
           size = P.size;
@@ -327,7 +295,7 @@ module _ {write : Bool} {t : Taken} {buf : List ℕ} (P : TakesParts write (2 ^ 
               ∙ sym (read-on text_begun P.lines (last_line (take t.kept buf)))
               ∙ ap (lines_read text_begun) (sym last-lines);
           written = λ d w p.
-              parts-written P g (last_line (take t.kept buf)) l M.records o W w p ∙ ap (λ (ls : List (List ℕ)). length (lines_made text_begun ls)) (sym last-lines);
+              parts-written P g (last_line (take t.kept buf)) l S o W w p ∙ ap (λ (ls : List (List ℕ)). length (lines_made text_begun ls)) (sym last-lines);
         }
 
 -- ---- the end

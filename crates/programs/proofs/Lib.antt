@@ -1,5 +1,5 @@
 -- Laws of the programs' definitions, and what the proofs of several functions use. Assumes nothing.
-pub mod Streaming  -- what the answer of a read or write means; reading and writing part by part
+pub mod Streaming  -- writing part by part
 pub mod Batches  -- from batch to batch, whatever is carried
 pub mod Converting  -- a card asked, and converted, batch by batch
 pub mod Tabling  -- a report from batch to batch, and the table of it

@@ -5,8 +5,7 @@ use native.Mathlib.Nat.{add_assoc}
 use Rattle.card.specs.Record.{erasure_bytes, record_size}
 use Rattle.card.specs.Slots.{record_count}
 use Rattle.card.specs.Listing.{slot_further, part_lines, part_progress, most_records, start, more_line, total_line}
-use Rattle.card.specs.Batch.{batch_records, batch_size, ListsSlots}
-use Rattle.card.specs.declared.text.Listed.{Listed}
+use Rattle.card.specs.Batch.{batch_records, batch_size}
 use Rattle.card.specs.declared.Progress.{Progress}
 use Rattle.card.proofs.Folding.{in_parts, over_none}
 use Rattle.card.proofs.Lines.{listing-batches, listing-short, listing-long}
@@ -19,36 +18,34 @@ use Rattle.programs.specs.Stream.{Reads, Wrote}
 use Rattle.programs.specs.List.{Lines, ListsBatch, ListsCard}
 use Rattle.programs.specs.inner.Turns.{CanWrite, BatchReady, Begun, can_go_on}
 use Rattle.programs.specs.inner.Lists.{ListsSome, ListsBatches}
-use Rattle.programs.proofs.Batches.{front-text, took-start, took-batch, took_more, ended-or-failed, goes_further_lem, nothing-more, both_true, goes-going, goes-ok}
+use Rattle.programs.proofs.Batches.{took-start, took-batch, took_more, ended-or-failed, goes_further_lem, nothing-more, both_true, goes-going, goes-ok}
 
 -- before the first batch
-pub lists-start : (t : Turn) → Begun t → ListsSome 0 t
+pub lists-start : (t : Turn Progress) → Begun t → ListsSome 0 t
 lists-start t B =
     record {
-      took = took-start part_progress batch_size start t.progress t.input B.read B.well
+      took = took-start part_progress batch_size start t.counts t.input B.read B.well
           (B.progress ∙ over_none erasure_bytes slot_further start []);
       text = λ o. omega (arith, B.written, lines-short start [] 0);
     }
 
 -- a batch is read and listed, and its lines are written
-module _ (t : Turn) {j : Input} {old new : List ℕ} (R : Reads t.input old j new) {n : ℕ} (e : n ≡ j.count) {l : Listed} {before out : List ℕ}
-    (L : ListsSlots 0 (part_lines t.progress (take n new)) (part_progress t.progress (take n new)) before l out) where
-  pub batch-lines : Lines (take l.used out)
-  batch-lines = record { from = t.progress; slots = take n new; lines = front-text L.text }
+module _ (t : Turn Progress) {j : Input} {old new : List ℕ} (R : Reads t.input old j new) {n : ℕ} (e : n ≡ j.count) {lines : List ℕ}
+    (L : lines ≡ part_lines t.counts (take n new)) where
+  pub batch-lines : Lines lines
+  batch-lines = record { from = t.counts; slots = take n new; lines = L }
 
-  pub lists-batch : {o : Output} → length old ≡ batch_size → Wrote t.output (length (take l.used out)) o
-      → ListsBatch t (record { progress = l.progress; input = j; output = o })
-  lists-batch {o} size W =
+  pub lists-batch : {s : Progress} {o : Output} → length old ≡ batch_size → s ≡ part_progress t.counts (take n new) → Wrote t.output (length lines) o
+      → ListsBatch t (record { counts = s; input = j; output = o })
+  lists-batch {s} {o} size C W =
       record {
-        took = took-batch part_progress batch_size t.progress l.progress t.input j old new R size
-            (L.progress ∙ ap (λ (k : ℕ). part_progress t.progress (take k new)) e);
+        took = took-batch part_progress batch_size t.counts s t.input j old new R size (C ∙ ap (λ (k : ℕ). part_progress t.counts (take k new)) e);
         wrote = λ p. W p
-            ∙ ap (λ (xs : List ℕ). t.output.written + length xs)
-            (front-text L.text ∙ ap (λ (k : ℕ). part_lines t.progress (take k new)) e);
+            ∙ ap (λ (xs : List ℕ). t.output.written + length xs) (L ∙ ap (λ (k : ℕ). part_lines t.counts (take k new)) e);
       }
 
 -- behind i whole batches
-module _ (i : ℕ) (t : Turn) (L : ListsSome (i * batch_size) t) (h : i < 2500) (w : can_go_on t ≡ true) where
+module _ (i : ℕ) (t : Turn Progress) (L : ListsSome (i * batch_size) t) (h : i < 2500) (w : can_go_on t ≡ true) where
   g : t.input.going ≡ true
   g = goes-going t w
 
@@ -65,26 +62,26 @@ module _ (i : ℕ) (t : Turn) (L : ListsSome (i * batch_size) t) (h : i < 2500) 
       record {
         input = record { going = g; well = L.took.well g; small = omega (arith, L.took.read, few) };
         output = record { ok = o; small = omega (arith, L.text o, short, few) };
-        counts = continues-within i t.progress
+        counts = continues-within i t.counts
             (record { bytes = bytes; content = L.took.came.content; most = few; full = λ b. L.took.came.full g }) (omega arith);
       }
 
   -- and one more
-  pub lists-more : (u : Turn) → ListsBatch t u → ListsSome ((i + 1) * batch_size) u
+  pub lists-more : (u : Turn Progress) → ListsBatch t u → ListsSome ((i + 1) * batch_size) u
   lists-more u B =
       let whole : length bytes ≡ i * batch_records * record_size = omega (arith, L.took.came.full g) in
       let next = B.took.came.bytes in
       let parts = (listing-batches bytes next (i * batch_records) whole start).0 in
       record {
-        took = took_more part_progress record_size (in_parts slot_further) start i t.progress t.input L.took g u.progress u.input B.took;
+        took = took_more part_progress record_size (in_parts slot_further) start i t.counts t.input L.took g u.counts u.input B.took;
         text = λ p. B.wrote p
-            ∙ ap (λ (n : ℕ). n + length (part_lines t.progress next)) (L.text o)
+            ∙ ap (λ (n : ℕ). n + length (part_lines t.counts next)) (L.text o)
             ∙ ap (λ s. length (part_lines start bytes) + length (part_lines s next)) L.took.came.content
             ∙ sym (ap length parts ∙ length-append (part_lines start bytes) (part_lines (part_progress start bytes) next));
       }
 
 -- where it stops
-module _ (n : ℕ) (t : Turn) (L : ListsSome n t) (h : n ≤ most_records * record_size) where
+module _ (n : ℕ) (t : Turn Progress) (L : ListsSome n t) (h : n ≤ most_records * record_size) where
   pub lists-stop : can_go_on t ≡ false → ListsBatches t
   lists-stop f = record { n = n; lists = L; most = h; stopped = λ g. absurd (false≢true (sym f ∙ g)) }
 
@@ -93,7 +90,7 @@ module _ (n : ℕ) (t : Turn) (L : ListsSome n t) (h : n ≤ most_records * reco
 
 -- ---- the last lines
 
-module _ (t : Turn) (L : ListsBatches t) where
+module _ (t : Turn Progress) (L : ListsBatches t) where
   abbrev all : List ℕ
   all = L.lists.took.came.bytes
 
@@ -125,8 +122,8 @@ module _ (t : Turn) (L : ListsBatches t) where
     more-writable m W p = record { ok = p; small = omega (arith, W p, L.lists.text o, short) }
 
     -- the input does not go on: it has ended, or a read has failed
-    pub ends-here : {r : Output} → t.input.going ≡ false → Wrote t.output (length (total_line t.progress.totals)) r
-        → ListsCard (record { progress = t.progress; input = t.input; output = r })
+    pub ends-here : {r : Output} → t.input.going ≡ false → Wrote t.output (length (total_line t.counts.totals)) r
+        → ListsCard (record { counts = t.counts; input = t.input; output = r })
     ends-here {r} g W =
         record {
           card = all;
@@ -143,8 +140,8 @@ module _ (t : Turn) (L : ListsBatches t) where
       full : length all ≡ most_records * record_size
       full = L.lists.took.came.full g ∙ L.stopped (both_true t.input.going t.output.ok g o)
 
-      pub ends-full : {r : Output} → k ≡ 0 → Wrote t.output (length (total_line t.progress.totals)) r
-          → ListsCard (record { progress = t.progress; input = j; output = r })
+      pub ends-full : {r : Output} → k ≡ 0 → Wrote t.output (length (total_line t.counts.totals)) r
+          → ListsCard (record { counts = t.counts; input = j; output = r })
       ends-full {r} z W =
           record {
             card = all;
@@ -156,8 +153,8 @@ module _ (t : Turn) (L : ListsBatches t) where
           }
 
       pub ends_more : (m : Output) {r : Output} → (k ≡ 0 → ⊥) → Wrote t.output (length more_line) m → m.ok ≡ true
-          → Wrote m (length (total_line t.progress.totals)) r
-          → ListsCard (record { progress = t.progress; input = j; output = r })
+          → Wrote m (length (total_line t.counts.totals)) r
+          → ListsCard (record { counts = t.counts; input = j; output = r })
       ends_more m {r} z M mo W =
           let some : 1 ≡ j.count = omega (arith, R.most, R.size, one, e, z) in
           let total = total_line (part_progress start all).totals in
@@ -175,7 +172,7 @@ module _ (t : Turn) (L : ListsBatches t) where
           }
 
       -- the line "more" could not be written
-      pub ends-cut : (m : Output) → m.ok ≡ false → ListsCard (record { progress = t.progress; input = j; output = m })
+      pub ends-cut : (m : Output) → m.ok ≡ false → ListsCard (record { counts = t.counts; input = j; output = m })
       ends-cut m f =
           let some : List ℕ = replicate j.count 0 in
           record {

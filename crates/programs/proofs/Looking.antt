@@ -1,11 +1,10 @@
 -- The look at a slot that was sought. Assumes nothing.
+use Rattle.std.proofs.Common.{None, Option, Some}
 use Rattle.field.proofs.Base.{◌≡◌, sym, ap, ◌∙◌, Bool, true, false, cond, false≢true, List, ◌⊎◌, inl, inr, ℕ, ◌-◌, ◌≤◌, arith, eq-eqb, ne_eqb, eqb}
-use Rattle.field.proofs.Base.{length, take, take_all}
+use Rattle.field.proofs.Base.{length, take_all}
 use Rattle.card.specs.Record.{record_size}
 use Rattle.card.specs.Slots.{record_at}
 use Rattle.card.specs.Card.{record_numbered, fine, check_of, first_refused}
-use Rattle.card.specs.declared.CardCheck.{CardCheck}
-use Rattle.card.specs.declared.CardCheck.TheVariants.{AllAccepted, Refused}
 use Rattle.card.proofs.Checking.{first_some, first-none}
 use Rattle.show.specs.Look.{look_text}
 use Rattle.programs.specs.declared.input.Input.{Input}
@@ -15,7 +14,7 @@ use Rattle.programs.specs.declared.status.Status.{Status}
 use Rattle.programs.specs.declared.status.Status.TheVariants.{Done, AnsweredNo, NotDone}
 use Rattle.programs.specs.Stream.{Wrote, is_well}
 use Rattle.programs.specs.Look.{LooksCard, look_status}
-use Rattle.programs.specs.inner.Seeks.{SeeksSlot}
+use Rattle.programs.specs.inner.Seeks.{kept, SeeksSlot}
 use Rattle.programs.proofs.Batches.{unwell, well-written}
 use Rattle.programs.proofs.Seeking.{is-slot}
 
@@ -25,13 +24,13 @@ module _ (slot : List ℕ) (some : length slot ≡ 0 → ⊥) (h : length slot �
   first : record_at slot 0 ≡ slot
   first = take_all record_size slot h
 
-  module _ (x : CardCheck) (e : check_of x ≡ first_refused slot) where
-    pub fine-all : x ≡ AllAccepted → true ≡ fine slot
+  module _ (x : (Option ℕ)) (e : check_of x ≡ first_refused slot) where
+    pub fine-all : x ≡ None → true ≡ fine slot
     fine-all a =
         let none = (first-none slot).0 (sym e ∙ ap check_of a) 0 (omega arith) in
         sym none ∙ ap fine first
 
-    pub fine-not : (k : ℕ) → x ≡ Refused k → false ≡ fine slot
+    pub fine-not : (k : ℕ) → x ≡ Some k → false ≡ fine slot
     fine-not k a =
         let B = (first_some slot k).0 (sym e ∙ ap check_of a) in
         let one : k - 1 ≡ 0 = omega (arith, B.number, B.inside) in
@@ -61,7 +60,7 @@ module _ (slot : List ℕ) (i : Input) (o : Output) where
 
 -- ---- what is written
 
-module _ (n : ℕ) {s : Sought} {row : List ℕ} (S : SeeksSlot (n - 1) s row) (slot : List ℕ) (e : slot ≡ take s.len row) where
+module _ (n : ℕ) {s : Sought} {row : List ℕ} (S : SeeksSlot (n - 1) s row) (slot : List ℕ) (e : slot ≡ kept s.len row) where
   same : slot ≡ record_numbered S.card n
   same = is-slot n S slot e
 

@@ -1,19 +1,20 @@
 -- A slot sought batch by batch, and the number of a record in an argument. Assumes nothing.
-use Rattle.field.proofs.Base.{◌≡◌, refl, sym, ap, ◌∙◌, subst, Bool, true, false, cond, List, [], ◌++◌, ◌⊎◌, inl, inr, ℕ, ◌+◌, ◌-◌, ◌*◌, ◌≤◌, ◌<◌}
-use Rattle.field.proofs.Base.{add-one, arith, le-leb, lt-leb, length, take, drop, get_or, length-append, length-take, length-drop, drop_of_length-le}
-use Rattle.field.proofs.Base.{length-take-le, drop-cons}
+use Rattle.field.proofs.Base.{◌≡◌, refl, sym, ap, ◌∙◌, subst, Bool, true, false, cond, ◌&&◌, List, [], ◌++◌, ◌⊎◌, inl, inr, ℕ, zero, suc, ◌+◌, ◌-◌}
+use Rattle.field.proofs.Base.{◌*◌, ◌≤◌, ◌<◌, add-one, arith, le-leb, lt-leb, length, take, drop, get_or, length-append, length-take, length-drop}
+use Rattle.field.proofs.Base.{drop_of_length-le, length-take-le, drop-cons, false≢true}
+use Rattle.std.specs.Prelude.{Option, None, Some, IfSome, is_some}
+use Rattle.std.specs.Char.{is_ascii_digit}
 use Rattle.card.specs.Record.{erasure_bytes, record_size}
 use Rattle.card.specs.Slots.{record_count, record_at}
 use Rattle.card.specs.Card.{record_numbered}
-use Rattle.card.specs.Batch.{batch_records, batch_size, most_batches}
+use Rattle.card.specs.Batch.{batch_records, batch_size}
 use Rattle.card.proofs.Slots.{slot-behind}
 use Rattle.card_csv.specs.Reading.{is_digit}
 use Rattle.programs.specs.declared.input.Input.{Input}
 use Rattle.programs.specs.declared.seek.Sought.{Sought}
 use Rattle.programs.specs.Stream.{Reads, has_ended}
-use Rattle.programs.specs.Seek.{most_before, takes_digit, number_from, FindsSlot}
-use Rattle.programs.specs.inner.Turns.{CanRead}
-use Rattle.programs.specs.inner.Seeks.{SeeksBatch, SeeksSlot}
+use Rattle.programs.specs.Seek.{most_before, takes_digit, number_from, from_one, number_in, FindsSlot}
+use Rattle.programs.specs.inner.Seeks.{kept, SeeksBatch, SeeksSlot}
 
 -- ---- slots
 
@@ -35,9 +36,9 @@ slot-short card k = simp length-take (omega arith)
 -- ---- from batch to batch
 
 -- a batch was read, and its slot k kept
-pub seeks-batch : (k : ℕ) (i j : Input) {old new row : List ℕ} {n m : ℕ} → Reads i old j new → length old ≡ batch_size → n ≡ j.count
-    → take m row ≡ record_at (take n new) k → m ≤ length row → SeeksBatch k i (record { len = m; input = j }) row
-seeks-batch k i j {old} {new} {row} {n} {m} R size e s h =
+pub seeks-batch : (k : ℕ) (i j : Input) {old new row : List ℕ} {n : ℕ} {len : Option ℕ} → Reads i old j new → length old ≡ batch_size → n ≡ j.count
+    → kept len row ≡ record_at (take n new) k → IfSome len (λ m. m ≤ length row) → SeeksBatch k i (record { len = len; input = j }) row
+seeks-batch k i j {old} {new} {row} {n} {len} R size e s h =
     let long : length (take n new) ≡ n = length-take-le n new (omega (arith, R.most, e)) in
     record {
       bytes = take n new;
@@ -48,6 +49,10 @@ seeks-batch k i j {old} {new} {row} {n} {m} R size e s h =
       well = R.well;
     }
 
+not-found : (o : Option ℕ) → false ≡ is_some o → o ≡ None
+not-found None e = refl
+not-found (Some n) e = absurd (false≢true e)
+
 -- i whole batches were read, and slot k comes behind them
 pub record Passed (k i : ℕ) (j : Input) : Type 0 where
   pub card : List ℕ
@@ -57,18 +62,7 @@ pub record Passed (k i : ℕ) (j : Input) : Type 0 where
   pub well : j.failed ≡ false
   pub before : i * batch_records ≤ k
 
-pub passed_none : (k : ℕ) (j : Input) → j.read ≡ 0 → j.going ≡ true → j.failed ≡ false → Passed k 0 j
-passed_none k j r g f = record { card = []; read = r; size = refl; going = g; well = f; before = omega arith }
-
 module _ (k i : ℕ) (j : Input) (P : Passed k i j) where
-  pub passed-readable : i ≤ most_batches → CanRead j
-  passed-readable h = record { going = P.going; well = P.well; small = omega (arith, P.read, P.size) }
-
-  pub seeks-none : (row : List ℕ) → SeeksSlot k (record { len = 0; input = j }) row
-  seeks-none row =
-      let none = slot-none P.card k (omega (arith, P.size, P.before)) in
-      record { card = P.card; slot = none; room = omega arith; read = P.read; whole = λ h f. absurd (omega (arith, ap length none, h)) }
-
   module _ {r : Sought} {row : List ℕ} (B : SeeksBatch (k - i * batch_records) j r row) where
     both : record_at (P.card ++ B.bytes) k ≡ record_at B.bytes (k - i * batch_records)
     both =
@@ -92,9 +86,9 @@ module _ (k i : ℕ) (j : Input) (P : Passed k i j) where
             inl (ap length both ∙ slot-full B.bytes (k - i * batch_records) (B.full g) (omega (arith, ap length both, h)))
         go false g h f = inr (rw (g, f))
 
-    pub passed-more : r.len ≡ 0 → r.input.going ≡ true → Passed k (i + 1) r.input
+    pub passed-more : false ≡ is_some r.len → r.input.going ≡ true → Passed k (i + 1) r.input
     passed-more z g =
-        let none : length (record_at B.bytes (k - i * batch_records)) ≡ 0 = sym (ap length (ap (λ (n : ℕ). take n row) (sym z) ∙ B.slot)) in
+        let none : length (record_at B.bytes (k - i * batch_records)) ≡ 0 = sym (ap length (ap (λ (n : Option ℕ). kept n row) (sym (not-found r.len z)) ∙ B.slot)) in
         let far = slot-some B.bytes (k - i * batch_records) none in
         record {
           card = P.card ++ B.bytes;
@@ -107,7 +101,7 @@ module _ (k i : ℕ) (j : Input) (P : Passed k i j) where
 
 -- ---- the slot that was sought
 
-module _ (n : ℕ) {s : Sought} {row : List ℕ} (S : SeeksSlot (n - 1) s row) (slot : List ℕ) (e : slot ≡ take s.len row) where
+module _ (n : ℕ) {s : Sought} {row : List ℕ} (S : SeeksSlot (n - 1) s row) (slot : List ℕ) (e : slot ≡ kept s.len row) where
   pub is-slot : slot ≡ record_numbered S.card n
   is-slot = e ∙ S.slot
 
@@ -129,34 +123,45 @@ module _ (n : ℕ) {s : Sought} {row : List ℕ} (S : SeeksSlot (n - 1) s row) (
 
 -- ---- the number of a record
 
+-- may a byte stand behind the number v?
+module _ (v b : ℕ) where
+  pub no-digit : false ≡ is_ascii_digit b → takes_digit v b ≡ false
+  unfolding is_digit
+  no-digit e = rw (sym e)
+
+  pub too_many : most_before < v → takes_digit v b ≡ false
+  too_many h = rw (lt-leb v most_before h) (no (is_digit b))
+    where
+      no : (t : Bool) → (t && false) ≡ false
+      no true = refl
+      no false = refl
+
+  pub one_more : true ≡ is_ascii_digit b → v ≤ most_before → takes_digit v b ≡ true
+  unfolding is_digit
+  one_more e h = rw (sym e, le-leb v most_before h)
+
 module _ (text : List ℕ) (v i : ℕ) (E : number_from v (drop i text) ≡ number_from 0 text) where
-  pub number-all : length text ≤ i → v ≡ number_from 0 text
+  pub number-all : length text ≤ i → from_one (Some v) ≡ number_in text
   unfolding number_from
-  number-all h = sym (ap (number_from v) (drop_of_length-le text {i = i} h)) ∙ E
+  number-all h = ap from_one (sym (ap (number_from v) (drop_of_length-le text {i = i} h)) ∙ E)
 
   module _ (h : i < length text) where
-    step : cond (takes_digit v (get_or text i 0)) (number_from (v * 10 + (get_or text i 0 - 48)) (drop (i + 1) text)) 0 ≡ number_from 0 text
+    step : cond (takes_digit v (get_or text i 0)) (number_from (v * 10 + (get_or text i 0 - 48)) (drop (i + 1) text)) None ≡ number_from 0 text
     unfolding number_from
     step = rw (add-one i) (sym (ap (number_from v) (drop-cons text i 0 h)) ∙ E)
 
-    denied : takes_digit v (get_or text i 0) ≡ false → 0 ≡ number_from 0 text
-    denied e = sym (ap (λ (b : Bool). cond b (number_from (v * 10 + (get_or text i 0 - 48)) (drop (i + 1) text)) 0) e) ∙ step
+    pub number_refused : takes_digit v (get_or text i 0) ≡ false → None ≡ number_in text
+    number_refused e =
+        ap from_one (sym (ap (λ (b : Bool). cond b (number_from (v * 10 + (get_or text i 0 - 48)) (drop (i + 1) text)) None) e) ∙ step)
 
-    pub number-low : get_or text i 0 < 48 → 0 ≡ number_from 0 text
-    unfolding is_digit
-    number-low l = denied (rw (lt-leb 48 (get_or text i 0) l))
-
-    pub number-high : 57 < get_or text i 0 → 0 ≡ number_from 0 text
-    unfolding is_digit
-    number-high l = denied (rw (le-leb 48 (get_or text i 0) (omega arith), lt-leb (get_or text i 0) 57 l))
-
-    pub number-large : 48 ≤ get_or text i 0 → get_or text i 0 ≤ 57 → most_before < v → 0 ≡ number_from 0 text
-    unfolding is_digit
-    number-large a b l = denied (rw (le-leb 48 (get_or text i 0) a, le-leb (get_or text i 0) 57 b, lt-leb v most_before l))
-
-    pub number-on : 48 ≤ get_or text i 0 → get_or text i 0 ≤ 57 → v ≤ most_before
+    pub number-on : takes_digit v (get_or text i 0) ≡ true
         → number_from (v * 10 + (get_or text i 0 - 48)) (drop (i + 1) text) ≡ number_from 0 text
-    unfolding is_digit
-    number-on a b l =
-        let t : takes_digit v (get_or text i 0) ≡ true = rw (le-leb 48 (get_or text i 0) a, le-leb (get_or text i 0) 57 b, le-leb v most_before l) in
-        sym (ap (λ (x : Bool). cond x (number_from (v * 10 + (get_or text i 0 - 48)) (drop (i + 1) text)) 0) t) ∙ step
+    number-on e = sym (ap (λ (b : Bool). cond b (number_from (v * 10 + (get_or text i 0 - 48)) (drop (i + 1) text)) None) e) ∙ step
+
+pub counted_some : (v : ℕ) → 0 < v → Some v ≡ from_one (Some v)
+counted_some zero h = absurd (omega arith)
+counted_some (suc v) h = refl
+
+pub counted_none : (v : ℕ) → v ≤ 0 → None ≡ from_one (Some v)
+counted_none zero h = refl
+counted_none (suc v) h = absurd (omega arith)

@@ -1,21 +1,16 @@
 -- A report from batch to batch, and the table of it. Assumes nothing.
-use Rattle.field.proofs.Base.{◌≡◌, refl, sym, ap, ◌∙◌, subst, Bool, true, false, cond, false≢true, List, [], ◌∷◌, ◌++◌, ℕ, zero, suc, ◌+◌, ◌*◌, ◌^◌}
-use Rattle.field.proofs.Base.{◌≤◌, ◌<◌, arith, lt-ltb, ltb, length, take, length-append, take_at}
+use Rattle.field.proofs.Base.{◌≡◌, refl, sym, ap, ap₂, ◌∙◌, subst, Bool, true, false, false≢true, List, [], ◌∷◌, ◌++◌, ℕ, zero, suc, ◌+◌, ◌*◌, ◌^◌}
+use Rattle.field.proofs.Base.{◌≤◌, ◌<◌, arith, lt-ltb, le-ltb, ltb, length, take, take_all, length-append, take_at}
 use Rattle.card.specs.Record.{record_size, erasure_bytes}
 use Rattle.card.specs.Slots.{record_count}
-use Rattle.card.specs.Listing.{most_records}
+use Rattle.card.specs.Listing.{most_records, listed_part}
 use Rattle.card.specs.Batch.{batch_size}
 use Rattle.card.proofs.Folding.{in_parts, over_none}
-use Rattle.report.specs.Window.{is_window, window_from, no_report, slot_added, part_added, finished, report_of, report_size}
+use Rattle.report.specs.Window.{is_window, no_report, slot_added, part_added, finished, goes_on, report_of, report_size}
 use Rattle.report.specs.Table.{table_text}
 use Rattle.report.specs.inner.Room.{day_most, Countable}
 use Rattle.report.specs.declared.row.Window.{Window}
-use Rattle.report.proofs.Reports.{zeros-countable, slots-countable, countable-more, report-short, report-long, report-countable}
-use Rattle.report.specs.declared.quarter.Time.{Time}
-use Rattle.report.specs.declared.quarter.Time.TheVariants.{At, Bad}
-use Rattle.programs.specs.declared.arguments.Chosen.{Chosen}
-use Rattle.programs.specs.declared.arguments.Chosen.TheVariants.{Is, NotBefore}
-use Rattle.programs.specs.Arguments.{window_chosen}
+use Rattle.report.proofs.Reports.{zeros-countable, slots-countable, countable-more, report-countable}
 use Rattle.programs.specs.declared.input.Input.{Input}
 use Rattle.programs.specs.declared.output.Output.{Output}
 use Rattle.programs.specs.declared.status.Status.{Status}
@@ -68,6 +63,12 @@ module _ (w : Window) where
 seen-ended : (n : ℕ) (i : Input) → i.going ≡ false → i.failed ≡ false → seen_all n i ≡ true
 seen-ended n i g f = rw (g, f)
 
+-- the part of the card that is looked at has entered the report
+made : (w : Window) (card part : List ℕ) {more : Bool} {R new : List ℕ} → part ≡ listed_part card → more ≡ goes_on card
+    → R ≡ part_added w no_report part → new ≡ finished R more → new ≡ report_of w card
+unfolding report_of
+made w card part p m a e = e ∙ ap₂ finished (a ∙ ap (part_added w no_report) p) m
+
 module _ (w : Window) {J : Input} {R : List ℕ} (A : AddsBatches w J R) where
   -- the card ends there, or a read failed
   pub reports-end : J.going ≡ false → {new : List ℕ} → new ≡ finished R false → ReportOf w J new
@@ -76,7 +77,7 @@ module _ (w : Window) {J : Input} {R : List ℕ} (A : AddsBatches w J R) where
       record {
         card = C.bytes;
         read = omega (arith, A.read);
-        content = report-short w C.bytes report_size refl no_report refl C.most R new C.content e;
+        content = made w C.bytes C.bytes (sym (take_all (most_records * record_size) C.bytes C.most)) (sym (le-ltb (most_records * record_size) (length C.bytes) C.most)) C.content e;
         stopped = seen-ended (most_records * record_size) J g;
       }
 
@@ -94,7 +95,8 @@ module _ (w : Window) {J : Input} {R : List ℕ} (A : AddsBatches w J R) where
         record {
           card = A.came.bytes;
           read = omega (arith, A.read, T.total, z);
-          content = report-short w A.came.bytes report_size refl no_report refl A.came.most R new A.came.content e;
+          content = made w A.came.bytes A.came.bytes (sym (take_all (most_records * record_size) A.came.bytes A.came.most))
+              (sym (le-ltb (most_records * record_size) (length A.came.bytes) A.came.most)) A.came.content e;
           stopped = seen-ended (most_records * record_size) K (nothing-more T l z);
         }
 
@@ -107,8 +109,8 @@ module _ (w : Window) {J : Input} {R : List ℕ} (A : AddsBatches w J R) where
         record {
           card = card;
           read = omega (arith, A.read, T.total, first, long);
-          content = report-long w card report_size refl no_report refl (most_records * record_size) refl bytes
-              (sym (take_at bytes (0 ∷ []) (most_records * record_size) full)) (omega (arith, full, long)) R new A.came.content e;
+          content = made w card bytes (sym (take_at bytes (0 ∷ []) (most_records * record_size) full))
+              (sym (lt-ltb (most_records * record_size) (length card) (omega (arith, full, long)))) A.came.content e;
           stopped = λ f. goes_further_lem (most_records * record_size) K (omega (arith, A.read, T.total, first, full));
         }
 
@@ -141,14 +143,3 @@ module _ {w : Window} {i : Input} {R : List ℕ} (T : ReportOf w i R) (o : Outpu
         silent = λ t. absurd (false≢true (sym f ∙ t));
         status = e;
       }
-
--- ---- the window that two times choose
-
-pub chosen-window : (first end : Time) (r : Chosen) (w : Window) → r ≡ window_chosen first end → r ≡ Is w → is_window w ≡ true
-chosen-window Bad end r w e h = let z : ◌≡◌ {A = ℕ} 0 1 = cc in absurd (omega arith)
-chosen-window (At a) Bad r w e h = let z : ◌≡◌ {A = ℕ} 0 1 = cc in absurd (omega arith)
-chosen-window (At a) (At b) r w e h = tested (is_window (window_from a b)) refl (sym e ∙ h)
-  where
-    tested : (t : Bool) → is_window (window_from a b) ≡ t → cond t (Is (window_from a b)) NotBefore ≡ Is w → is_window w ≡ true
-    tested true f g = let same : window_from a b ≡ w = cc in ap is_window (sym same) ∙ f
-    tested false f g = let z : ◌≡◌ {A = ℕ} 0 1 = cc in absurd (omega arith)

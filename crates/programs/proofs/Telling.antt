@@ -1,28 +1,26 @@
 -- The day sheets of a card printed from batch to batch. Assumes nothing.
-use Rattle.field.proofs.Base.{◌≡◌, refl, sym, ap, ◌∙◌, true, List, [], ◌++◌, ◌⊎◌, inl, inr, ℕ, ◌+◌, ◌*◌, ◌<◌, arith, eq-eqb, ne_eqb, length, take}
+use Rattle.field.proofs.Base.{◌≡◌, refl, sym, ap, ◌∙◌, true, List, [], ◌++◌, ℕ, ◌+◌, ◌*◌, ◌<◌, ◌≤◌, arith, eq-eqb, ne_eqb, length, take}
 use Rattle.field.proofs.Base.{length-append}
 use Rattle.card.specs.Record.{erasure_bytes, record_size}
 use Rattle.card.specs.Batch.{most_batches}
 use Rattle.card.proofs.Folding.{in_parts, over_none}
 use Rattle.card_csv.specs.declared.Counts.{Counts}
-use Rattle.card_csv.specs.declared.lines.Listed.{Listed}
 use Rattle.card_csv.specs.Text.{sheets_header, slot_tallied, slot_sheet_told, sheets_untold, part_sheets, part_counts, untallied}
-use Rattle.card_csv.specs.Batch.{ListsSheets, sheet_slots, sheet_batch, longest_sheets}
+use Rattle.card_csv.specs.Batch.{sheet_slots, sheet_batch, longest_sheets}
 use Rattle.card_csv.proofs.SheetLines.{came-within, lines-in-parts}
-use Rattle.programs.specs.inner.Turns.{TookAll}
+use Rattle.programs.specs.inner.Turns.{TookAll, can_go_on}
 use Rattle.programs.specs.declared.input.Input.{Input}
 use Rattle.programs.specs.declared.output.Output.{Output}
-use Rattle.programs.specs.declared.cardsheets.Telling.{Telling}
-use Rattle.programs.specs.declared.status.Status.{Status}
-use Rattle.programs.specs.declared.status.Status.TheVariants.{Done, AnsweredNo, NotDone}
+use Rattle.programs.specs.declared.turn.Turn.{Turn}
+use Rattle.programs.specs.declared.status.Status.TheVariants.{Done, AnsweredNo}
 use Rattle.programs.specs.Stream.{Reads, Wrote}
-use Rattle.programs.specs.Sheets.{SheetLines, TellsBatch, TellsCard, is_told, sheets_status, EndsSheets}
-use Rattle.programs.specs.inner.Tells.{TellsNothing, TellReady, tells_on, TellsSome}
-use Rattle.programs.proofs.Batches.{front-text, took-start, took-batch}
+use Rattle.programs.specs.Sheets.{SheetLines, TellsBatch, TellsCard, sheets_status}
+use Rattle.programs.specs.inner.Tells.{TellsNothing, TellReady, TellsSome}
+use Rattle.programs.proofs.Batches.{took-start, took-batch}
 use Rattle.field.proofs.Ask.{and-true-left, and-true-right}
 
 -- before the first batch
-pub tells-start : (t : Telling) → TellsNothing t → TellsSome 0 t
+pub tells-start : (t : Turn Counts) → TellsNothing t → TellsSome 0 t
 tells-start t B =
     let none : [] ≡ part_sheets untallied [] = ap (λ u. u.text) (over_none erasure_bytes slot_sheet_told (sheets_untold untallied) []) in
     record {
@@ -33,29 +31,27 @@ tells-start t B =
     }
 
 -- a batch is read, and its lines are written
-module _ (t : Telling) {j : Input} {old new : List ℕ} (R : Reads t.input old j new) {n : ℕ} (e : n ≡ j.count) {l : Listed} {before out : List ℕ}
-    (L : ListsSheets 0 (part_sheets t.counts (take n new)) (part_counts t.counts (take n new)) before l out) where
-  pub batch-sheets : SheetLines (take l.used out)
-  batch-sheets = record { from = t.counts; slots = take n new; lines = front-text L.text }
+module _ (t : Turn Counts) {j : Input} {old new : List ℕ} (R : Reads t.input old j new) {n : ℕ} (e : n ≡ j.count) {lines : List ℕ}
+    (L : lines ≡ part_sheets t.counts (take n new)) where
+  pub batch-sheets : SheetLines lines
+  batch-sheets = record { from = t.counts; slots = take n new; lines = L }
 
-  pub tells-batch : {o : Output} → length old ≡ sheet_batch → length before ≡ longest_sheets → Wrote t.output (length (take l.used out)) o
-      → TellsBatch t (record { counts = l.counts; input = j; output = o })
-  tells-batch {o} size room W =
-      let same : take l.used out ≡ part_sheets t.counts (take j.count new) =
-      front-text L.text ∙ ap (λ (k : ℕ). part_sheets t.counts (take k new)) e in
+  pub tells-batch : {s : Counts} {o : Output} → length old ≡ sheet_batch → s ≡ part_counts t.counts (take n new)
+      → length lines ≤ longest_sheets → Wrote t.output (length lines) o → TellsBatch t (record { counts = s; input = j; output = o })
+  tells-batch {s} {o} size C room W =
+      let same : lines ≡ part_sheets t.counts (take j.count new) = L ∙ ap (λ (k : ℕ). part_sheets t.counts (take k new)) e in
       record {
-        took = took-batch part_counts sheet_batch t.counts l.counts t.input j old new R size
-            (L.counts ∙ ap (λ (k : ℕ). part_counts t.counts (take k new)) e);
+        took = took-batch part_counts sheet_batch t.counts s t.input j old new R size (C ∙ ap (λ (k : ℕ). part_counts t.counts (take k new)) e);
         wrote = λ p. W p ∙ ap (λ (xs : List ℕ). t.output.written + length xs) same;
-        short = omega (arith, ap (λ (k : ℕ). length (part_sheets t.counts (take k new))) e, L.text.behind, L.text.room, room);
+        short = omega (arith, ap length same, room);
       }
 
 -- behind i whole batches
-module _ (i : ℕ) (t : Telling) (L : TellsSome i t) where
+module _ (i : ℕ) (t : Turn Counts) (L : TellsSome i t) where
   abbrev bytes : List ℕ
   bytes = L.took.came.bytes
 
-  module _ (h : i < most_batches) (w : tells_on t ≡ true) where
+  module _ (h : i < most_batches) (w : can_go_on t ≡ true) where
     g : t.input.going ≡ true
     g = and-true-left t.input.going t.output.ok w
 
@@ -71,7 +67,7 @@ module _ (i : ℕ) (t : Telling) (L : TellsSome i t) where
         }
 
     -- and one more
-    module _ (u : Telling) (B : TellsBatch t u) where
+    module _ (u : Turn Counts) (B : TellsBatch t u) where
       abbrev next : List ℕ
       next = B.took.came.bytes
 
@@ -121,13 +117,9 @@ module _ (i : ℕ) (t : Telling) (L : TellsSome i t) where
 
 -- ---- how the printing of a whole card ended
 
-module _ (t : Telling) where
+module _ (t : Turn Counts) where
   pub sheets-all : t.counts.others ≡ 0 → Done ≡ sheets_status t
   sheets-all e = rw (eq-eqb _ _ e) refl
 
   pub sheets-some : (t.counts.others ≡ 0 → ⊥) → AnsweredNo ≡ sheets_status t
   sheets-some e = rw (ne_eqb _ _ e) refl
-
-  pub ends-told : {r s : Status} → is_told t ≡ true → s ≡ sheets_status t → (r ≡ s) ⊎ (r ≡ NotDone) → EndsSheets t r
-  ends-told w e (inl f) = inl (w, f ∙ e)
-  ends-told w e (inr f) = inr f

@@ -4,7 +4,7 @@ use Rattle.card.specs.Card.{searched}
 use Rattle.card.specs.Checked.{names, check_text}
 use Rattle.programs.specs.declared.input.Input.{Input}
 use Rattle.programs.specs.declared.output.Output.{Output}
-use Rattle.programs.specs.declared.cardcheck.Checked.{Checked}
+use Rattle.programs.specs.declared.answer.Answered.{Answered}
 use Rattle.programs.specs.declared.status.Status.{Status}
 use Rattle.programs.specs.declared.status.Status.TheVariants.{Done, AnsweredNo, NotDone}
 use Rattle.programs.specs.Stream.{has_ended, is_well}
@@ -23,10 +23,9 @@ check_status found i o = cond (is_well i o) (cond found AnsweredNo (cond (has_en
 
 -- some card, as long as what was read, was searched; its line is written where a record is named or the input has ended, and nothing where a
 -- read failed or neither is so
-pub record ChecksCard (r : Checked) : Type 0 where
+pub record ChecksCard (r : Answered) : Type 0 where
   pub card : List ℕ
   pub read : r.input.read ≡ length card
-  pub found : r.found ≡ names (searched 0 card)
-  pub text : is_well r.input r.output ≡ true → (r.found ≡ true) ⊎ (has_ended r.input ≡ true) → r.output.written ≡ length (check_text card)
-  pub silent : (r.input.failed ≡ true) ⊎ ((r.found ≡ false) × (has_ended r.input ≡ false)) → r.output.written ≡ 0
-  pub status : r.status ≡ check_status r.found r.input r.output
+  pub text : is_well r.input r.output ≡ true → (names (searched 0 card) ≡ true) ⊎ (has_ended r.input ≡ true) → r.output.written ≡ length (check_text card)
+  pub silent : (r.input.failed ≡ true) ⊎ ((names (searched 0 card) ≡ false) × (has_ended r.input ≡ false)) → r.output.written ≡ 0
+  pub status : r.status ≡ check_status (names (searched 0 card)) r.input r.output

@@ -1,10 +1,10 @@
 -- What `cardconvert` promises. k is the number of erasure bytes of a record of the card, 4 or 5. Assumes nothing.
+use Rattle.std.specs.Prelude.{Result, Ok, is_ok}
 use Rattle.std.specs.Prelude.{◌≡◌, true, List, ◌⊎◌, ℕ, ◌+◌, ◌-◌, ◌*◌, ◌%◌, ◌≤◌, length}
 use Rattle.card.specs.Record.{size_of, erasure_bytes}
 use Rattle.card.specs.Conversion.{old_erasure_bytes, converted_card}
 use Rattle.card.specs.Batch.{batch_records, most_batches}
 use Rattle.card.specs.Findings.{nothing_found, part_found, found_verdict}
-use Rattle.field.specs.declared.Verdict.TheVariants.{Passed}
 use Rattle.programs.specs.declared.cardconvert.Inquiry.{Inquiry}
 use Rattle.programs.specs.declared.cardconvert.Copying.{Copying}
 use Rattle.programs.specs.declared.status.Status.{Status}
@@ -28,20 +28,21 @@ pub record AsksCard (k : ℕ) (r : Inquiry) : Type 0 where
 pub record Accepted (k : ℕ) (r : Inquiry) : Type 0 where
   pub asks : AsksCard k r
   pub ended : has_ended r.input ≡ true
-  pub passed : found_verdict r.findings r.rest ≡ Passed
+  pub passed : found_verdict r.findings r.rest ≡ (Ok tt)
 
 -- some bytes are the conversion of a card
 pub record Converted (k : ℕ) (bytes : List ℕ) : Type 0 where
   pub card : List ℕ
   pub is : bytes ≡ converted_card k (other_edition k) card
 
--- the second reading: where it is fine, so many slots were read, and so many of the other edition written, and the input ended behind them
+-- the second reading, where it came to its end: so many slots were read, and so many of the other edition written, and the input ended behind
+-- them
 pub record CopiesCard (k slots : ℕ) (c : Copying) : Type 0 where
-  pub ended : c.fine ≡ true → has_ended c.input ≡ true
-  pub read : c.fine ≡ true → c.input.read ≡ slots * size_of k
-  pub ok : c.fine ≡ true → c.output.ok ≡ true
-  pub written : c.fine ≡ true → c.output.written ≡ slots * size_of (other_edition k)
+  pub ended : has_ended c.input ≡ true
+  pub read : c.input.read ≡ slots * size_of k
+  pub ok : c.output.ok ≡ true
+  pub written : c.output.written ≡ slots * size_of (other_edition k)
 
--- 0 only where the second reading is fine
-abbrev pub EndsConverting : Copying → Status → Type 0
-EndsConverting c r = ((c.fine ≡ true) × (r ≡ Done)) ⊎ (r ≡ NotDone)
+-- 0 only where the second reading came to its end
+abbrev pub EndsConverting : Result Copying Copying → Status → Type 0
+EndsConverting c r = ((is_ok c ≡ true) × (r ≡ Done)) ⊎ (r ≡ NotDone)

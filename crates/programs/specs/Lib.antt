@@ -1,6 +1,6 @@
 -- The definitions of the programs' promises. Assumes nothing.
 pub mod Status  -- how a program ends, and the number of it
-pub mod Stream  -- reading and writing: what a call answered, counts, failures
+pub mod Stream  -- reading and writing: counts, failures
 pub mod Arguments  -- what the arguments decide
 pub mod Batches  -- from batch to batch of an input
 pub mod List  -- what `cardlist` promises

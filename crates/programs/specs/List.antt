@@ -17,17 +17,17 @@ pub record Lines (text : List ℕ) : Type 0 where
   pub lines : text ≡ part_lines from slots
 
 -- a batch was listed: its bytes are counted, and its lines written
-pub record ListsBatch (t u : Turn) : Type 0 where
-  pub took : Took part_progress batch_size t.progress t.input u.progress u.input
-  pub wrote : Wrote t.output (length (part_lines t.progress took.came.bytes)) u.output
+pub record ListsBatch (t u : Turn Progress) : Type 0 where
+  pub took : Took part_progress batch_size t.counts t.input u.counts u.input
+  pub wrote : Wrote t.output (length (part_lines t.counts took.came.bytes)) u.output
 
 -- the listing of some card, as long as what was read, is written, or a write failed; then all that is listed was read, or a read failed
-pub record ListsCard (t : Turn) : Type 0 where
+pub record ListsCard (t : Turn Progress) : Type 0 where
   pub card : List ℕ
   pub read : t.input.read ≡ length card
   pub text : t.output.ok ≡ true → t.output.written ≡ length (listing card)
   pub stopped : t.output.ok ≡ true → (seen_all (most_records * record_size) t.input ≡ true) ⊎ (t.input.failed ≡ true)
 
 -- 0 where every read and write succeeded
-abbrev pub list_status : Turn → Status
+abbrev pub list_status : Turn Progress → Status
 list_status t = cond (is_well t.input t.output) Done NotDone

@@ -1,5 +1,5 @@
 -- The number of a record in an argument, and the slot with that number. Assumes nothing.
-use Rattle.std.specs.Prelude.{◌≡◌, Bool, true, false, cond, ◌&&◌, List, [], ◌∷◌, ◌⊎◌, ℕ, ◌+◌, ◌-◌, ◌*◌, ◌<◌, leb, length}
+use Rattle.std.specs.Prelude.{◌≡◌, Bool, true, false, cond, ◌&&◌, List, [], ◌∷◌, Option, None, Some, ◌⊎◌, ℕ, zero, suc, ◌+◌, ◌-◌, ◌*◌, ◌<◌, leb, length}
 use Rattle.card.specs.Record.{record_size}
 use Rattle.card.specs.Card.{record_numbered}
 use Rattle.card_csv.specs.Reading.{is_digit}
@@ -16,14 +16,20 @@ most_before = 100000000000000
 abbrev pub takes_digit : ℕ → ℕ → Bool
 takes_digit v b = is_digit b && leb v most_before
 
--- the number that the digits say behind v; 0 where a byte is no digit, or they are too many
-unfoldable pub number_from : ℕ → List ℕ → ℕ
-number_from v [] = v
-number_from v (b ∷ bs) = cond (takes_digit v b) (number_from (v * 10 + (b - 48)) bs) 0
+-- the number that the digits say behind v; none where a byte is no digit, or they are too many
+unfoldable pub number_from : ℕ → List ℕ → Option ℕ
+number_from v [] = Some v
+number_from v (b ∷ bs) = cond (takes_digit v b) (number_from (v * 10 + (b - 48)) bs) None
 
--- the number of a record, counted from 1, that an argument names; 0 where it names none
-abbrev pub number_in : List ℕ → ℕ
-number_in text = number_from 0 text
+-- a number from 1 on, since records are counted from 1
+abbrev pub from_one : Option ℕ → Option ℕ
+from_one None = None
+from_one (Some zero) = None
+from_one (Some (suc n)) = Some (suc n)
+
+-- the number of a record that an argument names
+abbrev pub number_in : List ℕ → Option ℕ
+number_in text = from_one (number_from 0 text)
 
 -- ---- the slot
 

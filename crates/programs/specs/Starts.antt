@@ -7,7 +7,7 @@ use Rattle.report.specs.Table.{table_text}
 use Rattle.report.specs.declared.row.Window.{Window}
 use Rattle.programs.specs.declared.input.Input.{Input}
 use Rattle.programs.specs.declared.output.Output.{Output}
-use Rattle.programs.specs.declared.cardstarts.Reported.{Reported}
+use Rattle.programs.specs.declared.answer.Answered.{Answered}
 use Rattle.programs.specs.declared.status.Status.{Status}
 use Rattle.programs.specs.declared.status.Status.TheVariants.{Done, NotDone}
 use Rattle.programs.specs.Stream.{is_well}
@@ -31,7 +31,7 @@ abbrev pub starts_status : Input → Output → Status
 starts_status i o = cond (is_well i o) Done NotDone
 
 -- the table of the report is written, or a write failed; where a read failed, nothing is
-pub record TablesCard (w : Window) (r : Reported) : Type 0 where
+pub record TablesCard (w : Window) (r : Answered) : Type 0 where
   pub card : List ℕ
   pub read : r.input.read ≡ length card
   pub text : r.input.failed ≡ false → r.output.ok ≡ true → r.output.written ≡ length (table_text (report_of w card))

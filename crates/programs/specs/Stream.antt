@@ -1,27 +1,15 @@
--- Reading and writing, as far as a program can know them: what a call answered, how many bytes were moved in all, and whether a call failed.
--- Assumes nothing.
-use Rattle.std.specs.Prelude.{◌≡◌, Bool, true, false, not, ◌&&◌, List, ℕ, zero, suc, ◌+◌, ◌%◌, ◌≤◌, ◌<◌, min, ℤ, pos, negsuc, eqb, length}
+-- Reading and writing, as far as a program can know them: how many bytes were moved in all, and whether a call failed. Assumes nothing.
+use Rattle.std.specs.Prelude.{◌≡◌, Bool, true, false, not, ◌&&◌, List, ℕ, ◌+◌, ◌%◌, ◌≤◌, ◌<◌, eqb, length}
 use Rattle.card.specs.Record.{size_of, record_size}
 use Rattle.card.specs.Conversion.{old_erasure_bytes}
 use Rattle.programs.specs.declared.input.Input.{Input}
-use Rattle.programs.specs.declared.input.Moved.{Moved}
-use Rattle.programs.specs.declared.input.Moved.TheVariants.{Bytes, Nothing, Failed}
 use Rattle.programs.specs.declared.output.Output.{Output}
-
--- what the answer of a read or write of at most n bytes means: below 0 it failed, and 0 from a read is the end of the input
-abbrev pub moved_bytes : ℕ → Moved
-moved_bytes zero = Nothing
-moved_bytes (suc k) = Bytes (suc k)
-
-abbrev pub moved_of : ℤ → ℕ → Moved
-moved_of (pos k) n = moved_bytes (min k n)
-moved_of (negsuc k) n = Failed
 
 -- ---- reading
 
 -- nothing has been read
-abbrev pub unread : ℤ → Input
-unread fd = record { fd = fd; read = 0; count = 0; going = true; failed = false }
+abbrev pub unread : Input
+unread = record { read = 0; count = 0; going = true; failed = false }
 
 -- the input has ended, and no read failed
 abbrev pub has_ended : Input → Bool
@@ -43,8 +31,8 @@ looks_old n = not (eqb (n % record_size) 0) && eqb (n % size_of old_erasure_byte
 -- ---- writing
 
 -- nothing has been written
-abbrev pub unwritten : ℤ → Output
-unwritten fd = record { fd = fd; written = 0; ok = true }
+abbrev pub unwritten : Output
+unwritten = record { written = 0; ok = true }
 
 -- n bytes were written behind what o had written, or a write failed
 abbrev pub Wrote : Output → ℕ → Output → Type 0

@@ -1,8 +1,7 @@
 -- What `cardwrite` promises. Assumes nothing.
-use Rattle.std.specs.Prelude.{◌≡◌, Bool, true, false, ◌&&◌, ◌||◌, List, ◌⊎◌, ℕ, length, drop}
-use Rattle.card_csv.specs.declared.TextVerdict.{TextVerdict}
-use Rattle.card_csv.specs.declared.TextVerdict.TheVariants.{Fine, NoHeader, Wrong, TooLong}
-use Rattle.card_csv.specs.Making.{text_begun, lines_made, text_state, card_of, is_complete}
+use Rattle.std.specs.Prelude.{Ok, Err, ◌≡◌, Bool, true, false, ◌&&◌, ◌||◌, List, ◌⊎◌, ℕ, length, drop}
+use Rattle.card_csv.specs.declared.TextFault.TheVariants.{NoHeader, Wrong, TooLong}
+use Rattle.card_csv.specs.Making.{TextVerdict, text_begun, lines_made, text_state, card_of, is_complete}
 use Rattle.programs.specs.declared.intake.Taken.{Taken}
 use Rattle.programs.specs.declared.output.Output.{Output}
 use Rattle.programs.specs.declared.status.Status.{Status}
@@ -16,10 +15,10 @@ pub record PartOfCard (o : Output) (bytes : List ℕ) : Type 0 where
 
 -- a line was refused for what it says
 abbrev pub is_refused : TextVerdict → Bool
-is_refused Fine = false
-is_refused NoHeader = true
-is_refused (Wrong f) = true
-is_refused TooLong = false
+is_refused (Ok tt) = false
+is_refused (Err NoHeader) = true
+is_refused (Err (Wrong f)) = true
+is_refused (Err TooLong) = false
 
 -- how the text stands is settled: a line was refused, or the input has ended and no write failed
 abbrev pub is_settled : Taken → Bool

@@ -1,5 +1,4 @@
 -- Vocabulary of inner functions: no contract of a program cites it. Assumes nothing.
-pub mod Streams  -- one read, one write, names in buffers
 pub mod Turns  -- what a step requires between batches
 pub mod Lists  -- a listing batch by batch
 pub mod Checks  -- a card check batch by batch

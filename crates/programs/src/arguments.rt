@@ -1,17 +1,32 @@
 // The arguments: each has a role, by its text and by the role of the one before it, and the roles decide what is asked.
-ghost use Rattle.std.specs.Prelude.{◌≡◌, ◌+◌, ◌-◌, ◌≤◌, length, IfOk};
-ghost use Rattle.code.specs.Call.{same_bytes};
-ghost use Rattle.programs.specs.Arguments.{own_role, role_of, argument_at, first_place, untaken, dangling, wrong_place, too_few, asked_of};
+ghost use Rattle.std.specs.Prelude.{◌≡◌, true, false, ◌≤◌, length, IfOk, IfSome};
+ghost use Rattle.card.specs.Record.{erasure_bytes};
+ghost use Rattle.card.specs.Conversion.{old_erasure_bytes};
+ghost use Rattle.report.specs.Window.{is_window};
+ghost use Rattle.programs.specs.Arguments.{own_role, role_of, argument_at, untaken, dangling, wrong_place, too_few, asked_of};
 ghost use Rattle.programs.specs.Arguments.{edition_of, reach_in, window_chosen, is_standard, is_device};
 
-use crate::files::{buffer, front};
+use crate::files::buffer;
 use crate::stream::{missing, too_long};
 use card::records::{ERASURE_BYTES, OLD_ERASURE_BYTES};
 use check::same;
-use report::quarter::Time;
 use report::row::{Window, is_window};
 use std::env::{Env, FillError};
 use std::io;
+
+// The role of an argument. Argument 0 is the program's name.
+#[derive(Clone, Copy, PartialEq, Eq)]
+pub enum Role {
+    Name,
+    Operand,
+    OutValue,
+    ReachValue,
+    OutOption,
+    ReachOption,
+    HelpOption,
+    VersionOption,
+    Unknown,
+}
 
 // What the arguments ask for. Wrong holds the place of an argument that is wrong.
 #[derive(Clone, Copy)]
@@ -23,13 +38,12 @@ pub enum Asked {
     Missing,
 }
 
-// A window of the day, or what is wrong with its two times.
+// What is wrong with the two times of a window: the first, the end, or their order.
 #[derive(Clone, Copy)]
-pub enum Chosen {
-    Is(Window),
-    FirstBad,
-    EndBad,
-    NotBefore,
+pub enum WindowError {
+    First,
+    End,
+    Order,
 }
 
 // The options and the number of operands that a program takes.
@@ -41,154 +55,127 @@ pub struct Takes {
     pub most: usize,
 }
 
-pub const OPERAND: u8 = 1;
-
-pub const OUT_VALUE: u8 = 2;
-
-pub const REACH_VALUE: u8 = 3;
-
-const OUT_OPTION: u8 = 4;
-
-const REACH_OPTION: u8 = 5;
-
-const HELP_OPTION: u8 = 6;
-
-const VERSION_OPTION: u8 = 7;
-
-const UNKNOWN: u8 = 8;
-
-// Is the text this word?
-pub fn is_text(text: &[u8], word: &[u8]) -> bool
-    ensures { result ≡ same_bytes text.now word.now }
-{
-    same(text, word)
+impl Takes {
+    // So many operands, and no option but --help and --version.
+    pub fn operands(least: usize, most: usize) -> Takes
+        ensures { result ≡ record { out = false; reach = false; least = least; most = most } }
+    {
+        Takes {
+            out: false,
+            reach: false,
+            least,
+            most,
+        }
+    }
 }
 
+// Room for the roles of all arguments that a program may take, and of more, so that one too many is seen.
+pub const MOST_ARGUMENTS: usize = 32;
+
 // The role of a text that is no option's value.
-fn own_role(text: &[u8]) -> u8
+fn own_role(text: &[u8]) -> Role
     ensures { result ≡ own_role text.now }
 {
-    if is_text(text, b"-o") {
-        return OUT_OPTION;
+    if same(text, b"-o") {
+        return Role::OutOption;
     }
-    if is_text(text, b"--reach") {
-        return REACH_OPTION;
+    if same(text, b"--reach") {
+        return Role::ReachOption;
     }
-    if is_text(text, b"--help") {
-        return HELP_OPTION;
+    if same(text, b"--help") {
+        return Role::HelpOption;
     }
-    if is_text(text, b"--version") {
-        return VERSION_OPTION;
+    if same(text, b"--version") {
+        return Role::VersionOption;
     }
-    if text.len() < 2 {
-        return OPERAND;
+    match text {
+        [b'-', _, ..] => Role::Unknown,
+        _ => Role::Operand,
     }
-    if text[0] == b'-' { UNKNOWN } else { OPERAND }
 }
 
 // The role of a text behind an argument of the role `before`.
-fn role_of(before: u8, text: &[u8]) -> u8
+fn role_of(before: Role, text: &[u8]) -> Role
     ensures { result ≡ role_of before text.now }
 {
-    if before == OUT_OPTION {
-        return OUT_VALUE;
+    match before {
+        Role::OutOption => Role::OutValue,
+        Role::ReachOption => Role::ReachValue,
+        _ => own_role(text),
     }
-    if before == REACH_OPTION {
-        return REACH_VALUE;
-    }
-    own_role(text)
 }
 
-// Where the n-th argument of the role stands, 0 where there is none.
-pub fn place_of(roles: &[u8], role: u8, n: usize) -> usize
+// Where the n-th argument of the role stands, counted from 1.
+pub fn place_of(roles: &[Role], role: Role, n: usize) -> Option<usize>
     ensures { result ≡ argument_at roles.now role n }
 {
     let mut left = n;
-    let mut i = 0;
-    while i < roles.len() {
-        if roles[i] == role {
+    for (i, &found) in roles.iter().enumerate() {
+        if found == role {
             if left == 1 {
-                return i;
+                return Some(i);
             }
-            left = less_one(left);
+            left = left.saturating_sub(1);
         }
-        i += 1;
     }
-    0
-}
-
-// One less, and 0 where there is none less.
-fn less_one(n: usize) -> usize
-    ensures { result ≡ n - 1 }
-{
-    if n == 0 { 0 } else { n - 1 }
-}
-
-// The first of two places that is one.
-fn first_place(a: usize, b: usize) -> usize
-    ensures { result ≡ first_place a b }
-{
-    if a == 0 { b } else { a }
+    None
 }
 
 // Where an option stands that the program does not take.
-fn untaken_at(takes: bool, role: u8, roles: &[u8]) -> usize
+fn untaken_at(takes: bool, role: Role, roles: &[Role]) -> Option<usize>
     ensures { result ≡ untaken takes role roles.now }
 {
-    if takes { 0 } else { place_of(roles, role, 1) }
+    if takes {
+        None
+    } else {
+        place_of(roles, role, 1)
+    }
 }
 
 // Where an option stands at the end, whose value is missing.
-fn dangling_at(roles: &[u8]) -> usize
-    requires { 1 ≤ length roles.now }
+fn dangling_at(roles: &[Role]) -> Option<usize>
     ensures { result ≡ dangling roles.now }
 {
-    let last = roles.len() - 1;
-    if roles[last] == OUT_OPTION {
-        return last;
+    match roles {
+        [.., Role::OutOption | Role::ReachOption] => Some(roles.len() - 1),
+        _ => None,
     }
-    if roles[last] == REACH_OPTION {
-        return last;
-    }
-    0
 }
 
-// The argument that is wrong, 0 where none is.
-fn wrong_place(roles: &[u8], t: Takes) -> usize
-    requires { (1 ≤ length roles.now) × (t.most ≤ 4) }
+// The argument that is wrong.
+fn wrong_place(roles: &[Role], t: Takes) -> Option<usize>
+    requires { t.most ≤ 4 }
     ensures { result ≡ wrong_place t.out t.reach t.most roles.now }
 {
-    let a = first_place(
-        place_of(roles, OUT_OPTION, 2),
-        first_place(place_of(roles, REACH_OPTION, 2), dangling_at(roles)),
-    );
-    let b = first_place(place_of(roles, OPERAND, t.most + 1), a);
-    let c = first_place(untaken_at(t.reach, REACH_OPTION, roles), b);
-    let d = first_place(untaken_at(t.out, OUT_OPTION, roles), c);
-    first_place(place_of(roles, UNKNOWN, 1), d)
+    place_of(roles, Role::Unknown, 1)
+        .or(untaken_at(t.out, Role::OutOption, roles))
+        .or(untaken_at(t.reach, Role::ReachOption, roles))
+        .or(place_of(roles, Role::Operand, t.most + 1))
+        .or(place_of(roles, Role::OutOption, 2))
+        .or(place_of(roles, Role::ReachOption, 2))
+        .or(dangling_at(roles))
 }
 
 // Are there fewer operands than the program needs?
-fn too_few(roles: &[u8], least: usize) -> bool
+fn too_few(roles: &[Role], least: usize) -> bool
     ensures { result ≡ too_few least roles.now }
 {
-    least > 0 && place_of(roles, OPERAND, least) == 0
+    least > 0 && place_of(roles, Role::Operand, least).is_none()
 }
 
 // What the arguments ask of a program.
-pub fn asked_of(roles: &[u8], t: Takes) -> Asked
-    requires { (1 ≤ length roles.now) × (t.most ≤ 4) }
+pub fn asked_of(roles: &[Role], t: Takes) -> Asked
+    requires { t.most ≤ 4 }
     ensures { result ≡ asked_of t.out t.reach t.least t.most roles.now }
 {
-    if place_of(roles, HELP_OPTION, 1) > 0 {
+    if place_of(roles, Role::HelpOption, 1).is_some() {
         return Asked::Help;
     }
-    if place_of(roles, VERSION_OPTION, 1) > 0 {
+    if place_of(roles, Role::VersionOption, 1).is_some() {
         return Asked::Version;
     }
-    let wrong = wrong_place(roles, t);
-    if wrong > 0 {
-        return Asked::Wrong(wrong);
+    if let Some(i) = wrong_place(roles, t) {
+        return Asked::Wrong(i);
     }
     if too_few(roles, t.least) {
         return Asked::Missing;
@@ -196,30 +183,26 @@ pub fn asked_of(roles: &[u8], t: Takes) -> Asked
     Asked::Run
 }
 
-// Puts argument i at the front of the buffer and answers its length, or why it is not there.
-pub(crate) fn argument_or(rt: &HostRuntime, i: usize, text: &mut [u8]) -> io::Result<usize>
-    ensures size { length text.new ≡ length text.old }
-    ensures bound { IfOk result (λ n. n ≤ length text.new) }
+// The text of argument i, which goes into the buffer, or why it is not there.
+pub(crate) fn argument_or<'a>(rt: &HostRuntime, i: usize, buf: &'a mut [u8]) -> io::Result<&'a [u8]>
+    ensures { IfOk result (λ text. length text.now ≤ length buf.old) }
 {
-    match rt.arg(i, text) {
-        Ok(n) => Ok(n),
+    match rt.arg(i, buf) {
+        Ok(n) => Ok(&buf[..n]),
         Err(FillError::NotPresent) => Err(missing()),
         Err(FillError::TooLong) => Err(too_long()),
     }
 }
 
-// The same, and 0 where it is missing or longer than the buffer.
-pub(crate) fn argument(rt: &HostRuntime, i: usize, text: &mut [u8]) -> usize
-    ensures { (result ≤ length text.new) × (length text.new ≡ length text.old) }
-{
-    match argument_or(rt, i, text) {
-        Ok(n) => n,
-        Err(_) => 0,
-    }
+// The same, and nothing where it is missing or longer than the buffer.
+pub(crate) fn argument<'a>(rt: &HostRuntime, i: usize, buf: &'a mut [u8]) -> &'a [u8] {
+    argument_or(rt, i, buf).unwrap_or(&[])
 }
 
 // How many arguments there are, the program's name among them, and no more than the most.
-fn argument_count(rt: &HostRuntime, most: usize) -> usize {
+fn argument_count(rt: &HostRuntime, most: usize) -> usize
+    ensures { result ≤ most }
+{
     let mut byte = [0u8; 1];
     for n in 0..most {
         if let Err(FillError::NotPresent) = rt.arg(n, &mut byte) {
@@ -230,116 +213,83 @@ fn argument_count(rt: &HostRuntime, most: usize) -> usize {
 }
 
 // The role of argument i, behind one of the role `before`. A text of more than 4,096 bytes is no option, and no file has such a name.
-fn read_role(rt: &HostRuntime, i: usize, before: u8) -> u8 {
-    let mut text = buffer();
-    let n = argument(rt, i, &mut text);
-    role_of(before, &text[..n])
+fn read_role(rt: &HostRuntime, i: usize, before: Role) -> Role {
+    role_of(before, argument(rt, i, &mut buffer()))
 }
 
-// Fills in the roles of the arguments below `count`; the program's name, argument 0, keeps the role that it has.
-fn fill_roles(rt: &HostRuntime, roles: &mut [u8], count: usize)
-    requires { (1 ≤ count) × (count ≤ length roles.old) }
-    ensures { length roles.new ≡ length roles.old }
-{
-    let mut i = 1;
-    while i < count {
-        roles[i] = read_role(rt, i, roles[i - 1]);
-        i += 1;
-    }
-}
-
-// As many roles as there is room for; no program takes so many arguments, so that one among them is wrong.
-pub fn read_roles(rt: &HostRuntime, roles: &mut [u8]) -> usize
+// Fills in the roles of the arguments, but for the program's name, and answers how many there are. There are as many roles as there is room
+// for: no program takes so many arguments, so that one among them is wrong.
+pub fn read_roles(rt: &HostRuntime, roles: &mut [Role]) -> usize
     requires { 1 ≤ length roles.old }
     ensures { (1 ≤ result) × (result ≤ length roles.new) × (length roles.new ≡ length roles.old) }
 {
-    let count = within(argument_count(rt, roles.len()), roles.len());
-    fill_roles(rt, roles, count);
+    let count = argument_count(rt, roles.len()).max(1);
+    for i in 1..count {
+        roles[i] = read_role(rt, i, roles[i - 1]);
+    }
     count
 }
 
-// The nearest number from 1 to the most.
-fn within(n: usize, most: usize) -> usize
-    requires { 1 ≤ most }
-    ensures { (1 ≤ result) × (result ≤ most) }
+// The erasure bytes of a record of the card to convert, where the text names a conversion.
+pub fn edition_of(text: &[u8]) -> Option<usize>
+    ensures value { result ≡ edition_of text.now }
+    ensures bound { IfSome result (λ k. (old_erasure_bytes ≤ k) × (k ≤ erasure_bytes)) }
 {
-    if n == 0 {
-        return 1;
+    if same(text, b"to-new") {
+        return Some(OLD_ERASURE_BYTES);
     }
-    if n < most { n } else { most }
+    if same(text, b"to-old") {
+        return Some(ERASURE_BYTES);
+    }
+    None
 }
 
-// The erasure bytes of a record of the card to convert, 0 where the text names no conversion.
-pub fn edition_of(text: &[u8]) -> usize
-    ensures { result ≡ edition_of text.now }
-{
-    if is_text(text, b"to-new") {
-        return OLD_ERASURE_BYTES;
-    }
-    if is_text(text, b"to-old") {
-        return ERASURE_BYTES;
-    }
-    0
-}
-
-// The longest reach, 3 where the text names none.
-pub fn reach_in(text: &[u8]) -> u8
+// The longest reach, where the text names one.
+pub fn reach_in(text: &[u8]) -> Option<u8>
     ensures { result ≡ reach_in text.now }
 {
-    if is_text(text, b"0") {
-        return 0;
+    match text {
+        b"0" => Some(0),
+        b"1" => Some(1),
+        b"2" => Some(2),
+        _ => None,
     }
-    if is_text(text, b"1") {
-        return 1;
-    }
-    if is_text(text, b"2") { 2 } else { 3 }
 }
 
 // The window between two times, or what is wrong with them.
-pub fn window_of(first: Time, end: Time) -> Chosen
-    ensures { result ≡ window_chosen first end }
+pub fn window_of(first: Option<u8>, end: Option<u8>) -> Result<Window, WindowError>
+    ensures value { result ≡ window_chosen first end }
+    ensures window { IfOk result (λ w. is_window w ≡ true) }
 {
-    match first {
-        Time::Bad => Chosen::FirstBad,
-        Time::At(a) => match end {
-            Time::Bad => Chosen::EndBad,
-            Time::At(b) => {
-                let w = Window { first: a, end: b };
-                if is_window(w) {
-                    Chosen::Is(w)
-                } else {
-                    Chosen::NotBefore
-                }
-            }
-        },
+    let first = first.ok_or(WindowError::First)?;
+    let end = end.ok_or(WindowError::End)?;
+    let w = Window { first, end };
+    if is_window(w) {
+        Ok(w)
+    } else {
+        Err(WindowError::Order)
     }
 }
 
 // Is the file standard input?
-pub fn is_standard(place: usize, text: &[u8]) -> bool
+pub fn is_standard(place: Option<usize>, text: &[u8]) -> bool
     ensures { result ≡ is_standard place text.now }
 {
-    if place == 0 {
-        return true;
-    }
-    is_text(text, b"-")
+    place.is_none() || same(text, b"-")
 }
 
 // Does the name stand for a device?
 pub fn is_device(path: &[u8]) -> bool
     ensures { result ≡ is_device path.now }
 {
-    if path.len() < 5 {
-        return is_text(path, b"/dev/");
-    }
-    is_text(&path[..5], b"/dev/")
+    path.starts_with(b"/dev/")
 }
 
 // What the arguments ask of a program. Their roles go into the buffer.
-pub fn ask(rt: &HostRuntime, roles: &mut [u8], t: Takes) -> Asked
+pub fn ask(rt: &HostRuntime, roles: &mut [Role], t: Takes) -> Asked
     requires { (1 ≤ length roles.old) × (t.most ≤ 4) }
     ensures { length roles.new ≡ length roles.old }
 {
     let n = read_roles(rt, roles);
-    asked_of(front(roles, n), t)
+    asked_of(&roles[..n], t)
 }

@@ -1,7 +1,7 @@
 // Converts a card into the other edition. The file is read twice, first to ask and then to convert, so that a card that is refused leaves
 // nothing, and no card is held whole. The calls are the card crate's; here the file is read, and what they answer is written and said. k is
 // the number of erasure bytes of a record of the card, 4 or 5.
-ghost use Rattle.std.specs.Prelude.{◌≡◌, ◌⊎◌, ◌*◌, ◌^◌, ◌≤◌, ◌<◌, length};
+ghost use Rattle.std.specs.Prelude.{◌≡◌, ◌*◌, ◌^◌, ◌≤◌, ◌<◌, IfOk, IfSome, length};
 ghost use Rattle.card.specs.Record.{size_of, erasure_bytes};
 ghost use Rattle.card.specs.Conversion.{old_erasure_bytes, Converts, to_new_asked, to_old_asked};
 ghost use Rattle.card.specs.Batch.{batch_records, batch_size, most_batches};
@@ -10,20 +10,21 @@ ghost use Rattle.programs.specs.Convert.{other_edition, Converted, AsksCard, Acc
 ghost use Rattle.programs.specs.inner.Turns.{CanRead, CanWrite};
 ghost use Rattle.programs.specs.inner.Copies.{AsksBatch, CopiesBatch, CopiesSlots, copy_slots, copy_size, Fine};
 
-use crate::arguments::{Asked, OPERAND, OUT_VALUE, Takes, argument, ask, edition_of, place_of};
-use crate::files::{buffer, discard, front, open_card, open_target, publish};
-use crate::help::explain;
-use crate::input::{Input, input_of, read_batch};
-use crate::message::{Program, say, say_decimal, say_failure, say_name, say_wrong};
-use crate::output::{Output, output_of, write_part};
-use crate::status::Status;
-use crate::stream::{Stream, descriptor, no_cause, place_in, return_to};
+use crate::arguments::{Asked, Role, Takes, argument, edition_of, place_of};
+use crate::files::{Card, Target, buffer, discard, open_card, open_target, publish};
+use crate::help::{explain, run_asked};
+use crate::input::{Input, read_batch};
+use crate::message::{Program, ok_or_said, say, say_decimal, say_name, say_wrong};
+use crate::output::{Output, write_part};
+use crate::status::{Status, done_where};
+use crate::stream::{place, return_to};
 use card::conversion::{card_to_new, card_to_old};
 use card::parts::{Findings, found_number, found_verdict, nothing_found, see_part};
 use card::records::{ERASURE_BYTES, OLD_ERASURE_BYTES, size_of};
+use card::text::Text;
 use card::words::put_refusal;
 use card::{BATCH, BATCH_SLOTS, MOST_BATCHES};
-use field::{Question, Verdict};
+use field::Question;
 
 // So many slots are converted at a time: two buffers are held.
 const COPY_SLOTS: usize = 200;
@@ -39,30 +40,28 @@ pub struct Inquiry {
     pub input: Input,
 }
 
-// What was read and written in the second reading, and whether every batch was full, passed the questions again and was written.
+// What was read and written in the second reading. Each step answers how far it came, as an error where it could not go on.
 #[derive(Clone, Copy)]
 pub struct Copying {
     pub input: Input,
     pub output: Output,
-    pub fine: bool,
 }
 
 // Reads a batch into the buffer and asks it, where the questions have found s before it.
 fn ask_into(
     rt: &HostRuntime,
-    from: &Stream,
+    card: &Card,
     buf: &mut [u8],
     i: Input,
     k: usize,
     s: Findings,
-    file: &[u8],
 ) -> Inquiry
     requires { (length buf.old ≡ batch_size) × CanRead i × (k ≤ erasure_bytes) × (s.slots ≤ 2 ^ 62) }
     ensures { AsksBatch k s i result }
 {
     let size = size_of(k);
     let n = BATCH_SLOTS * size;
-    let input = read_batch(rt, from, i, &mut buf[..n], Program::Convert, file);
+    let input = read_batch(rt, card, i, &mut buf[..n]);
     let count = input.count();
     let findings = see_part(s, &buf[..count], k);
     Inquiry {
@@ -73,38 +72,28 @@ fn ask_into(
 }
 
 // The same with a buffer of its own: the proof above speaks of any buffer, and not of 55,600 zeros.
-fn ask_batch(
-    rt: &HostRuntime,
-    from: &Stream,
-    i: Input,
-    k: usize,
-    s: Findings,
-    file: &[u8],
-) -> Inquiry
+fn ask_batch(rt: &HostRuntime, card: &Card, i: Input, k: usize, s: Findings) -> Inquiry
     requires { CanRead i × (k ≤ erasure_bytes) × (s.slots ≤ 2 ^ 62) }
     ensures { AsksBatch k s i result }
 {
     let mut buf = [0u8; BATCH];
-    ask_into(rt, from, &mut buf, i, k, s, file)
+    ask_into(rt, card, &mut buf, i, k, s)
 }
 
 // Reads the card batch by batch to its end, or until a read fails, and asks all of it.
-fn ask_card(rt: &HostRuntime, from: &Stream, k: usize, file: &[u8]) -> Inquiry
+fn ask_card(rt: &HostRuntime, card: &Card, k: usize) -> Inquiry
     requires { k ≤ erasure_bytes }
     ensures { AsksCard k result }
 {
-    let fd = descriptor(from);
-    let mut input = input_of(fd);
+    let mut input = Input::new();
     let mut s = nothing_found();
-    let mut i: u64 = 0;
-    while i < MOST_BATCHES {
-        let inquiry = ask_batch(rt, from, input, k, s, file);
-        input = inquiry.input;
-        if !input.going() {
+    for _ in 0..MOST_BATCHES {
+        let inquiry = ask_batch(rt, card, input, k, s);
+        if !inquiry.input.going() {
             return inquiry;
         }
+        input = inquiry.input;
         s = inquiry.findings;
-        i += 1;
     }
     Inquiry {
         findings: s,
@@ -114,7 +103,7 @@ fn ask_card(rt: &HostRuntime, from: &Stream, k: usize, file: &[u8]) -> Inquiry
 }
 
 // Converts a batch by the call of its edition.
-fn convert(batch: &[u8], k: usize, out: &mut [u8]) -> Verdict
+fn convert(batch: &[u8], k: usize, out: &mut [u8]) -> Result<(), Question>
     ensures converts { k ≡ old_erasure_bytes
         → Converts old_erasure_bytes erasure_bytes (to_new_asked batch.now (length out.old)) batch.now
         out.old result out.new }
@@ -130,111 +119,70 @@ fn convert(batch: &[u8], k: usize, out: &mut [u8]) -> Verdict
 }
 
 // Writes the conversion of some slots.
-fn write_converted(
-    rt: &HostRuntime,
-    to: &Stream,
-    o: Output,
-    slots: &[u8],
-    k: usize,
-    out: &[u8],
-) -> Output
+fn write_converted(rt: &HostRuntime, to: &Target, o: Output, slots: &[u8], k: usize) -> Output
     requires { CanWrite o (length slots.now) × Converted k slots.now }
     ensures { Wrote o (length slots.now) result }
 {
-    write_part(rt, to, o, slots, Program::Convert, out)
+    write_part(rt, to, o, slots)
 }
 
 // Fills the buffer with slots again and writes them in the other edition. A batch that is short or refused has changed since it was asked.
 fn copy_slots(
     rt: &HostRuntime,
-    from: &Stream,
-    to: &Stream,
+    card: &Card,
+    to: &Target,
     buf: &mut [u8],
     other: &mut [u8],
     c: Copying,
     k: usize,
-    file: &[u8],
-    out: &[u8],
-) -> Copying
+) -> Result<Copying, Copying>
     requires { Fine c × (old_erasure_bytes ≤ k) × (k ≤ erasure_bytes) × (length buf.old ≤ copy_size) × (length other.old ≤ copy_size) }
-    ensures { CopiesBatch (length buf.old) (length other.old) c result }
+    ensures { IfOk result (CopiesBatch (length buf.old) (length other.old) c) }
 {
-    let before = c.input;
-    let o = c.output;
-    let input = read_batch(rt, from, before, buf, Program::Convert, file);
-    if !input.going() {
-        return Copying {
-            input,
-            output: o,
-            fine: false,
-        };
+    let input = read_batch(rt, card, c.input, buf);
+    if !input.going() || convert(buf, k, other).is_err() {
+        return Err(Copying { input, ..c });
     }
-    match convert(buf, k, other) {
-        Verdict::Passed => {
-            let output = write_converted(rt, to, o, other, k, out);
-            Copying {
-                input,
-                output,
-                fine: output.ok(),
-            }
-        }
-        Verdict::Refused(_) => Copying {
-            input,
-            output: o,
-            fine: false,
-        },
-    }
+    let output = write_converted(rt, to, c.output, other, k);
+    let copied = Copying { input, output };
+    if output.ok() { Ok(copied) } else { Err(copied) }
 }
 
 // Lends the parts of the buffers that `want` slots take.
 fn copy_part(
     rt: &HostRuntime,
-    from: &Stream,
-    to: &Stream,
+    card: &Card,
+    to: &Target,
     buf: &mut [u8],
     other: &mut [u8],
     c: Copying,
     k: usize,
     want: usize,
-    file: &[u8],
-    out: &[u8],
-) -> Copying
+) -> Result<Copying, Copying>
     requires buf_len { (length buf.old ≡ copy_size) × (length other.old ≡ copy_size) }
     requires fine { Fine c × (old_erasure_bytes ≤ k) × (k ≤ erasure_bytes) × (want ≤ copy_slots) }
-    ensures { CopiesBatch (want * size_of k) (want * size_of (other_edition k)) c result }
+    ensures { IfOk result (CopiesBatch (want * size_of k) (want * size_of (other_edition k)) c) }
 {
     let n = want * size_of(k);
     let m = want * size_of(OLD_ERASURE_BYTES + ERASURE_BYTES - k);
-    copy_slots(
-        rt,
-        from,
-        to,
-        &mut buf[..n],
-        &mut other[..m],
-        c,
-        k,
-        file,
-        out,
-    )
+    copy_slots(rt, card, to, &mut buf[..n], &mut other[..m], c, k)
 }
 
 // Reads `want` slots again and writes them, with buffers of its own.
 fn copy_batch(
     rt: &HostRuntime,
-    from: &Stream,
-    to: &Stream,
+    card: &Card,
+    to: &Target,
     c: Copying,
     k: usize,
     want: usize,
-    file: &[u8],
-    out: &[u8],
-) -> Copying
+) -> Result<Copying, Copying>
     requires { Fine c × (old_erasure_bytes ≤ k) × (k ≤ erasure_bytes) × (want ≤ copy_slots) }
-    ensures { CopiesBatch (want * size_of k) (want * size_of (other_edition k)) c result }
+    ensures { IfOk result (CopiesBatch (want * size_of k) (want * size_of (other_edition k)) c) }
 {
     let mut buf = [0u8; COPY];
     let mut other = [0u8; COPY];
-    copy_part(rt, from, to, &mut buf, &mut other, c, k, want, file, out)
+    copy_part(rt, card, to, &mut buf, &mut other, c, k, want)
 }
 
 // The slots of the next batch, where so many are left.
@@ -251,68 +199,57 @@ fn next_batch(left: u64) -> usize
 // Reads so many slots again and writes them in the other edition, batch by batch.
 fn copy_all(
     rt: &HostRuntime,
-    from: &Stream,
-    to: &Stream,
+    card: &Card,
+    to: &Target,
     k: usize,
     slots: u64,
-    file: &[u8],
-    out: &[u8],
-) -> Copying
+) -> Result<Copying, Copying>
     requires { (old_erasure_bytes ≤ k) × (k ≤ erasure_bytes) × (slots ≤ most_batches * batch_records) }
-    ensures { CopiesSlots k slots result }
+    ensures { IfOk result (CopiesSlots k slots) }
 {
     let mut c = Copying {
-        input: input_of(descriptor(from)),
-        output: output_of(descriptor(to)),
-        fine: true,
+        input: Input::new(),
+        output: Output::new(),
     };
     let mut left = slots;
     while left > 0 {
         let want = next_batch(left);
-        c = copy_batch(rt, from, to, c, k, want, file, out);
-        if !c.fine {
-            return c;
-        }
+        c = copy_batch(rt, card, to, c, k, want)?;
         left -= want as u64;
     }
-    c
+    Ok(c)
 }
 
 // The same, and the card must end there: one that goes on has changed too.
 fn copy_card(
     rt: &HostRuntime,
-    from: &Stream,
-    to: &Stream,
+    card: &Card,
+    to: &Target,
     k: usize,
     slots: u64,
-    file: &[u8],
-    out: &[u8],
-) -> Copying
+) -> Result<Copying, Copying>
     requires { (old_erasure_bytes ≤ k) × (k ≤ erasure_bytes) × (slots ≤ most_batches * batch_records) }
-    ensures { CopiesCard k slots result }
+    ensures { IfOk result (CopiesCard k slots) }
 {
-    let c = copy_all(rt, from, to, k, slots, file, out);
-    if !c.fine {
-        return c;
-    }
+    let c = copy_all(rt, card, to, k, slots)?;
     let mut one = [0u8; 1];
-    let before = c.input;
-    let output = c.output;
-    let input = read_batch(rt, from, before, &mut one, Program::Convert, file);
-    Copying {
-        input,
-        output,
-        fine: input.ended() && input.count() == 0,
+    let input = read_batch(rt, card, c.input, &mut one);
+    let copied = Copying { input, ..c };
+    if input.ended() && input.count() == 0 {
+        Ok(copied)
+    } else {
+        Err(copied)
     }
 }
 
 // Says which record is refused, and why. A length is refused where the card ends inside a record: so many bytes of it are there.
 fn say_refused(rt: &HostRuntime, number: u64, q: Question, rest: usize) {
-    let mut line = [0u8; 128];
-    let end = put_refusal(&mut line, 0, number, q);
+    let mut out = [0u8; 128];
+    let mut line = Text::new(&mut out);
+    put_refusal(&mut line, number, q);
     say_name(rt, Program::Convert);
     say(rt, b"nothing is written; the first record refused: ");
-    say(rt, &line[..end]);
+    say(rt, line.as_bytes());
     if rest > 0 {
         say_name(rt, Program::Convert);
         say(
@@ -326,9 +263,7 @@ fn say_refused(rt: &HostRuntime, number: u64, q: Question, rest: usize) {
 
 // Says that the card is not what it was when it was asked, where no read or write has said so.
 fn say_changed(rt: &HostRuntime, c: Copying, file: &[u8]) {
-    let input = c.input;
-    let output = c.output;
-    if output.ok() && !input.failed() {
+    if c.output.ok() && !c.input.failed() {
         say_name(rt, Program::Convert);
         say(rt, file);
         say(rt, b": the card changed while it was converted\n");
@@ -338,90 +273,66 @@ fn say_changed(rt: &HostRuntime, c: Copying, file: &[u8]) {
 // Ends the conversion: the file gets its name where the whole card was written, and is removed where not.
 fn end_converting(
     rt: &HostRuntime,
-    c: Copying,
+    copied: Result<Copying, Copying>,
     k: usize,
     slots: u64,
-    to: Stream,
-    file: &[u8],
-    out: &[u8],
-    temporary: &[u8],
+    card: &Card,
+    to: Target,
 ) -> Status
-    requires { CopiesCard k slots c }
-    ensures { EndsConverting c result }
+    requires { IfOk copied (CopiesCard k slots) }
+    ensures { EndsConverting copied result }
 {
-    let input = c.input;
-    let output = c.output;
-    if c.fine {
-        if publish(rt, Program::Convert, input, output, to, out, temporary) {
-            return Status::Done;
+    match copied {
+        Ok(c) => done_where(publish(rt, c.input, c.output, to)),
+        Err(c) => {
+            say_changed(rt, c, card.name);
+            discard(rt, to);
+            Status::NotDone
         }
-        return Status::NotDone;
     }
-    say_changed(rt, c, file);
-    discard(rt, to, temporary);
-    Status::NotDone
 }
 
 // Reads a card that no question refuses again from where it began, converts it, and ends the file that argument `to` names.
 fn convert_again(
     rt: &HostRuntime,
-    from: &mut Stream,
-    start: i64,
+    card: &mut Card,
+    start: u64,
     k: usize,
     asked: Inquiry,
-    to: usize,
-    file: &[u8],
+    to: Option<usize>,
 ) -> Status
     requires { (old_erasure_bytes ≤ k) × (k ≤ erasure_bytes) × Accepted k asked }
 {
-    let mut cause = no_cause();
-    if return_to(rt, from, start, &mut cause) != start {
-        say_failure(rt, Program::Convert, file, cause);
+    let back = return_to(rt, &mut card.stream, start);
+    if ok_or_said(rt, Program::Convert, card.name, back).is_none() {
         return Status::NotDone;
     }
-    let mut out = buffer();
+    let mut name = buffer();
     let mut temporary = buffer();
-    let target = open_target(rt, Program::Convert, to, &mut out, &mut temporary);
-    if !target.open {
+    let Some(target) = open_target(rt, Program::Convert, to, &mut name, &mut temporary) else {
         return Status::NotDone;
-    }
-    let m = target.len;
-    let n = target.temporary;
-    let s = asked.findings;
-    let slots = s.slots;
-    let c = copy_card(rt, from, &target.stream, k, slots, file, front(&out, m));
-    end_converting(
-        rt,
-        c,
-        k,
-        slots,
-        target.stream,
-        file,
-        front(&out, m),
-        front(&temporary, n),
-    )
+    };
+    let slots = asked.findings.slots;
+    let copied = copy_card(rt, card, &target, k, slots);
+    end_converting(rt, copied, k, slots, card, target)
 }
 
 // Asks the card, and converts it where no question refuses it.
-fn convert_card(rt: &HostRuntime, from: &mut Stream, k: usize, to: usize, file: &[u8]) -> Status
+fn convert_card(rt: &HostRuntime, card: &mut Card, k: usize, to: Option<usize>) -> Status
     requires { (old_erasure_bytes ≤ k) × (k ≤ erasure_bytes) }
 {
-    let mut cause = no_cause();
-    let start = place_in(rt, from, &mut cause);
-    if start < 0 {
-        say_failure(rt, Program::Convert, file, cause);
+    let Some(start) = ok_or_said(rt, Program::Convert, card.name, place(rt, &card.stream)) else {
         return Status::NotDone;
-    }
-    let inquiry = ask_card(rt, from, k, file);
-    let input = inquiry.input;
+    };
+    let inquiry = ask_card(rt, card, k);
     let s = inquiry.findings;
     let rest = inquiry.rest;
-    if !input.ended() {
+    if !inquiry.input.ended() {
         return Status::NotDone;
     }
     match found_verdict(s, rest) {
-        Verdict::Passed => convert_again(rt, from, start, k, inquiry, to, file),
-        Verdict::Refused(q) => {
+        Ok(()) => convert_again(rt, card, start, k, inquiry, to),
+        Err(q) => {
             say_refused(rt, found_number(s, rest), q, rest);
             Status::NotDone
         }
@@ -429,60 +340,55 @@ fn convert_card(rt: &HostRuntime, from: &mut Stream, k: usize, to: usize, file: 
 }
 
 // Converts the card that argument `place` names into the file that argument `to` names.
-fn convert_named(rt: &HostRuntime, k: usize, place: usize, to: usize) -> Status
+fn convert_named(rt: &HostRuntime, k: usize, place: Option<usize>, to: Option<usize>) -> Status
     requires { (old_erasure_bytes ≤ k) × (k ≤ erasure_bytes) }
 {
     let mut name = buffer();
-    let mut file = open_card(rt, Program::Convert, place, &mut name);
-    if !file.open {
+    let Some(mut card) = open_card(rt, Program::Convert, place, &mut name) else {
         return Status::NotDone;
-    }
-    let n = file.len;
-    convert_card(rt, &mut file.stream, k, to, front(&name, n))
+    };
+    convert_card(rt, &mut card, k, to)
 }
 
-// The erasure bytes of a record of the card that argument `place` says to convert.
-fn edition_at(rt: &HostRuntime, place: usize) -> usize
-    ensures { (result ≡ 0) ⊎ ((old_erasure_bytes ≤ result) × (result ≤ erasure_bytes)) }
+// The erasure bytes of a record of the card that argument `place` says to convert, where it says so.
+fn edition_at(rt: &HostRuntime, place: usize) -> Option<usize>
+    ensures { IfSome result (λ k. (old_erasure_bytes ≤ k) × (k ≤ erasure_bytes)) }
 {
-    let mut text = [0u8; 8];
-    let n = argument(rt, place, &mut text);
-    edition_of(&text[..n])
+    edition_of(argument(rt, place, &mut [0; 8]))
 }
 
 // Converts by the arguments that have these roles.
-fn convert_asked(rt: &HostRuntime, roles: &[u8]) -> Status {
-    let at = place_of(roles, OPERAND, 1);
-    let k = edition_at(rt, at);
-    if k == 0 {
+fn convert_asked(rt: &HostRuntime, roles: &[Role]) -> Status {
+    let Some(place) = place_of(roles, Role::Operand, 1) else {
+        return explain(rt, Program::Convert, Asked::Missing);
+    };
+    let Some(k) = edition_at(rt, place) else {
         say_wrong(
             rt,
             Program::Convert,
             b"the conversion is to-new or to-old, not ",
-            at,
+            place,
         );
         return Status::NotDone;
-    }
+    };
     convert_named(
         rt,
         k,
-        place_of(roles, OPERAND, 2),
-        place_of(roles, OUT_VALUE, 1),
+        place_of(roles, Role::Operand, 2),
+        place_of(roles, Role::OutValue, 1),
     )
 }
 
 // The program.
 pub fn run(rt: &HostRuntime) -> Status {
-    let mut roles = [0u8; 32];
     let takes = Takes {
         out: true,
-        reach: false,
-        least: 1,
-        most: 2,
+        ..Takes::operands(1, 2)
     };
-    let asked = ask(rt, &mut roles, takes);
-    match asked {
-        Asked::Run => convert_asked(rt, &roles),
-        _ => explain(rt, Program::Convert, asked),
-    }
+    run_asked(
+        rt,
+        Program::Convert,
+        takes,
+        |roles| convert_asked(rt, roles),
+    )
 }

@@ -7,69 +7,55 @@ ghost use Rattle.programs.specs.List.{Lines, ListsBatch, ListsCard, list_status}
 ghost use Rattle.programs.specs.inner.Lists.{ListsBatches};
 ghost use Rattle.programs.specs.inner.Turns.{BatchReady, CanWrite, can_go_on};
 
-use crate::arguments::{Asked, OPERAND, Takes, ask, place_of};
-use crate::files::{buffer, close_output, front, open_card};
-use crate::help::explain;
+use crate::answer::{Answered, answer_from};
+use crate::arguments::{Role, Takes, place_of};
+use crate::files::Card;
+use crate::help::run_asked;
 use crate::input::read_batch;
-use crate::message::{Program, say_old};
-use crate::output::{Output, is_well, write_part};
+use crate::message::Program;
+use crate::output::{Output, is_well, print_part};
 use crate::status::{Status, done_where};
-use crate::stream::{STDOUT_FILENO, Stream, descriptor};
-use crate::turn::{Turn, begin, goes_on};
-use card::text::{list_records, put_more, put_total};
-use card::{BATCH, LISTED_BATCHES, Totals};
+use crate::turn::{Turn, begin};
+use card::listing::{list_records, put_more, put_total};
+use card::text::Text;
+use card::{BATCH, LISTED_BATCHES, Progress, Totals};
 
 // Writes some lines of a listing.
 fn write_lines(rt: &HostRuntime, o: Output, lines: &[u8]) -> Output
     requires { CanWrite o (length lines.now) × Lines lines.now }
     ensures { Wrote o (length lines.now) result }
 {
-    write_part(
-        rt,
-        &Stream::StandardOutput,
-        o,
-        lines,
-        Program::List,
-        b"standard output",
-    )
+    print_part(rt, Program::List, o, lines)
 }
 
 // Lists a batch of at most 400 records.
-fn list_batch(rt: &HostRuntime, from: &Stream, t: Turn, file: &[u8]) -> Turn
+fn list_batch(rt: &HostRuntime, card: &Card, t: Turn<Progress>) -> Turn<Progress>
     requires { BatchReady t }
     ensures { ListsBatch t result }
 {
     let mut batch = [0u8; BATCH];
     let mut out = [0u8; 33600];
-    let before = t.input;
-    let progress = t.progress;
-    let input = read_batch(rt, from, before, &mut batch, Program::List, file);
-    let n = input.count();
-    let listed = list_records(&batch[..n], progress, &mut out);
-    let used = listed.used;
-    let o = t.output;
-    let output = write_lines(rt, o, &out[..used]);
-    let progress = listed.progress;
+    let input = read_batch(rt, card, t.input, &mut batch);
+    let mut lines = Text::new(&mut out);
+    let counts = list_records(&batch[..input.count()], t.counts, &mut lines);
+    let output = write_lines(rt, t.output, lines.as_bytes());
     Turn {
-        progress,
+        counts,
         input,
         output,
     }
 }
 
 // Lists batch after batch until the input ends, a read or write fails, or 1,000,000 records are listed.
-fn list_batches(rt: &HostRuntime, from: &Stream, file: &[u8]) -> Turn
+fn list_batches(rt: &HostRuntime, card: &Card) -> Turn<Progress>
     ensures { ListsBatches result }
 {
-    let fd = descriptor(from);
-    let mut t = begin(fd, STDOUT_FILENO);
-    let mut i: u64 = 0;
-    while i < LISTED_BATCHES {
-        if !goes_on(t) {
+    let mut t = begin();
+    for _ in 0..LISTED_BATCHES {
+        if !t.goes_on() {
             return t;
         }
-        t = list_batch(rt, from, t, file);
-        i += 1;
+        t = list_batch(rt, card, t);
     }
     t
 }
@@ -80,15 +66,9 @@ fn write_more(rt: &HostRuntime, o: Output) -> Output
     ensures { Wrote o (length more_line) result }
 {
     let mut out = [0u8; 8];
-    let used = put_more(&mut out, 0);
-    write_part(
-        rt,
-        &Stream::StandardOutput,
-        o,
-        &out[..used],
-        Program::List,
-        b"standard output",
-    )
+    let mut text = Text::new(&mut out);
+    put_more(&mut text);
+    print_part(rt, Program::List, o, text.as_bytes())
 }
 
 // Writes the last line.
@@ -97,116 +77,86 @@ fn write_total(rt: &HostRuntime, o: Output, t: Totals) -> Output
     ensures { Wrote o (length (total_line t)) result }
 {
     let mut out = [0u8; 80];
-    let used = put_total(&mut out, 0, t);
-    write_part(
-        rt,
-        &Stream::StandardOutput,
-        o,
-        &out[..used],
-        Program::List,
-        b"standard output",
-    )
+    let mut text = Text::new(&mut out);
+    put_total(&mut text, t);
+    print_part(rt, Program::List, o, text.as_bytes())
 }
 
 // Ends a listing of 1,000,000 records: the line "more" where the card goes on, and the totals.
-fn end_full(rt: &HostRuntime, from: &Stream, t: Turn, file: &[u8]) -> Turn
+fn end_full(rt: &HostRuntime, card: &Card, t: Turn<Progress>) -> Turn<Progress>
     requires { ListsBatches t × (can_go_on t ≡ true) }
     ensures { ListsCard result }
 {
     let mut one = [0u8; 1];
-    let progress = t.progress;
-    let totals = progress.totals;
-    let before = t.input;
-    let o = t.output;
-    let input = read_batch(rt, from, before, &mut one, Program::List, file);
+    let input = read_batch(rt, card, t.input, &mut one);
     if input.count() == 0 {
         return Turn {
-            progress,
             input,
-            output: write_total(rt, o, totals),
+            output: write_total(rt, t.output, t.counts.totals),
+            ..t
         };
     }
-    let output = write_more(rt, o);
+    let output = write_more(rt, t.output);
     if !output.ok() {
-        return Turn {
-            progress,
-            input,
-            output,
-        };
+        return Turn { input, output, ..t };
     }
     Turn {
-        progress,
         input,
-        output: write_total(rt, output, totals),
+        output: write_total(rt, output, t.counts.totals),
+        ..t
     }
 }
 
 // Ends a listing. Where a write has failed nothing more is written; where a read has failed the card is taken to end there.
-fn end_listing(rt: &HostRuntime, from: &Stream, t: Turn, file: &[u8]) -> Turn
+fn end_listing(rt: &HostRuntime, card: &Card, t: Turn<Progress>) -> Turn<Progress>
     requires { ListsBatches t }
     ensures { ListsCard result }
 {
-    let output = t.output;
-    if !output.ok() {
+    if !t.output.ok() {
         return t;
     }
-    let input = t.input;
-    if input.going() {
-        return end_full(rt, from, t, file);
+    if t.input.going() {
+        return end_full(rt, card, t);
     }
-    let progress = t.progress;
-    let totals = progress.totals;
     Turn {
-        progress,
-        input,
-        output: write_total(rt, output, totals),
+        output: write_total(rt, t.output, t.counts.totals),
+        ..t
     }
 }
 
 // Lists the card.
-fn list_card(rt: &HostRuntime, from: &Stream, file: &[u8]) -> Turn
+fn list_card(rt: &HostRuntime, card: &Card) -> Turn<Progress>
     ensures { ListsCard result }
 {
-    end_listing(rt, from, list_batches(rt, from, file), file)
+    end_listing(rt, card, list_batches(rt, card))
 }
 
 // How the listing ended.
-fn status_of(t: Turn) -> Status
+fn status_of(t: Turn<Progress>) -> Status
     ensures { result ≡ list_status t }
 {
-    let input = t.input;
-    let output = t.output;
-    done_where(is_well(input, output))
+    done_where(is_well(t.input, t.output))
 }
 
-// Lists the card that argument `place` names.
-fn list_named(rt: &HostRuntime, place: usize) -> Status {
-    let mut name = buffer();
-    let file = open_card(rt, Program::List, place, &mut name);
-    if !file.open {
-        return Status::NotDone;
+// What was read and written, and how that ended.
+fn answer(t: Turn<Progress>) -> Answered
+    ensures { result ≡ record { input = t.input; output = t.output; status = list_status t } }
+{
+    Answered {
+        input: t.input,
+        output: t.output,
+        status: status_of(t),
     }
-    let n = file.len;
-    let t = list_card(rt, &file.stream, front(&name, n));
-    let input = t.input;
-    if input.ended() {
-        say_old(rt, Program::List, front(&name, n), input.total());
-    }
-    close_output(rt, Program::List, status_of(t))
 }
 
 // The program.
 pub fn run(rt: &HostRuntime) -> Status {
-    let mut roles = [0u8; 32];
-    let takes = Takes {
-        out: false,
-        reach: false,
-        least: 0,
-        most: 1,
-    };
-    let asked = ask(rt, &mut roles, takes);
-    match asked {
-        Asked::Run => list_named(rt, place_of(&roles, OPERAND, 1)),
-        _ => explain(rt, Program::List, asked),
-    }
+    run_asked(rt, Program::List, Takes::operands(0, 1), |roles| {
+        answer_from(
+            rt,
+            Program::List,
+            place_of(roles, Role::Operand, 1),
+            |card| { answer(list_card(rt, card)) },
+        )
+    })
 }

@@ -3,14 +3,14 @@
 ghost use Rattle.std.specs.Prelude.{◌≡◌, true};
 ghost use Rattle.programs.specs.Write.{TakesText, all_taken, EndsWriting};
 
-use crate::arguments::{Asked, OPERAND, OUT_VALUE, Takes, ask, place_of};
-use crate::files::{buffer, discard, front, open_card, open_target, publish};
-use crate::help::explain;
+use crate::arguments::{Role, Takes, place_of};
+use crate::files::{Card, Target, buffer, discard, open_card, open_target, publish};
+use crate::help::run_asked;
 use crate::intake::{Taken, goes_on, take_text};
-use crate::message::{Program, say, say_decimal, say_failure, say_name};
-use crate::status::Status;
-use crate::stream::{Stream, no_cause, place_in, return_to};
-use card_csv::{Fault, TextVerdict};
+use crate::message::{Program, ok_or_said, say, say_decimal, say_name};
+use crate::status::{Status, done_where};
+use crate::stream::{place, return_to};
+use card_csv::{Fault, TextFault};
 
 // Says which line is refused.
 fn say_line(rt: &HostRuntime, file: &[u8], line: u64) {
@@ -43,23 +43,19 @@ fn say_header(rt: &HostRuntime, file: &[u8], line: u64) {
 
 // Says which line is refused, and why; a text without lines has no header. Where a write failed that is said instead.
 fn say_verdict(rt: &HostRuntime, t: Taken, file: &[u8]) {
-    let state = t.state;
-    let input = t.input;
-    let output = t.output;
-    let lines = state.lines;
-    let verdict = state.verdict;
-    if !output.ok() {
+    let lines = t.state.lines;
+    if !t.output.ok() {
         return;
     }
-    match verdict {
-        TextVerdict::Fine => {
-            if lines == 0 && input.ended() {
+    match t.state.verdict {
+        Ok(()) => {
+            if lines == 0 && t.input.ended() {
                 say_header(rt, file, 1);
             }
         }
-        TextVerdict::NoHeader => say_header(rt, file, lines),
-        TextVerdict::Wrong(fault) => say_fault(rt, file, lines, fault),
-        TextVerdict::TooLong => {
+        Err(TextFault::NoHeader) => say_header(rt, file, lines),
+        Err(TextFault::Wrong(fault)) => say_fault(rt, file, lines, fault),
+        Err(TextFault::TooLong) => {
             say_line(rt, file, lines);
             say(rt, b": the line is longer than that of any sheet\n");
         }
@@ -70,96 +66,76 @@ fn say_verdict(rt: &HostRuntime, t: Taken, file: &[u8]) {
 fn is_accepted(t: Taken) -> bool
     ensures { result ≡ all_taken t }
 {
-    let input = t.input;
-    let state = t.state;
-    if !input.ended() {
+    if !t.input.ended() {
         return false;
     }
-    state.lines > 0 && goes_on(t)
+    t.state.lines > 0 && goes_on(t)
 }
 
 // Ends the card: the file gets its name where all lines were taken and written, and is removed where not.
-fn end_writing(rt: &HostRuntime, t: Taken, to: Stream, out: &[u8], temporary: &[u8]) -> Status
+fn end_writing(rt: &HostRuntime, t: Taken, to: Target) -> Status
     requires { TakesText true t }
     ensures { EndsWriting t result }
 {
     if !is_accepted(t) {
-        discard(rt, to, temporary);
+        discard(rt, to);
         return Status::NotDone;
     }
-    let input = t.input;
-    let output = t.output;
-    if publish(rt, Program::Write, input, output, to, out, temporary) {
-        Status::Done
-    } else {
-        Status::NotDone
-    }
+    done_where(publish(rt, t.input, t.output, to))
 }
 
 // Writes the card of the text that is open into the file that argument `to` names.
-fn write_card(rt: &HostRuntime, from: &Stream, to: usize, file: &[u8]) -> Status {
-    let mut out = buffer();
+fn write_card(rt: &HostRuntime, card: &Card, to: Option<usize>) -> Status {
+    let mut name = buffer();
     let mut temporary = buffer();
-    let target = open_target(rt, Program::Write, to, &mut out, &mut temporary);
-    if !target.open {
+    let Some(target) = open_target(rt, Program::Write, to, &mut name, &mut temporary) else {
         return Status::NotDone;
-    }
-    let n = target.len;
-    let k = target.temporary;
-    let t = take_text(rt, from, &target.stream, true, file, front(&out, n));
-    say_verdict(rt, t, file);
-    end_writing(rt, t, target.stream, front(&out, n), front(&temporary, k))
+    };
+    let t = take_text(rt, card, Some(&target));
+    say_verdict(rt, t, card.name);
+    end_writing(rt, t, target)
 }
 
 // Reads the text a first time where it can be read twice, and goes back to where it began; answers whether its card may be written.
-fn is_asked(rt: &HostRuntime, from: &mut Stream, file: &[u8]) -> bool {
-    let mut cause = no_cause();
-    let start = place_in(rt, from, &mut cause);
-    if start < 0 {
+fn is_asked(rt: &HostRuntime, card: &mut Card) -> bool {
+    let Ok(start) = place(rt, &card.stream) else {
         return true;
-    }
-    let asked = take_text(rt, from, &Stream::Nothing, false, file, file);
-    say_verdict(rt, asked, file);
+    };
+    let asked = take_text(rt, card, None);
+    say_verdict(rt, asked, card.name);
     if !is_accepted(asked) {
         return false;
     }
-    if return_to(rt, from, start, &mut cause) != start {
-        say_failure(rt, Program::Write, file, cause);
-        return false;
-    }
-    true
+    let back = return_to(rt, &mut card.stream, start);
+    ok_or_said(rt, Program::Write, card.name, back).is_some()
 }
 
 // Writes the card of the text that argument `place` names.
-fn write_named(rt: &HostRuntime, place: usize, to: usize) -> Status {
+fn write_named(rt: &HostRuntime, place: Option<usize>, to: Option<usize>) -> Status {
     let mut name = buffer();
-    let mut file = open_card(rt, Program::Write, place, &mut name);
-    if !file.open {
+    let Some(mut card) = open_card(rt, Program::Write, place, &mut name) else {
+        return Status::NotDone;
+    };
+    if !is_asked(rt, &mut card) {
         return Status::NotDone;
     }
-    let n = file.len;
-    if !is_asked(rt, &mut file.stream, front(&name, n)) {
-        return Status::NotDone;
-    }
-    write_card(rt, &file.stream, to, front(&name, n))
+    write_card(rt, &card, to)
 }
 
 // The program.
 pub fn run(rt: &HostRuntime) -> Status {
-    let mut roles = [0u8; 32];
     let takes = Takes {
         out: true,
-        reach: false,
-        least: 0,
-        most: 1,
+        ..Takes::operands(0, 1)
     };
-    let asked = ask(rt, &mut roles, takes);
-    match asked {
-        Asked::Run => write_named(
+    run_asked(
+        rt,
+        Program::Write,
+        takes,
+        |roles| write_named(
             rt,
-            place_of(&roles, OPERAND, 1),
-            place_of(&roles, OUT_VALUE, 1),
+            place_of(roles, Role::Operand, 1),
+            place_of(roles, Role::OutValue, 1),
         ),
-        _ => explain(rt, Program::Write, asked),
-    }
+    )
 }

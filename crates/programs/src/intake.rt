@@ -1,18 +1,18 @@
 // A text of day sheets taken part by part: it is read into a buffer, the csv crate makes records of the lines that end there, and these are
 // written at once, where records are written. The piece of a line behind them is kept for the next part.
-ghost use Rattle.std.specs.Prelude.{◌≡◌, true, ◌+◌, ◌^◌, ◌≤◌, length};
+ghost use Rattle.std.specs.Prelude.{◌≡◌, true, ◌+◌, ◌^◌, ◌≤◌, length, is_some};
 ghost use Rattle.card_csv.specs.inner.Room.{text_size, records_room};
 ghost use Rattle.programs.specs.Stream.{has_ended, Wrote};
 ghost use Rattle.programs.specs.Write.{PartOfCard, TakesText};
 ghost use Rattle.programs.specs.inner.Turns.{CanRead, CanWrite};
-ghost use Rattle.programs.specs.inner.Cuts.{MovesFront, ReadsOn, TakesParts, goes_further, is_open, refused_long};
+ghost use Rattle.programs.specs.inner.Cuts.{ReadsOn, TakesParts, goes_further, is_open, refused_long};
 
-use crate::input::{Input, input_of, read_batch};
-use crate::message::Program;
-use crate::output::{Output, output_of, write_part};
-use crate::stream::{Stream, descriptor};
+use crate::files::{Card, Target};
+use crate::input::{Input, read_batch};
+use crate::output::{Output, write_part};
+use card::text::Text;
 use card_csv::making::{RECORDS, TEXT, is_fine, make_last, make_records};
-use card_csv::{TextState, TextVerdict};
+use card_csv::{TextFault, TextState};
 
 // No text has more parts: 2^42 of them.
 const MOST_PARTS: u64 = 4398046511104;
@@ -27,169 +27,102 @@ pub struct Taken {
 }
 
 // Writes records of the card, behind those that were written.
-fn write_records(rt: &HostRuntime, to: &Stream, o: Output, bytes: &[u8], out: &[u8]) -> Output
+fn write_records(rt: &HostRuntime, to: &Target, o: Output, bytes: &[u8]) -> Output
     requires { CanWrite o (length bytes.now) × PartOfCard o bytes.now }
     ensures { Wrote o (length bytes.now) result }
 {
-    write_part(rt, to, o, bytes, Program::Write, out)
+    write_part(rt, to, o, bytes)
 }
 
 // The same, where records are written.
-fn put_records(
-    rt: &HostRuntime,
-    to: &Stream,
-    o: Output,
-    bytes: &[u8],
-    write: bool,
-    out: &[u8],
-) -> Output
-    requires { write ≡ true → CanWrite o (length bytes.now) × PartOfCard o bytes.now }
-    ensures { write ≡ true → Wrote o (length bytes.now) result }
+fn put_records(rt: &HostRuntime, to: Option<&Target>, o: Output, bytes: &[u8]) -> Output
+    requires { is_some to ≡ true → CanWrite o (length bytes.now) × PartOfCard o bytes.now }
+    ensures { is_some to.entry ≡ true → Wrote o (length bytes.now) result }
 {
-    if !write {
-        return o;
-    }
-    write_records(rt, to, o, bytes, out)
-}
-
-// Moves the bytes from `from` up to `end` to the front of the buffer.
-fn move_front(buf: &mut [u8], from: usize, end: usize)
-    requires { (length buf.old ≡ text_size) × (from ≤ end) × (end ≤ text_size) }
-    ensures { MovesFront buf.old from end buf.new }
-{
-    let mut i = 0;
-    let mut at = from;
-    while at < end {
-        buf[i] = buf[at];
-        i += 1;
-        at += 1;
+    match to {
+        Some(to) => write_records(rt, to, o, bytes),
+        None => o,
     }
 }
 
 // Reads on behind what is kept of a line.
-fn read_on(
-    rt: &HostRuntime,
-    from: &Stream,
-    i: Input,
-    buf: &mut [u8],
-    kept: usize,
-    file: &[u8],
-) -> Input
+fn read_on(rt: &HostRuntime, card: &Card, i: Input, buf: &mut [u8], kept: usize) -> Input
     requires { CanRead i × (length buf.old ≡ text_size) × (kept ≤ text_size) }
     ensures { ReadsOn i kept buf.old result buf.new }
 {
-    read_batch(rt, from, i, &mut buf[kept..], Program::Write, file)
+    read_batch(rt, card, i, &mut buf[kept..])
 }
 
 // Was no line refused, and has every write succeeded?
 pub fn goes_on(t: Taken) -> bool
     ensures { result ≡ goes_further t }
 {
-    let state = t.state;
-    let output = t.output;
-    is_fine(state) && output.ok()
+    is_fine(t.state) && t.output.ok()
 }
 
 // Can more be read, and what is made of it be written?
 fn is_open(t: Taken) -> bool
     ensures { result ≡ is_open t }
 {
-    let input = t.input;
     if t.kept >= TEXT {
         return false;
     }
-    input.going() && goes_on(t)
+    t.input.going() && goes_on(t)
 }
 
 // Reads a part of the text, takes the lines that end there, and keeps the piece behind them.
-fn take_part(
-    rt: &HostRuntime,
-    from: &Stream,
-    to: &Stream,
-    buf: &mut [u8],
-    records: &mut [u8],
-    t: Taken,
-    write: bool,
-    file: &[u8],
-    out: &[u8],
-) -> Taken
-    requires { (length records.old ≡ records_room) × TakesParts write (2 ^ 55) (2 ^ 62) t buf.old × (is_open t ≡ true) }
-    ensures records_len { length records.new ≡ records_room }
-    ensures takes_parts { TakesParts write (t.input.read + text_size) (t.output.written + records_room) result buf.new }
+fn take_part(rt: &HostRuntime, card: &Card, to: Option<&Target>, buf: &mut [u8], t: Taken) -> Taken
+    requires { TakesParts (is_some to) (2 ^ 55) (2 ^ 62) t buf.old × (is_open t ≡ true) }
+    ensures { TakesParts (is_some to.entry) (t.input.read + text_size) (t.output.written + records_room) result buf.new }
 {
-    let kept = t.kept;
-    let before = t.input;
-    let s = t.state;
-    let o = t.output;
-    let input = read_on(rt, from, before, buf, kept, file);
-    let n = kept + input.count();
-    let made = make_records(&buf[..n], s, records);
-    let taken = made.taken;
-    let used = made.used;
-    let state = made.state;
-    let output = put_records(rt, to, o, &records[..used], write, out);
-    move_front(buf, taken, n);
+    let input = read_on(rt, card, t.input, buf, t.kept);
+    let end = t.kept + input.count();
+    let mut out = [0u8; RECORDS];
+    let mut records = Text::new(&mut out);
+    let made = make_records(&buf[..end], t.state, &mut records);
+    let output = put_records(rt, to, t.output, records.as_bytes());
+    buf.copy_within(made.taken..end, 0);
     Taken {
-        state,
+        state: made.state,
         input,
         output,
-        kept: n - taken,
+        kept: end - made.taken,
     }
 }
 
 // Takes the text part by part until it ends, a line is refused or has no end, or a read or write fails.
 fn take_parts(
     rt: &HostRuntime,
-    from: &Stream,
-    to: &Stream,
+    card: &Card,
+    to: Option<&Target>,
     buf: &mut [u8],
-    records: &mut [u8],
     begun: Taken,
-    write: bool,
-    file: &[u8],
-    out: &[u8],
 ) -> Taken
-    requires { (length records.old ≡ records_room) × TakesParts write 0 0 begun buf.old }
-    ensures records_len { length records.new ≡ records_room }
-    ensures takes_parts { TakesParts write (2 ^ 55) (2 ^ 62) result buf.new }
+    requires { TakesParts (is_some to) 0 0 begun buf.old }
+    ensures { TakesParts (is_some to.entry) (2 ^ 55) (2 ^ 62) result buf.new }
 {
     let mut t = begun;
-    let mut i: u64 = 0;
-    while i < MOST_PARTS {
+    for _ in 0..MOST_PARTS {
         if !is_open(t) {
             return t;
         }
-        t = take_part(rt, from, to, buf, records, t, write, file, out);
-        i += 1;
+        t = take_part(rt, card, to, buf, t);
     }
     t
 }
 
 // Takes the last line of a text that has ended: it may come without its end.
-fn take_last(
-    rt: &HostRuntime,
-    to: &Stream,
-    buf: &[u8],
-    records: &mut [u8],
-    t: Taken,
-    write: bool,
-    out: &[u8],
-) -> Taken
-    requires records_len { (length records.old ≡ records_room) × TakesParts write (2 ^ 55) (2 ^ 62) t buf.now }
-    requires t_value { (goes_further t ≡ true) × (has_ended t.input ≡ true) }
-    ensures { TakesText write result }
+fn take_last(rt: &HostRuntime, to: Option<&Target>, buf: &[u8], t: Taken) -> Taken
+    requires { TakesParts (is_some to) (2 ^ 55) (2 ^ 62) t buf.now × (goes_further t ≡ true) × (has_ended t.input ≡ true) }
+    ensures { TakesText (is_some to.entry) result }
 {
-    let kept = t.kept;
-    let input = t.input;
-    let s = t.state;
-    let o = t.output;
-    let made = make_last(&buf[..kept], s, records);
-    let used = made.used;
-    let state = made.state;
-    let output = put_records(rt, to, o, &records[..used], write, out);
+    let mut out = [0u8; RECORDS];
+    let mut records = Text::new(&mut out);
+    let made = make_last(&buf[..t.kept], t.state, &mut records);
+    let output = put_records(rt, to, t.output, records.as_bytes());
     Taken {
-        state,
-        input,
+        state: made.state,
+        input: t.input,
         output,
         kept: 0,
     }
@@ -200,40 +133,26 @@ fn refuse_long(t: Taken) -> Taken
     requires { t.state.lines ≤ 2 ^ 62 }
     ensures { result ≡ refused_long t }
 {
-    let s = t.state;
-    let input = t.input;
-    let output = t.output;
     Taken {
         state: TextState {
-            full: s.full,
-            lines: s.lines + 1,
-            verdict: TextVerdict::TooLong,
+            lines: t.state.lines + 1,
+            verdict: Err(TextFault::TooLong),
+            ..t.state
         },
-        input,
-        output,
-        kept: t.kept,
+        ..t
     }
 }
 
 // Takes what is kept behind the last part: the last line, a line that is too long, or nothing.
-fn take_rest(
-    rt: &HostRuntime,
-    to: &Stream,
-    buf: &[u8],
-    records: &mut [u8],
-    t: Taken,
-    write: bool,
-    out: &[u8],
-) -> Taken
-    requires { (length records.old ≡ records_room) × TakesParts write (2 ^ 55) (2 ^ 62) t buf.now }
-    ensures { TakesText write result }
+fn take_rest(rt: &HostRuntime, to: Option<&Target>, buf: &[u8], t: Taken) -> Taken
+    requires { TakesParts (is_some to) (2 ^ 55) (2 ^ 62) t buf.now }
+    ensures { TakesText (is_some to.entry) result }
 {
-    let input = t.input;
     if !goes_on(t) {
         return t;
     }
-    if input.ended() {
-        return take_last(rt, to, buf, records, t, write, out);
+    if t.input.ended() {
+        return take_last(rt, to, buf, t);
     }
     if t.kept == TEXT {
         return refuse_long(t);
@@ -241,39 +160,21 @@ fn take_rest(
     t
 }
 
-// Takes the text; records are written where that is said.
-pub fn take_text(
-    rt: &HostRuntime,
-    from: &Stream,
-    to: &Stream,
-    write: bool,
-    file: &[u8],
-    out: &[u8],
-) -> Taken
-    ensures { TakesText write result }
+// Takes the text; records are written where there is a file for them.
+pub fn take_text(rt: &HostRuntime, card: &Card, to: Option<&Target>) -> Taken
+    ensures { TakesText (is_some to.entry) result }
 {
     let mut buf = [0u8; TEXT];
-    let mut records = [0u8; RECORDS];
     let begun = Taken {
         state: TextState {
             full: false,
             lines: 0,
-            verdict: TextVerdict::Fine,
+            verdict: Ok(()),
         },
-        input: input_of(descriptor(from)),
-        output: output_of(descriptor(to)),
+        input: Input::new(),
+        output: Output::new(),
         kept: 0,
     };
-    let t = take_parts(
-        rt,
-        from,
-        to,
-        &mut buf,
-        &mut records,
-        begun,
-        write,
-        file,
-        out,
-    );
-    take_rest(rt, to, &buf, &mut records, t, write, out)
+    let t = take_parts(rt, card, to, &mut buf, begun);
+    take_rest(rt, to, &buf, t)
 }

@@ -1,6 +1,7 @@
 // The bodies of the command-line programs: each answers its status.
 #![tactic(auto)]
 
+pub mod answer;
 pub mod arguments;
 pub mod cardcheck;
 pub mod cardcompare;

@@ -1,10 +1,11 @@
 // What the programs say on standard error.
-ghost use Rattle.std.specs.Prelude.{◌≡◌};
+ghost use Rattle.std.specs.Prelude.{◌≡◌, ◌≤◌, length};
+ghost use Rattle.std.specs.Result.{result_ok};
 ghost use Rattle.programs.specs.Stream.{looks_old};
 
 use crate::arguments::argument;
 use crate::files::{buffer, front};
-use card::text::put_decimal;
+use card::text::Text;
 use std::io;
 use std::io::{Cursor, Write};
 
@@ -22,6 +23,24 @@ pub enum Program {
     Compare,
 }
 
+impl Program {
+    pub fn name(self) -> &'static [u8]
+        ensures { length result.now ≤ 11 }
+    {
+        match self {
+            Program::List => b"cardlist",
+            Program::Restore => b"cardrestore",
+            Program::Check => b"cardcheck",
+            Program::Convert => b"cardconvert",
+            Program::Starts => b"cardstarts",
+            Program::Sheets => b"cardsheets",
+            Program::Write => b"cardwrite",
+            Program::Look => b"cardlook",
+            Program::Compare => b"cardcompare",
+        }
+    }
+}
+
 // Writes a text on standard error. Where that fails there is nobody left to tell.
 pub fn say(rt: &HostRuntime, text: &[u8]) {
     let _ = rt.stderr().write_all(text);
@@ -29,17 +48,8 @@ pub fn say(rt: &HostRuntime, text: &[u8]) {
 
 // The program's name, which each message begins with.
 pub fn say_name(rt: &HostRuntime, p: Program) {
-    match p {
-        Program::List => say(rt, b"cardlist: "),
-        Program::Restore => say(rt, b"cardrestore: "),
-        Program::Check => say(rt, b"cardcheck: "),
-        Program::Convert => say(rt, b"cardconvert: "),
-        Program::Starts => say(rt, b"cardstarts: "),
-        Program::Sheets => say(rt, b"cardsheets: "),
-        Program::Write => say(rt, b"cardwrite: "),
-        Program::Look => say(rt, b"cardlook: "),
-        Program::Compare => say(rt, b"cardcompare: "),
-    }
+    say(rt, p.name());
+    say(rt, b": ");
 }
 
 // Says that a call on the file has failed, and why.
@@ -51,6 +61,24 @@ pub fn say_failure(rt: &HostRuntime, p: Program, file: &[u8], cause: io::Error) 
     say(rt, b"\n");
 }
 
+// What a call on the file answered; where it has failed that is said.
+pub(crate) fn ok_or_said<T>(
+    rt: &HostRuntime,
+    p: Program,
+    file: &[u8],
+    answer: io::Result<T>,
+) -> Option<T>
+    ensures { result ≡ result_ok answer }
+{
+    match answer {
+        Ok(x) => Some(x),
+        Err(e) => {
+            say_failure(rt, p, file, e);
+            None
+        }
+    }
+}
+
 // Says the system's words for a cause, without its number.
 fn say_cause(rt: &HostRuntime, cause: io::Error) {
     let mut words = Cursor::new([0u8; 256]);
@@ -60,44 +88,38 @@ fn say_cause(rt: &HostRuntime, cause: io::Error) {
     if n > text.len() {
         return;
     }
-    match str::from_utf8(front(&text, n)) {
-        Ok(all) => match all.split_once(" (os error ") {
-            Some((reason, _)) => say(rt, reason.as_bytes()),
-            None => say(rt, all.as_bytes()),
-        },
-        Err(_) => {}
-    }
+    let Ok(all) = str::from_utf8(front(&text, n)) else {
+        return;
+    };
+    let reason = match all.split_once(" (os error ") {
+        Some((reason, _)) => reason,
+        None => all,
+    };
+    say(rt, reason.as_bytes());
 }
 
 // Says a number.
+#[tactic(auto, using(card::proofs::Writing::appending))]
 pub(crate) fn say_decimal(rt: &HostRuntime, n: u64) {
-    let mut digits = [0u8; 20];
-    let used = put_decimal(&mut digits, 0, n);
-    say(rt, &digits[..used]);
+    let mut out = [0u8; 20];
+    let mut digits = Text::new(&mut out);
+    digits.put_decimal(n);
+    say(rt, digits.as_bytes());
 }
 
-// Says how the program is called.
+// Says how the program is called: the first line of its help.
 pub fn say_usage(rt: &HostRuntime, p: Program) {
-    match p {
-        Program::List => say(rt, b"usage: cardlist [FILE]\n"),
-        Program::Restore => say(rt, b"usage: cardrestore [-o OUT] [--reach 0|1|2] [FILE]\n"),
-        Program::Check => say(rt, b"usage: cardcheck [FILE]\n"),
-        Program::Convert => say(rt, b"usage: cardconvert to-new|to-old [-o OUT] [FILE]\n"),
-        Program::Starts => say(rt, b"usage: cardstarts FIRST END [FILE]\n"),
-        Program::Sheets => say(rt, b"usage: cardsheets [FILE]\n"),
-        Program::Write => say(rt, b"usage: cardwrite [-o OUT] [FILE]\n"),
-        Program::Look => say(rt, b"usage: cardlook N [FILE]\n"),
-        Program::Compare => say(rt, b"usage: cardcompare N FILE M FILE\n"),
+    if let Some((usage, _)) = p.help().split_once('\n') {
+        say(rt, usage.as_bytes());
+        say(rt, b"\n");
     }
 }
 
 // Says what is wrong with argument i.
 pub fn say_wrong(rt: &HostRuntime, p: Program, what: &[u8], i: usize) {
-    let mut text = buffer();
-    let n = argument(rt, i, &mut text);
     say_name(rt, p);
     say(rt, what);
-    say(rt, &text[..n]);
+    say(rt, argument(rt, i, &mut buffer()));
     say(rt, b"\n");
     say_usage(rt, p);
 }

@@ -6,11 +6,11 @@ ghost use Rattle.programs.specs.declared.status.Status.TheVariants.{Done, NotDon
 #[derive(Clone, Copy)]
 pub enum Status {
     // done
-    Done,
+    Done = 0,
     // done, and what was asked is answered no
-    AnsweredNo,
+    AnsweredNo = 1,
     // not done
-    NotDone,
+    NotDone = 2,
 }
 
 // The number that the process ends with.
@@ -18,11 +18,7 @@ pub fn status_number(s: Status) -> u8
     ensures value { result ≡ status_number s }
     ensures upper_bound { result ≤ 2 }
 {
-    match s {
-        Status::Done => 0,
-        Status::AnsweredNo => 1,
-        Status::NotDone => 2,
-    }
+    s as u8
 }
 
 // Done, or not.

@@ -1,5 +1,5 @@
 // What the programs read from and write to, and single calls of the system on it.
-ghost use Rattle.std.specs.Prelude.{◌≡◌, length};
+ghost use Rattle.std.specs.Prelude.{◌≤◌, length, IfOk};
 
 use std::fs::File;
 use std::io::{Read, Seek, SeekFrom, Write};
@@ -7,22 +7,19 @@ use std::os::fd::{AsFd, AsRawFd};
 use std::os::unix::fs::FileTypeExt;
 use std::{fs, io};
 
-// A standard stream, a file that was opened by its name, or nothing.
+// A standard stream, or a file that was opened by its name.
 #[derive(Drop)]
 pub enum Stream {
-    Nothing,
     StandardInput,
     StandardOutput,
     Named(File),
 }
 
-pub const STDIN_FILENO: i32 = 0;
-
-pub const STDOUT_FILENO: i32 = 1;
-
 const STDERR_FILENO: i32 = 2;
 
 // Linux's numbers of causes.
+const EINTR: i32 = 4;
+
 const EBADF: i32 = 9;
 
 const EINVAL: i32 = 22;
@@ -41,11 +38,6 @@ const OUTPUT: &str = "/proc/self/fd/1";
 
 const ABOUT_INPUT: &str = "/proc/self/fdinfo/0";
 
-// Before the first call that fails.
-pub(crate) fn no_cause() -> io::Error {
-    io::Error::from_raw_os_error(0)
-}
-
 // No such descriptor is open.
 fn not_open() -> io::Error {
     io::Error::from_raw_os_error(EBADF)
@@ -60,49 +52,29 @@ pub(crate) fn too_long() -> io::Error {
     io::Error::from_raw_os_error(ENAMETOOLONG)
 }
 
-// The number of the stream's descriptor.
-pub(crate) fn descriptor(s: &Stream) -> i32 {
-    match s {
-        Stream::Nothing => -1,
-        Stream::StandardInput => STDIN_FILENO,
-        Stream::StandardOutput => STDOUT_FILENO,
-        Stream::Named(file) => file.as_raw_fd(),
-    }
-}
-
-// Did a signal interrupt the call that failed?
-pub(crate) fn is_interrupted(cause: &io::Error) -> bool {
-    cause.kind() == io::ErrorKind::Interrupted
-}
-
 // ---- reading and writing
 
-// One read: how many bytes came to the front of the buffer, or -1 where it failed.
-pub(crate) fn read_once(
-    rt: &HostRuntime,
-    from: &Stream,
-    buf: &mut [u8],
-    cause: &mut io::Error,
-) -> isize
-    ensures { length buf.new ≡ length buf.old }
+// A call that a signal interrupts is repeated. The loop must end, and so many signals do not come.
+const MOST_TRIES: u64 = 1152921504606846976;
+
+// One read, repeated where a signal interrupted it. No bytes are the end of the input.
+pub(crate) fn read(rt: &HostRuntime, from: &Stream, buf: &mut [u8]) -> io::Result<usize>
+    ensures { IfOk result (λ n. n ≤ length buf.new) }
 {
-    match read(rt, from, buf) {
-        Ok(n) => n.cast_signed(),
-        Err(e) => {
-            *cause = e;
-            -1
+    for _ in 0..MOST_TRIES {
+        match read_once(rt, from, buf) {
+            Err(e) if e.kind() == io::ErrorKind::Interrupted => {}
+            answer => return answer,
         }
     }
+    Err(io::Error::from_raw_os_error(EINTR))
 }
 
-fn read(rt: &HostRuntime, from: &Stream, buf: &mut [u8]) -> io::Result<usize>
-    ensures { length buf.new ≡ length buf.old }
+fn read_once(rt: &HostRuntime, from: &Stream, buf: &mut [u8]) -> io::Result<usize>
+    ensures { IfOk result (λ n. n ≤ length buf.new) }
 {
     match from {
-        Stream::StandardInput => {
-            let mut input = rt.stdin();
-            input.read(buf)
-        }
+        Stream::StandardInput => rt.stdin().read(buf),
         Stream::Named(file) => {
             let mut input = file;
             input.read(buf)
@@ -111,28 +83,13 @@ fn read(rt: &HostRuntime, from: &Stream, buf: &mut [u8]) -> io::Result<usize>
     }
 }
 
-// One write: how many bytes of the part were taken, or -1 where it failed.
-pub(crate) fn write_once(
-    rt: &HostRuntime,
-    to: &Stream,
-    part: &[u8],
-    cause: &mut io::Error,
-) -> isize {
-    match write(rt, to, part) {
-        Ok(n) => n.cast_signed(),
-        Err(e) => {
-            *cause = e;
-            -1
-        }
-    }
-}
-
-fn write(rt: &HostRuntime, to: &Stream, part: &[u8]) -> io::Result<usize> {
+// Writes all of the part; where a write fails some of it may be written.
+pub(crate) fn write_all(rt: &HostRuntime, to: &Stream, part: &[u8]) -> io::Result<()> {
     match to {
-        Stream::StandardOutput => rt.write_some(part),
+        Stream::StandardOutput => Write::write_all(&mut rt.stdout(), part),
         Stream::Named(file) => {
             let mut output = file;
-            output.write(part)
+            output.write_all(part)
         }
         _ => Err(not_open()),
     }
@@ -140,18 +97,8 @@ fn write(rt: &HostRuntime, to: &Stream, part: &[u8]) -> io::Result<usize> {
 
 // ---- the place in a file
 
-// Where the stream stands in its file, or -1 where it has no such place.
-pub(crate) fn place_in(rt: &HostRuntime, s: &Stream, cause: &mut io::Error) -> i64 {
-    match place(rt, s) {
-        Ok(at) => at.cast_signed(),
-        Err(e) => {
-            *cause = e;
-            -1
-        }
-    }
-}
-
-fn place(rt: &HostRuntime, s: &Stream) -> io::Result<u64> {
+// Where the stream stands in its file; fails where it has no such place.
+pub(crate) fn place(rt: &HostRuntime, s: &Stream) -> io::Result<u64> {
     match s {
         Stream::StandardInput => place_of_input(rt),
         Stream::Named(file) => {
@@ -173,10 +120,7 @@ fn place_of_input(rt: &HostRuntime) -> io::Result<u64> {
     let mut about = fs::open(rt, ABOUT_INPUT)?;
     let mut text = [0u8; 256];
     let n = about.read(&mut text)?;
-    match place_said(&text[..n]) {
-        Some(at) => Ok(at),
-        None => Err(io::Error::from_raw_os_error(ESPIPE)),
-    }
+    place_said(&text[..n]).ok_or(io::Error::from_raw_os_error(ESPIPE))
 }
 
 // Fails where standard input can't be opened again, or has no place.
@@ -188,34 +132,20 @@ fn check_seek(rt: &HostRuntime) -> io::Result<()> {
 
 // The place that the first line says.
 fn place_said(text: &[u8]) -> Option<u64> {
-    let Ok(text) = str::from_utf8(text) else {
-        return None;
-    };
-    let (line, _) = text.split_once('\n')?;
-    let said = line.strip_prefix("pos:")?;
-    match said.trim().parse::<u64>() {
-        Ok(at) => Some(at),
-        Err(_) => None,
-    }
+    let (line, _) = str::from_utf8(text).ok()?.split_once('\n')?;
+    line.strip_prefix("pos:")?.trim().parse().ok()
 }
 
-// Goes back to this place, and answers it, or -1 where that fails. Standard input is opened again for that.
-pub(crate) fn return_to(rt: &HostRuntime, s: &mut Stream, at: i64, cause: &mut io::Error) -> i64 {
-    match seek(rt, s, at.cast_unsigned()) {
-        Ok(at) => at.cast_signed(),
-        Err(e) => {
-            *cause = e;
-            -1
-        }
-    }
-}
-
-fn seek(rt: &HostRuntime, s: &mut Stream, at: u64) -> io::Result<u64> {
+// Goes back to this place. Standard input is opened again for that.
+pub(crate) fn return_to(rt: &HostRuntime, s: &mut Stream, at: u64) -> io::Result<()> {
     if matches!(s, Stream::StandardInput) {
         *s = Stream::Named(open_again(rt)?);
     }
     match s {
-        Stream::Named(file) => file.seek(SeekFrom::Start(at)),
+        Stream::Named(file) => {
+            file.seek(SeekFrom::Start(at))?;
+            Ok(())
+        }
         _ => Err(not_open()),
     }
 }
@@ -235,19 +165,8 @@ fn open_again(rt: &HostRuntime) -> io::Result<File> {
 
 // ---- standard streams
 
-// Is the standard stream closed?
-pub(crate) fn is_closed(rt: &HostRuntime, s: &Stream, cause: &mut io::Error) -> bool {
-    match check_open(rt, s) {
-        Ok(()) => false,
-        Err(e) => {
-            *cause = e;
-            e.raw_os_error() == Some(EBADF)
-        }
-    }
-}
-
 // Fails where the standard stream is closed. That there is no number left for a copy tells that it is open.
-fn check_open(rt: &HostRuntime, s: &Stream) -> io::Result<()> {
+pub(crate) fn check_open(rt: &HostRuntime, s: &Stream) -> io::Result<()> {
     match copied(rt, s) {
         Err(e) if e.raw_os_error() == Some(EBADF) => Err(e),
         _ => Ok(()),
@@ -273,10 +192,7 @@ fn copied(rt: &HostRuntime, s: &Stream) -> io::Result<()> {
 
 // The name as std takes it: one that is no UTF-8 names no file that std could open.
 fn name_of(name: &[u8]) -> io::Result<&str> {
-    match str::from_utf8(name) {
-        Ok(name) => Ok(name),
-        Err(_) => Err(io::Error::from_raw_os_error(EILSEQ)),
-    }
+    str::from_utf8(name).or(Err(io::Error::from_raw_os_error(EILSEQ)))
 }
 
 // Opens a file to read.

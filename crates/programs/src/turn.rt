@@ -1,25 +1,42 @@
 // From batch to batch: what a program carries that counts slots.
 ghost use Rattle.std.specs.Prelude.{◌≡◌};
+ghost use Rattle.programs.specs.Batches.{is_whole};
 ghost use Rattle.programs.specs.inner.Turns.{Begun, can_go_on};
 
-use crate::input::{Input, input_of};
-use crate::output::{Output, output_of};
+use crate::input::Input;
+use crate::output::Output;
 use card::{Progress, Totals};
 
-// How far the counting of slots has come, and what was read and written.
+// What has been counted over the slots, and what was read and written.
 #[derive(Clone, Copy)]
-pub struct Turn {
-    pub progress: Progress,
+pub struct Turn<T> {
+    pub counts: T,
     pub input: Input,
     pub output: Output,
 }
 
+impl<T: Copy> Turn<T> {
+    // Can another batch be read, and what is made of it be written?
+    pub fn goes_on(self) -> bool
+        ensures { result ≡ can_go_on self }
+    {
+        self.input.going() && self.output.ok()
+    }
+
+    // Has the input ended, and every write succeeded?
+    pub fn is_whole(self) -> bool
+        ensures { result ≡ is_whole self }
+    {
+        self.input.ended() && self.output.ok()
+    }
+}
+
 // Before the first slot.
-pub fn begin(fd: i32, out: i32) -> Turn
+pub fn begin() -> Turn<Progress>
     ensures { Begun result }
 {
     Turn {
-        progress: Progress {
+        counts: Progress {
             next: 1,
             totals: Totals {
                 accepted: 0,
@@ -27,16 +44,7 @@ pub fn begin(fd: i32, out: i32) -> Turn
                 changed: 0,
             },
         },
-        input: input_of(fd),
-        output: output_of(out),
+        input: Input::new(),
+        output: Output::new(),
     }
-}
-
-// Can another batch be read, and what is made of it be written?
-pub fn goes_on(t: Turn) -> bool
-    ensures { result ≡ can_go_on t }
-{
-    let input = t.input;
-    let output = t.output;
-    input.going() && output.ok()
 }

@@ -1,18 +1,17 @@
 -- The slots of a card by their numbers, and a record read as a day sheet. Assumes nothing.
-use Rattle.field.proofs.Base.{◌≡◌, refl, sym, ap, ap₂, ◌∙◌, subst, Bool, true, false, cond, List, [], ℕ, ◌+◌, ◌-◌, ◌≤◌, arith, length, take, drop}
-use Rattle.field.proofs.Base.{replicate, length-append, length-replicate, length-drop, take_at, take_all, drop-drop}
-use Rattle.field.specs.Question.{Outcome, accepted, refused, refusal, after}
+use Rattle.std.proofs.Common.{Ok, Err, Result}
+use Rattle.field.proofs.Base.{◌≡◌, refl, sym, ap, ap₂, ◌∙◌, subst, Bool, true, cond, List, [], ℕ, ◌+◌, ◌-◌, ◌≤◌, arith, length, take, drop, replicate}
+use Rattle.field.proofs.Base.{length-append, length-replicate, length-drop, take_at, take_all, drop-drop}
+use Rattle.field.specs.Question.{Verdict, Outcome, accepted, refused, after}
 use Rattle.field.specs.declared.Question.{Question}
-use Rattle.field.specs.declared.Verdict.{Verdict}
-use Rattle.field.specs.declared.Verdict.TheVariants.{Passed, Refused}
 use Rattle.code.specs.Word.{checks, places, word_length, longest, Codeword}
 use Rattle.code.specs.Call.{repair, within_of, within_written}
-use Rattle.code.specs.declared.Repair.{Repair}
-use Rattle.code.specs.declared.Repair.TheVariants.{Restored, Refused as RefusedRepair}
 use Rattle.code.proofs.Lengths.{length-is, places-most}
 use Rattle.code.proofs.Demands.{accepts}
 use Rattle.card.specs.inner.Parts.{header_size}
 use Rattle.card.specs.Record.{record_size, width_of, word_of, erasures_of, record_asked, reach_of, clear_record, on_accept, record_of, copy_written}
+use Rattle.card.specs.Record.{copy_changes, copy_bytes, RestoresCopy}
+use Rattle.card.specs.declared.RestoredCopy.{RestoredCopy}
 use Rattle.card.specs.Record.{record_within_of, record_within_written, record_written}
 use Rattle.card.specs.Slots.{record_at}
 use Rattle.card.proofs.Layouts.{asked}
@@ -22,8 +21,8 @@ use Rattle.sheet.specs.Call.{content_asked, read_sheet_asked}
 use Rattle.sheet.specs.Demands.{SheetSymbols}
 use Rattle.sheet.proofs.Asking.{after-accepted}
 use Rattle.sheet.proofs.Sheets.{codeword-content, read-means, read-symbols}
-use Rattle.report.specs.Day.{has_record, slot_of, Day, sheet, no_sheet, read_day, restored_day, copy_day, day_of, day_symbols}
-use Rattle.report.specs.inner.Parts.{answered, TellsDay, Whole}
+use Rattle.report.specs.Day.{has_record, slot_of, Day, sheet, read_day, restored_day, copy_day, day_of}
+use Rattle.report.specs.inner.Parts.{day_in, Whole}
 use Rattle.report.specs.declared.day.Reading.{Reading}
 
 -- ---- slots by number
@@ -32,9 +31,6 @@ module _ (card : List ℕ) (n : ℕ) where
   module _ (b : Bool) (e : b ≡ has_record card n) where
     pub slot-some : b ≡ true → record_at card (n - 1) ≡ slot_of card n
     slot-some t = ap (λ (x : Bool). cond x (record_at card (n - 1)) []) (sym t ∙ e)
-
-    pub slot-none : b ≡ false → [] ≡ slot_of card n
-    slot-none t = ap (λ (x : Bool). cond x (record_at card (n - 1)) []) (sym t ∙ e)
 
 -- ---- reading a restored record; n is what `word_length` says of its width
 
@@ -51,9 +47,6 @@ module _ (r : List ℕ) (W : Whole r) (n : ℕ) (en : n ≡ word_length (width_o
       back : header_size + n - header_size ≡ places (width_of r)
       back = omega (arith, word-length)
 
-  pub word-long : length (take (header_size + n - header_size) (drop header_size r)) ≡ places (width_of r)
-  word-long = ap length word-part ∙ W.codeword.size
-
   -- v is what the questions about the content said
   module _ (k : ℕ) (v : Verdict) (ev : v ≡ content_asked (width_of r) (take (header_size + n - header_size) (drop header_size r))) where
     verdict : v ≡ read_sheet_asked (width_of r) (word_of r) sheet_size
@@ -64,17 +57,11 @@ module _ (r : List ℕ) (W : Whole r) (n : ℕ) (en : n ≡ word_length (width_o
     day-is : read_day v k (symbols_of (word_of r)) ≡ restored_day k r
     day-is = ap (λ (u : Verdict). read_day u k (symbols_of (word_of r))) verdict
 
-    pub restored-refused : (q : Question) → v ≡ Refused q
-        → TellsDay (restored_day k r) (record { answer = RefusedRepair q; symbols = replicate sheet_size 0 })
-    restored-refused q e =
-        let f : no_sheet (refusal q) ≡ restored_day k r = ap (λ (u : Verdict). read_day u k (symbols_of (word_of r))) (sym e) ∙ day-is in
-        record { day = f; symbols = ap day_symbols f }
+    pub restored-refused : (q : Question) → v ≡ Err q → (x : Result Reading Question) → x ≡ Err q → day_in x ≡ restored_day k r
+    restored-refused q e x f = ap day_in f ∙ ap (λ (u : Verdict). read_day u k (symbols_of (word_of r))) (sym e) ∙ day-is
 
-    pub restored-read : v ≡ Passed → (ss : List ℕ) → ss ≡ take sheet_size (drop (header_size + checks) r)
-        → TellsDay (restored_day k r) (record { answer = Restored k; symbols = ss })
-    restored-read e ss es =
-        let f : sheet k ss ≡ restored_day k r = ap (sheet k) same ∙ ap (λ (u : Verdict). read_day u k (symbols_of (word_of r))) (sym e) ∙ day-is in
-        record { day = f; symbols = ap day_symbols f }
+    pub restored-read : v ≡ (Ok tt) → (ss : List ℕ) → ss ≡ take sheet_size (drop (header_size + checks) r) → sheet k ss ≡ restored_day k r
+    restored-read e ss es = ap (sheet k) same ∙ ap (λ (u : Verdict). read_day u k (symbols_of (word_of r))) (sym e) ∙ day-is
       where
         width : width_of r ≡ sheet_width
         width = (read-means (width_of r) (word_of r) (replicate sheet_size 0) (sym verdict ∙ e)).width
@@ -99,7 +86,7 @@ module _ (r : List ℕ) where
     c : List ℕ
     c = within_written (width_of r) (word_of r) (erasures_of r) (reach_of r)
 
-    passed : record_asked r ≡ Passed
+    passed : record_asked r ≡ (Ok tt)
     unfolding record_of record_within_of
     passed = after-accepted (record_asked r) (within_of (width_of r) (word_of r) (erasures_of r) (reach_of r)) k (sym e)
 
@@ -125,31 +112,32 @@ module _ (r : List ℕ) where
     pub copy-is-whole : Whole (copy_written r)
     copy-is-whole = rw copied clear_whole
 
-  -- x is what restoring answered, and b the copy
-  module _ (x : Repair) (b : List ℕ) (ex : repair x ≡ record_of r) (eb : b ≡ copy_written r) where
-    pub copied-whole : (k : ℕ) → x ≡ Restored k → Whole b
-    copied-whole k e = rw eb (copy-is-whole k (sym ex ∙ ap repair e))
+  -- x is what restoring in a copy gave
+  module _ (x : Result RestoredCopy Question) (R : RestoresCopy r x) where
+    pub copied-whole : (y : RestoredCopy) → x ≡ Ok y → Whole y.bytes
+    copied-whole y e =
+        let b : y.bytes ≡ copy_written r = ap copy_bytes (sym e) ∙ R.content in
+        rw b (copy-is-whole y.changed (sym R.answer ∙ ap (λ (z : Result RestoredCopy Question). repair (copy_changes z)) e))
 
-    pub day-restored : (k : ℕ) → x ≡ Restored k → (y : Reading) → TellsDay (restored_day k b) y → TellsDay (day_of r) y
+    pub day-restored : (y : RestoredCopy) → x ≡ Ok y → restored_day y.changed y.bytes ≡ day_of r
     unfolding day_of
-    day-restored k e y T =
-        let f : restored_day k b ≡ copy_day (record_of r) (copy_written r) = ap₂ copy_day (ap repair (sym e) ∙ ex) eb in
-        rw f at T
+    day-restored y e =
+        ap₂ copy_day
+        (ap (λ (z : Result RestoredCopy Question). repair (copy_changes z)) (sym e) ∙ R.answer)
+        (ap copy_bytes (sym e) ∙ R.content)
 
-    pub day-refused : (q : Question) → x ≡ RefusedRepair q → TellsDay (day_of r) (record { answer = RefusedRepair q; symbols = replicate sheet_size 0 })
+    pub day-refused : (q : Question) → x ≡ Err q → (z : Result Reading Question) → z ≡ Err q → day_in z ≡ day_of r
     unfolding day_of
-    day-refused q e =
-        let f : no_sheet (refusal q) ≡ copy_day (record_of r) (copy_written r) = ap (λ (o : Outcome). copy_day o (copy_written r)) (ap repair (sym e) ∙ ex) in
-        record { day = f; symbols = ap day_symbols f }
+    day-refused q e z f =
+        ap day_in f
+        ∙ ap (λ (o : Outcome). copy_day o (copy_written r))
+        (ap (λ (y : Result RestoredCopy Question). repair (copy_changes y)) (sym e) ∙ R.answer)
 
 -- ---- what a reading tells
 
-module _ (d : Day) (x : Reading) (T : TellsDay d x) where
-  pub told-sheet : (k : ℕ) → x.answer ≡ Restored k → d ≡ sheet k x.symbols
-  told-sheet k e = sym T.day ∙ ap (λ (a : Repair). answered a x.symbols) e
-
-  pub told-refused : (q : Question) → x.answer ≡ RefusedRepair q → d ≡ no_sheet (refusal q)
-  told-refused q e = sym T.day ∙ ap (λ (a : Repair). answered a x.symbols) e
+module _ (d : Day) (x : Result Reading Question) (T : day_in x ≡ d) where
+  pub told-sheet : (y : Reading) → x ≡ Ok y → d ≡ sheet y.changed y.symbols
+  told-sheet y e = sym T ∙ ap day_in e
 
 -- ---- a record that is a day sheet
 
@@ -165,7 +153,7 @@ is-sheet r k ss e = restored (record_of r) refl e
   where
     read : (n : ℕ) → record_of r ≡ accepted n → (v : Verdict) → read_sheet_asked (width_of (copy_written r)) (word_of (copy_written r)) sheet_size ≡ v
         → read_day v n (symbols_of (word_of (copy_written r))) ≡ sheet k ss → IsSheet r k ss
-    read n o Passed f g =
+    read n o (Ok tt) f g =
         let D = (read-means (width_of (copy_written r)) (word_of (copy_written r)) (replicate sheet_size 0) f).sheet in
         let en : n ≡ k = cc in
         let es : symbols_of (word_of (copy_written r)) ≡ ss = cc in
@@ -174,7 +162,7 @@ is-sheet r k ss e = restored (record_of r) refl e
           restored = o ∙ ap accepted en;
           symbols = subst SheetSymbols es (read-symbols (word_of (copy_written r)) D);
         }
-    read n o (Refused q) f g = let z : ◌≡◌ {A = ℕ} 0 1 = cc in absurd (omega arith)
+    read n o (Err q) f g = let z : ◌≡◌ {A = ℕ} 0 1 = cc in absurd (omega arith)
 
     restored : (o : Outcome) → record_of r ≡ o → copy_day o (copy_written r) ≡ sheet k ss → IsSheet r k ss
     restored (accepted n) o g = read n o (read_sheet_asked (width_of (copy_written r)) (word_of (copy_written r)) sheet_size) refl g

@@ -1,11 +1,11 @@
 -- The demands of specs/Demands.antt, each under its name in small letters. Assumes nothing.
+use Rattle.std.proofs.Common.{Ok}
+use Rattle.field.specs.Question.{Verdict}
 use Rattle.field.proofs.Base.{◌≡◌, refl, sym, ap, ap₂, ◌∙◌, Bool, true, false, cond, ◌&&◌, List, [], ◌∷◌, ℕ, ◌+◌, ◌-◌, ◌*◌, arith, ltb, length, take}
 use Rattle.field.proofs.Base.{drop, get_or-take, get_or-drop}
 use denote.Ref.{Bor}
 use Rattle.field.specs.Question.{Outcome, accepted, ask, after}
 use Rattle.field.specs.declared.Question.TheVariants.{RecordNumber, SameDay}
-use Rattle.field.specs.declared.Verdict.{Verdict}
-use Rattle.field.specs.declared.Verdict.TheVariants.{Passed}
 use Rattle.field.proofs.Ask.{ask-yes}
 use Rattle.code.specs.Word.{at}
 use Rattle.code.specs.Demands.{occurs}
@@ -39,14 +39,14 @@ module _ (c : List ℕ) (i : ℕ) (d : List ℕ) (j : ℕ) where
       both : Outcome
       both = compared_of (day_of (slot_of c i)) (day_of (slot_of d j))
 
-      passed : numbers_asked c i d j ≡ Passed
+      passed : numbers_asked c i d j ≡ (Ok tt)
       passed = after-accepted (numbers_asked c i d j) both w (sym e)
 
       days : (x y : Day) → day_of (slot_of c i) ≡ x → day_of (slot_of d j) ≡ y → compared_of x y ≡ accepted w → Agreed c i d j w
       days (no_sheet n) y ex ey f = let z : ◌≡◌ {A = ℕ} 0 1 = cc in absurd (omega arith)
       days (sheet k ss) (no_sheet n) ex ey f = let z : ◌≡◌ {A = ℕ} 0 1 = cc in absurd (omega arith)
       days (sheet k ss) (sheet l ts) ex ey f =
-          let p = after-accepted (ask (same_day ss ts) SameDay Passed) (accepted (chosen_of k l)) w (sym f) in
+          let p = after-accepted (ask (same_day ss ts) SameDay (Ok tt)) (accepted (chosen_of k l)) w (sym f) in
           let g : accepted (chosen_of k l) ≡ accepted w = sym (ap (λ (v : Verdict). after v (accepted (chosen_of k l))) p) ∙ f in
           record {
             k = k;
@@ -57,16 +57,16 @@ module _ (c : List ℕ) (i : ℕ) (d : List ℕ) (j : ℕ) where
             other-number = compared-other c i d j w e;
             controller = ex;
             cupboard = ey;
-            same = ask-yes (same_day ss ts) SameDay Passed p;
+            same = ask-yes (same_day ss ts) SameDay (Ok tt) p;
             chosen = cc;
           }
 
   agreed-accepts : (w : ℕ) → Agreed c i d j w → compare_of c i d j ≡ accepted w
   unfolding compare_of numbers_asked
   agreed-accepts w G =
-      ap₂ (λ (a b : Bool). after (ask (a && b) RecordNumber Passed) (compared_of (day_of (slot_of c i)) (day_of (slot_of d j)))) G.number G.other-number
+      ap₂ (λ (a b : Bool). after (ask (a && b) RecordNumber (Ok tt)) (compared_of (day_of (slot_of c i)) (day_of (slot_of d j)))) G.number G.other-number
       ∙ ap₂ compared_of G.controller G.cupboard
-      ∙ ap (λ (b : Bool). after (ask b SameDay Passed) (accepted (chosen_of G.k G.l))) G.same
+      ∙ ap (λ (b : Bool). after (ask b SameDay (Ok tt)) (accepted (chosen_of G.k G.l))) G.same
       ∙ ap accepted (sym G.chosen)
 
 pub compare-accepts : CompareAccepts

@@ -1,6 +1,9 @@
 -- The order of dates. Assumes nothing.
 use Rattle.field.proofs.Base.{◌≡◌, refl, ap, ap₂, ◌∙◌, ◌⊎◌, inl, inr, Bool, true, false, cond, ℕ, ◌+◌, ◌≤◌, ◌<◌, le_refl, arith, eq-eqb, ne_eqb}
 use Rattle.field.proofs.Base.{eqb-true, eqb-false, lt-ltb, le-ltb, ltb-true, ltb-false, eqb, ltb}
+use Rattle.std.proofs.lemmas.Bool.Decides.{nat_tests}
+use Rattle.std.specs.Ordering.{partial_lt}
+use Rattle.report.specs.contracts.row.DatePartialOrd.TheImpl.{partial_cmp-value}
 use Rattle.report.specs.Window.{below, earlier}
 use Rattle.report.specs.declared.row.Date.{Date}
 use Rattle.report.specs.Demands.{EarlierMeans, DaysInOrder}
@@ -34,6 +37,10 @@ module _ (x y : ℕ) (b : Bool) where
         where
           strict : (x ≡ y → ⊥) → y ≤ x → y < x
           strict n l = omega (arith, n)
+
+pub date-less : (a b : Date) → partial_lt (partial_cmp-value).it a b ≡ earlier a b
+unfolding earlier
+date-less a b = grind (arith, nat_tests)
 
 below-trans : (x y z : ℕ) (a b c : Bool) → (a ≡ true → b ≡ true → c ≡ true) → below x y a ≡ true → below y z b ≡ true → below x z c ≡ true
 below-trans x y z a b c rest p q = go (below-means x y a p) (below-means y z b q)

@@ -1,11 +1,11 @@
 -- What a comparison refuses, and in which order. Assumes nothing.
+use Rattle.std.proofs.Common.{Ok, Err}
+use Rattle.field.specs.Question.{Verdict}
 use Rattle.field.proofs.Base.{◌≡◌, refl, sym, ap, ap₂, ◌∙◌, subst, ◌⊎◌, inl, inr, Bool, true, false, ◌&&◌, List, ℕ, ◌≤◌, arith, eqb, length}
 use Rattle.field.specs.Field.{order}
 use Rattle.field.specs.Question.{Outcome, accepted, refused, refusal, ask, after, is_width, all_below}
 use Rattle.field.specs.declared.Question.{Question}
 use Rattle.field.specs.declared.Question.TheVariants.{Width, Length, Symbol, Syndrome, SheetWidth, Date, Unused, RecordNumber, SameDay}
-use Rattle.field.specs.declared.Verdict.{Verdict}
-use Rattle.field.specs.declared.Verdict.TheVariants.{Passed, Refused}
 use Rattle.code.specs.Word.{places}
 use Rattle.code.specs.Call.{all_zero, zero_syndromes}
 use Rattle.card.specs.Record.{record_of, copy_written}
@@ -19,13 +19,13 @@ use Rattle.report.specs.Demands.{Disagreed, CompareRefuses}
 -- ---- the numbers of restoring and reading go up to 16
 
 abbrev Low : Verdict → Type 0
-Low v = (q : Question) → v ≡ Refused q → refusal q ≤ 16
+Low v = (q : Question) → v ≡ Err q → refusal q ≤ 16
 
 low-ask : (b : Bool) (p : Question) (v : Verdict) → refusal p ≤ 16 → Low v → Low (ask b p v)
 low-ask true p v h l = l
 low-ask false p v h l = λ q e. let same : p ≡ q = cc in subst (λ (x : Question). refusal x ≤ 16) same h
 
-low-passed : Low Passed
+low-passed : Low (Ok tt)
 low-passed q e = let z : ◌≡◌ {A = ℕ} 0 1 = cc in absurd (omega arith)
 
 low-reading : (m : ℕ) (w : List ℕ) (k : ℕ) → Low (read_sheet_asked m w k)
@@ -38,14 +38,14 @@ low-reading m w k =
     (low-ask (zero_syndromes m w) Syndrome _ (omega arith)
     (low-ask (eqb m sheet_width) SheetWidth _ (omega arith)
     (low-ask (is_dated (symbols_of w)) Date _ (omega arith)
-    (low-ask (all_zero (unused_symbols w)) Unused Passed (omega arith) low-passed)))))))
+    (low-ask (all_zero (unused_symbols w)) Unused (Ok tt) (omega arith) low-passed)))))))
 
 abbrev LowDay : Day → Type 0
 LowDay d = (n : ℕ) → d ≡ no_sheet n → n ≤ 16
 
 low_read : (v : Verdict) (k : ℕ) (ss : List ℕ) → Low v → LowDay (read_day v k ss)
-low_read Passed k ss h n e = let z : ◌≡◌ {A = ℕ} 0 1 = cc in absurd (omega arith)
-low_read (Refused q) k ss h n e = let same : refusal q ≡ n = cc in subst (λ (x : ℕ). x ≤ 16) same (h q refl)
+low_read (Ok tt) k ss h n e = let z : ◌≡◌ {A = ℕ} 0 1 = cc in absurd (omega arith)
+low_read (Err q) k ss h n e = let same : refusal q ≡ n = cc in subst (λ (x : ℕ). x ≤ 16) same (h q refl)
 
 low-copy : (o : Outcome) (copy : List ℕ) → ((n : ℕ) → o ≡ refused n → n ≤ 16) → LowDay (copy_day o copy)
 low-copy (accepted k) copy h = low_read (read_sheet_asked _ _ _) k _ (low-reading _ _ _)
@@ -63,7 +63,7 @@ compared-not (no_sheet n) y h k e = let same : n ≡ 17 = cc in omega (arith, h 
 compared-not (sheet i ss) (no_sheet n) h k e = let same : n ≡ 17 = cc in omega (arith, k n refl)
 compared-not (sheet i ss) (sheet l ts) h k e = go (same_day ss ts) e
   where
-    go : (b : Bool) → after (ask b SameDay Passed) (accepted (chosen_of i l)) ≡ refused 17 → ⊥
+    go : (b : Bool) → after (ask b SameDay (Ok tt)) (accepted (chosen_of i l)) ≡ refused 17 → ⊥
     go true f = let z : ◌≡◌ {A = ℕ} 0 1 = cc in omega arith
     go false f = let z : ◌≡◌ {A = ℕ} 20 17 = cc in omega arith
 
@@ -83,7 +83,7 @@ compared-apart (sheet i ss) (no_sheet n) h k e = absurd (let same : n ≡ 20 = c
 compared-apart (sheet i ss) (sheet l ts) h k e =
     record { k = i; l = l; ss = ss; ts = ts; first = refl; second = refl; other = go (same_day ss ts) e }
   where
-    go : (b : Bool) → after (ask b SameDay Passed) (accepted (chosen_of i l)) ≡ refused 20 → b ≡ false
+    go : (b : Bool) → after (ask b SameDay (Ok tt)) (accepted (chosen_of i l)) ≡ refused 20 → b ≡ false
     go true f = let z : ◌≡◌ {A = ℕ} 0 1 = cc in absurd (omega arith)
     go false f = refl
 
@@ -93,9 +93,9 @@ module _ (c : List ℕ) (i : ℕ) (d : List ℕ) (j : ℕ) where
   abbrev both : Outcome
   both = compared_of (day_of (slot_of c i)) (day_of (slot_of d j))
 
-  by-numbers : (a b : Bool) → has_record c i ≡ a → has_record d j ≡ b → compare_of c i d j ≡ after (ask (a && b) RecordNumber Passed) both
+  by-numbers : (a b : Bool) → has_record c i ≡ a → has_record d j ≡ b → compare_of c i d j ≡ after (ask (a && b) RecordNumber (Ok tt)) both
   unfolding compare_of numbers_asked
-  by-numbers a b ea eb = ap₂ (λ (x y : Bool). after (ask (x && y) RecordNumber Passed) both) ea eb
+  by-numbers a b ea eb = ap₂ (λ (x y : Bool). after (ask (x && y) RecordNumber (Ok tt)) both) ea eb
 
   not-seventeen : both ≡ refused 17 → ⊥
   not-seventeen = compared-not (day_of (slot_of c i)) (day_of (slot_of d j)) (low-day (slot_of c i)) (low-day (slot_of d j))
@@ -154,7 +154,7 @@ module _ (c : List ℕ) (i : ℕ) (d : List ℕ) (j : ℕ) where
   other_from : Disagreed c i d j → compare_of c i d j ≡ refused 20
   other_from D =
       on D.number D.other-number ∙ ap₂ compared_of D.controller D.cupboard
-      ∙ ap (λ (b : Bool). after (ask b SameDay Passed) (accepted (chosen_of D.k D.l))) D.other
+      ∙ ap (λ (b : Bool). after (ask b SameDay (Ok tt)) (accepted (chosen_of D.k D.l))) D.other
 
 pub compare-refuses : CompareRefuses
 compare-refuses c i d j =

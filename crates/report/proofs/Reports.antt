@@ -1,19 +1,18 @@
 -- The report as a list of numbers: rows, bounds, slot by slot. Assumes nothing.
-use Rattle.field.proofs.Base.{◌≡◌, refl, sym, ap, ap₂, ◌∙◌, subst, ◌≢◌, Bool, true, false, cond, List, [], ◌∷◌, ◌++◌, append-nil, ℕ, zero, suc, ◌+◌}
-use Rattle.field.proofs.Base.{◌-◌, ◌*◌, ◌^◌, ◌≤◌, ◌<◌, arith, lt-ltb, le-ltb, ltb-true, ltb-false, eqb-true, eqb, ltb, length, get_or, set, take, drop}
-use Rattle.field.proofs.Base.{replicate, length-append, length-take, length-drop, length-set, length-replicate, drop_of_length-le, drop_at, take_all}
-use Rattle.field.proofs.Base.{get_or-take, get_or-drop, get_or-set_other, ext_get_or, length-take-le}
-use native.Mathlib.Nat.{div-le_self, mod-le}
+use Rattle.std.proofs.Common.{Ok}
+use Rattle.field.specs.Question.{Verdict}
+use Rattle.field.proofs.Base.{◌≡◌, refl, sym, ap, ap₂, ◌∙◌, subst, ◌≢◌, Bool, true, false, cond, List, [], ◌∷◌, ◌++◌, ℕ, zero, suc, ◌+◌, ◌-◌, ◌*◌}
+use Rattle.field.proofs.Base.{◌^◌, ◌≤◌, ◌<◌, arith, ltb-true, ltb-false, eqb-true, eqb, ltb, length, get_or, set, take, drop, replicate}
+use Rattle.field.proofs.Base.{length-append, length-take, length-drop, length-set, length-replicate, drop_at, take_all, get_or-take, get_or-drop}
+use Rattle.field.proofs.Base.{get_or-set_other, ext_get_or, length-take-le, min, le_refl}
+use Rattle.std.proofs.Math.Decide.{dec_le}
+use native.Mathlib.Nat.{div-le_self, mod-le, min-eq_left, min-eq_right}
 use lib.ListN.{get_or-append}
-use lib.Seq.{get_or-append-add, sets, sets-eq}
+use lib.Seq.{get_or-append-add}
 use Rattle.field.specs.Question.{ask}
-use Rattle.field.specs.declared.Question.{Question}
 use Rattle.field.specs.declared.Question.TheVariants.{Length, Window as InWindow}
-use Rattle.field.specs.declared.Verdict.{Verdict}
-use Rattle.field.specs.declared.Verdict.TheVariants.{Passed, Refused}
 use Rattle.field.proofs.Ask.{ask-yes, ask-next}
 use Rattle.code.specs.Word.{at}
-use Rattle.code.specs.Call.{written, done}
 use Rattle.card.specs.Record.{erasure_bytes, record_size}
 use Rattle.card.specs.Slots.{record_count, record_at, is_blank, over_first}
 use Rattle.card.specs.Listing.{most_records, listed_part}
@@ -21,8 +20,9 @@ use Rattle.sheet.specs.Sheet.{year_at, month_at, day_at, pump_at, sheet_size}
 use Rattle.sheet.specs.Demands.{SheetSymbols}
 use Rattle.report.specs.Day.{Day, sheet, no_sheet, day_of}
 use Rattle.report.specs.Window.{is_window, counts_in, highest_of, counts_of, date_of, leads, row_with}
-use Rattle.report.specs.Window.{pumps, row_size, refused_at, blank_at, more_at, report_size, row_from, row_numbers, row_of, with_row, one_more, no_report}
-use Rattle.report.specs.Window.{day_added, slot_added, part_added, finished, goes_on, report_of, window_asked, ReportsWindow}
+use Rattle.report.specs.Window.{pumps, row_size, refused_at, blank_at, more_at, report_size, row_from, row_numbers, row_of, with_row, one_more}
+use Rattle.report.specs.Window.{no_report}
+use Rattle.report.specs.Window.{day_added, slot_added, part_added, finished, goes_on, report_of, window_asked}
 use Rattle.report.specs.inner.Room.{AllWithin, Countable, Most, day_most}
 use Rattle.report.specs.declared.row.Window.{Window}
 use Rattle.report.specs.declared.row.Peak.{Peak}
@@ -32,21 +32,9 @@ use Rattle.report.proofs.Counting.{counts-sum, counts-full, counts-highest}
 
 -- ---- rows
 
--- nine stores make a row
-pub row-stored : (xs : List ℕ) (r : Row) → length xs ≡ row_size → sets xs 0 (row_numbers r) ≡ row_numbers r
-row-stored xs r e =
-    sets-eq (row_numbers r) xs 0 (omega arith)
-    ∙ ap (λ (u : List ℕ). row_numbers r ++ u) (drop_of_length-le xs {i = row_size} (omega arith))
-    ∙ append-nil (row_numbers r)
-
 module _ (R : List ℕ) (p : ℕ) where
   back : p * row_size + row_size - p * row_size ≡ row_size
   back = omega arith
-
-  pub part-long : p * row_size + row_size ≤ length R → length (take (p * row_size + row_size - p * row_size) (drop (p * row_size) R)) ≡ row_size
-  part-long h =
-      ap (λ (n : ℕ). length (take n (drop (p * row_size) R))) back
-      ∙ length-take-le row_size (drop (p * row_size) R) (simp length-drop (omega arith))
 
   -- a row is read from the part that holds it, and written there
   pub row_read : (r : Row) → r ≡ row_from (take (p * row_size + row_size - p * row_size) (drop (p * row_size) R)) → r ≡ row_of R p
@@ -324,47 +312,36 @@ module _ (w : Window) (card : List ℕ) (n : ℕ) (en : n ≡ report_size) (z : 
   none : z ≡ no_report
   none = ez ∙ ap (λ (k : ℕ). replicate k 0) en
 
-  made : (part a new : List ℕ) (more : Bool) → a ≡ part_added w z part → new ≡ finished a more → part ≡ listed_part card → more ≡ goes_on card
-      → new ≡ report_of w card
-  unfolding report_of
-  made part a new more ea e ep em =
-      e ∙ ap₂ finished (ea ∙ ap₂ (part_added w) none ep) em
+  -- k is the number of bytes that are looked at
+  module _ (k : ℕ) (ek : k ≡ min (length card) (most_records * record_size)) where
+    looked : take k card ≡ listed_part card
+    looked = ap (λ (m : ℕ). take m card) ek ∙ go (dec_le (length card) (most_records * record_size))
+      where
+        go : Dec (length card ≤ most_records * record_size) → take (min (length card) (most_records * record_size)) card ≡ listed_part card
+        go (yes h) =
+            ap (λ (m : ℕ). take m card) (min-eq_left h) ∙ take_all (length card) card (le_refl (length card))
+            ∙ sym (take_all (most_records * record_size) card h)
+        go (no h) = ap (λ (m : ℕ). take m card) (min-eq_right (omega arith))
 
-  pub report-short : length card ≤ most_records * record_size → (a new : List ℕ) → a ≡ part_added w z card → new ≡ finished a false → new ≡ report_of w card
-  report-short h a new ea e =
-      made card a new false ea e (sym (take_all (most_records * record_size) card h)) (sym (le-ltb (most_records * record_size) (length card) h))
+    pub front-most : length (take k card) ≤ most_records * record_size
+    front-most = rw looked (simp length-take (omega arith))
 
-  -- of a longer card its first m bytes are looked at
-  module _ (m : ℕ) (em : m ≡ most_records * record_size) (part : List ℕ) (ep : part ≡ take m card) where
-    pub front-most : length part ≤ most_records * record_size
-    front-most = rw ep (simp length-take (omega (arith, em)))
-
-    pub report-long : m < length card → (a new : List ℕ) → a ≡ part_added w z part → new ≡ finished a true → new ≡ report_of w card
-    report-long h a new ea e =
-        made part a new true ea e (ep ∙ ap (λ (k : ℕ). take k card) em)
-        (sym (lt-ltb (most_records * record_size) (length card) (subst (λ (k : ℕ). k < length card) em h)))
+    pub report-made : (a new : List ℕ) → a ≡ part_added w z (take k card) → new ≡ finished a (goes_on card) → new ≡ report_of w card
+    unfolding report_of
+    report-made a new ea e = e ∙ ap (λ (u : List ℕ). finished u (goes_on card)) (ea ∙ ap₂ (part_added w) none looked)
 
 -- v is what the questions said
 module _ (w : Window) (old : List ℕ) (v : Verdict) (e : v ≡ window_asked w (length old)) where
-  module _ (p : v ≡ Passed) where
-    asked : window_asked w (length old) ≡ Passed
+  module _ (p : v ≡ (Ok tt)) where
+    asked : window_asked w (length old) ≡ (Ok tt)
     asked = sym e ∙ p
 
     pub asked-window : is_window w ≡ true
     unfolding window_asked
-    asked-window = ask-yes (is_window w) InWindow (ask (eqb (length old) report_size) Length Passed) asked
+    asked-window = ask-yes (is_window w) InWindow (ask (eqb (length old) report_size) Length (Ok tt)) asked
 
     pub asked-size : length old ≡ report_size
     unfolding window_asked
     asked-size =
         eqb-true (length old) report_size
-        (ask-yes (eqb (length old) report_size) Length Passed (ask-next (is_window w) InWindow (ask (eqb (length old) report_size) Length Passed) asked))
-
-    pub window-reported : (card new : List ℕ) → new ≡ report_of w card → ReportsWindow w card old Passed new
-    window-reported card new f =
-        record { answer = sym (ap done asked); content = f ∙ sym (ap (λ (u : Verdict). written u old (report_of w card)) asked) }
-
-  pub window-refused : (q : Question) → v ≡ Refused q → (card : List ℕ) → ReportsWindow w card old (Refused q) old
-  window-refused q p card =
-      let f = sym p ∙ e in
-      record { answer = ap done f; content = ap (λ (u : Verdict). written u old (report_of w card)) f }
+        (ask-yes (eqb (length old) report_size) Length (Ok tt) (ask-next (is_window w) InWindow (ask (eqb (length old) report_size) Length (Ok tt)) asked))

@@ -1,10 +1,9 @@
 -- Two day sheets set side by side, the controller's and the meter cupboard's. Assumes nothing.
-use Rattle.std.specs.Prelude.{◌≡◌, Bool, cond, ◌&&◌, List, [], ◌∷◌, ℕ, ◌-◌, ◌*◌, eqb, leb, ltb, length, take, replicate}
+use Rattle.std.specs.Prelude.{Ok, Err, Result, ◌≡◌, Bool, cond, ◌&&◌, List, [], ◌∷◌, ℕ, ◌-◌, ◌*◌, eqb, leb, ltb, length, take, replicate}
 use Rattle.std.specs.Borrow.{Bor}
-use Rattle.field.specs.Question.{Outcome, accepted, refused, refusal, ask, after}
+use Rattle.field.specs.Question.{Verdict, Outcome, accepted, refused, refusal, ask, after}
+use Rattle.field.specs.declared.Question.{Question}
 use Rattle.field.specs.declared.Question.TheVariants.{Length, RecordNumber, SameDay}
-use Rattle.field.specs.declared.Verdict.{Verdict}
-use Rattle.field.specs.declared.Verdict.TheVariants.{Passed}
 use Rattle.code.specs.Word.{at}
 use Rattle.code.specs.Call.{followed}
 use Rattle.code.specs.Demands.{occurs}
@@ -12,9 +11,10 @@ use Rattle.card.specs.Record.{record_size, on_accept}
 use Rattle.card.specs.Card.{LiesAt}
 use Rattle.sheet.specs.Sheet.{quarters, year_at, month_at, day_at, pump_at}
 use Rattle.report.specs.Day.{has_record, slot_of, Day, sheet, no_sheet, day_of, day_symbols}
-use Rattle.report.specs.declared.compare.Choice.{Choice}
-use Rattle.report.specs.declared.compare.Choice.TheVariants.{Controller, Cupboard, Refused}
+use Rattle.report.specs.declared.compare.Side.{Side}
+use Rattle.report.specs.declared.compare.Side.TheVariants.{Controller, Cupboard}
 use Rattle.report.specs.declared.compare.Comparison.{Comparison}
+use Rattle.report.specs.declared.compare.Compared.{Compared}
 use Rattle.report.specs.declared.compare.PartTold.{PartTold}
 
 -- the sign of a quarter hour: 0 for equal counts, 1 for the controller's higher, 2 for the cupboard's
@@ -46,7 +46,7 @@ chosen_of k l = cond (leb k l) 1 2
 abbrev pub compared_of : Day → Day → Outcome
 compared_of (no_sheet n) d = refused n
 compared_of (sheet k ss) (no_sheet n) = refused n
-compared_of (sheet k ss) (sheet l ts) = after (ask (same_day ss ts) SameDay Passed) (accepted (chosen_of k l))
+compared_of (sheet k ss) (sheet l ts) = after (ask (same_day ss ts) SameDay (Ok tt)) (accepted (chosen_of k l))
 
 -- ---- beside an outcome, the signs of two sheets and their totals
 
@@ -64,18 +64,22 @@ abbrev pub shown_total : Outcome → List ℕ → List ℕ → ℕ → ℕ
 shown_total o ss ts s = or_zero o (occurs s (sheet_signs ss ts))
 
 -- the outcome that a choice stands for
-abbrev pub choice : Choice → Outcome
+abbrev pub choice : Side → Outcome
 choice Controller = accepted 1
 choice Cupboard = accepted 2
-choice (Refused q) = refused (refusal q)
 
--- the comparison shows this outcome of the sheets ss and ts
-pub record Shows (o : Outcome) (ss ts : List ℕ) (x : Comparison) : Type 0 where
+-- the comparison of the sheets ss and ts: the choice, the signs, and their totals
+pub record ShowsSheets (o : Outcome) (ss ts : List ℕ) (x : Comparison) : Type 0 where
   pub answer : choice x.choice ≡ o
-  pub signs : x.signs ≡ shown_signs o ss ts
-  pub equal : x.equal ≡ shown_total o ss ts 0
-  pub controller : x.controller ≡ shown_total o ss ts 1
-  pub cupboard : x.cupboard ≡ shown_total o ss ts 2
+  pub signs : x.signs ≡ sheet_signs ss ts
+  pub equal : x.equal ≡ occurs 0 (sheet_signs ss ts)
+  pub controller : x.controller ≡ occurs 1 (sheet_signs ss ts)
+  pub cupboard : x.cupboard ≡ occurs 2 (sheet_signs ss ts)
+
+-- the answer shows this outcome of the sheets ss and ts
+abbrev pub Shows : Outcome → List ℕ → List ℕ → Result Comparison Question → Type 0
+Shows o ss ts (Ok x) = ShowsSheets o ss ts x
+Shows o ss ts (Err q) = refused (refusal q) ≡ o
 
 -- ---- record i of the controller's card c, and record j of the cupboard's card d
 
@@ -85,7 +89,7 @@ symbols_at card n = day_symbols (day_of (slot_of card n))
 
 -- the numbers are asked before all else
 unfoldable pub numbers_asked : List ℕ → ℕ → List ℕ → ℕ → Verdict
-numbers_asked c i d j = ask (has_record c i && has_record d j) RecordNumber Passed
+numbers_asked c i d j = ask (has_record c i && has_record d j) RecordNumber (Ok tt)
 
 -- which is chosen, or the refusal
 unfoldable pub compare_of : List ℕ → ℕ → List ℕ → ℕ → Outcome
@@ -98,8 +102,8 @@ compare_signs c i d j = shown_signs (compare_of c i d j) (symbols_at c i) (symbo
 abbrev pub compare_total : List ℕ → ℕ → List ℕ → ℕ → ℕ → ℕ
 compare_total c i d j s = shown_total (compare_of c i d j) (symbols_at c i) (symbols_at d j) s
 
--- the promise of compare: the outcome, compare_signs, and compare_total of each sign
-abbrev pub Compares : List ℕ → ℕ → List ℕ → ℕ → Comparison → Type 0
+-- the promise of compare: the outcome, and of two sheets compare_signs, and compare_total of each sign
+abbrev pub Compares : List ℕ → ℕ → List ℕ → ℕ → Result Comparison Question → Type 0
 Compares c i d j x = Shows (compare_of c i d j) (symbols_at c i) (symbols_at d j) x
 
 -- ---- the part that is handed back
@@ -113,21 +117,31 @@ part_of (refused n) a b = []
 abbrev pub compare_part : List ℕ → ℕ → List ℕ → ℕ → List ℕ
 compare_part c i d j = part_of (compare_of c i d j) (slot_of c i) (slot_of d j)
 
--- the promise of compare_sheets: the part handed back has the chosen slot's bytes, and lies where the slot lies on its card
+-- the part that compare_sheets hands back has the chosen slot's bytes, and lies where the slot lies on its card
 pub record HandsBack (x : Bor (List ℕ)) (i : ℕ) (y : Bor (List ℕ)) (j : ℕ) (r : Bor (List ℕ)) : Type 0 where
   pub bytes : r.now ≡ compare_part x.now i y.now j
   pub controller : compare_of x.now i y.now j ≡ accepted 1 → LiesAt x ((i - 1) * record_size) r
   pub cupboard : compare_of x.now i y.now j ≡ accepted 2 → LiesAt y ((j - 1) * record_size) r
 
--- the promise of compare_part: the outcome of the comparison, and the size of the part that compare_sheets hands back
-pub record TellsPart (c : List ℕ) (i : ℕ) (d : List ℕ) (j : ℕ) (x : PartTold) : Type 0 where
+-- the promise of compare_sheets: the comparison, and the part
+abbrev pub ComparesSheets : Bor (List ℕ) → ℕ → Bor (List ℕ) → ℕ → Result Compared Question → Type 0
+ComparesSheets x i y j (Ok r) = Compares x.now i y.now j (Ok r.comparison) × HandsBack x i y j r.part
+ComparesSheets x i y j (Err q) = Compares x.now i y.now j (Err q)
+
+-- the choice, and the size of the part that compare_sheets hands back
+pub record TellsSize (c : List ℕ) (i : ℕ) (d : List ℕ) (j : ℕ) (x : PartTold) : Type 0 where
   pub answer : choice x.choice ≡ compare_of c i d j
   pub size : x.size ≡ length (compare_part c i d j)
+
+-- the promise of compare_part: these, or the refusal
+abbrev pub TellsPart : List ℕ → ℕ → List ℕ → ℕ → Result PartTold Question → Type 0
+TellsPart c i d j (Ok x) = TellsSize c i d j x
+TellsPart c i d j (Err q) = refused (refusal q) ≡ compare_of c i d j
 
 -- ---- with lent signs, whose length is asked for after the numbers
 
 unfoldable pub into_asked : List ℕ → ℕ → List ℕ → ℕ → ℕ → Verdict
-into_asked c i d j m = followed (numbers_asked c i d j) (ask (eqb m quarters) Length Passed)
+into_asked c i d j m = followed (numbers_asked c i d j) (ask (eqb m quarters) Length (Ok tt))
 
 -- which is chosen, or the refusal
 unfoldable pub into_of : List ℕ → ℕ → List ℕ → ℕ → List ℕ → Outcome
@@ -138,7 +152,7 @@ abbrev pub into_written : List ℕ → ℕ → List ℕ → ℕ → List ℕ →
 into_written c i d j signs = on_accept (into_of c i d j signs) signs (sheet_signs (symbols_at c i) (symbols_at d j))
 
 -- the promise of compare_into: the comparison shows the outcome of the sheets, and the signs are written where it is accepted
-pub record ComparesInto (c : List ℕ) (i : ℕ) (d : List ℕ) (j : ℕ) (old : List ℕ) (x : Comparison) (new : List ℕ) : Type 0 where
+pub record ComparesInto (c : List ℕ) (i : ℕ) (d : List ℕ) (j : ℕ) (old : List ℕ) (x : Result Comparison Question) (new : List ℕ) : Type 0 where
   pub shows : Shows (into_of c i d j old) (symbols_at c i) (symbols_at d j) x
   pub written : new ≡ into_written c i d j old
 

@@ -1,8 +1,8 @@
 -- The slots of a card by their numbers, and a record read as a day sheet. Assumes nothing.
+use Rattle.std.specs.Prelude.{Ok, Err}
+use Rattle.field.specs.Question.{Verdict}
 use Rattle.std.specs.Prelude.{Bool, cond, List, [], ℕ, ◌-◌, length, replicate}
 use Rattle.field.specs.Question.{Outcome, accepted, refused, refusal}
-use Rattle.field.specs.declared.Verdict.{Verdict}
-use Rattle.field.specs.declared.Verdict.TheVariants.{Passed, Refused}
 use Rattle.card.specs.Record.{width_of, word_of, record_of, copy_written}
 use Rattle.card.specs.Slots.{record_count, record_at}
 use Rattle.card.specs.Card.{is_number}
@@ -28,8 +28,8 @@ pub data Day : Type 0 where
 
 -- the questions of reading have been put to the word of a record of which k places were changed; ss are its symbols
 abbrev pub read_day : Verdict → ℕ → List ℕ → Day
-read_day Passed k ss = sheet k ss
-read_day (Refused q) k ss = no_sheet (refusal q)
+read_day (Ok tt) k ss = sheet k ss
+read_day (Err q) k ss = no_sheet (refusal q)
 
 -- a restored record, of which k places were changed, read as a day sheet
 abbrev pub restored_day : ℕ → List ℕ → Day

@@ -1,6 +1,6 @@
 -- The demands on day sheets of cards, as statements about the definitions. The calls' contracts say that they answer by these definitions;
 -- proofs/Demands.antt proves each statement under the same name in small letters. Assumes nothing.
-use Rattle.std.specs.Prelude.{◌≡◌, ◌↔◌, ◌⊎◌, true, false, cond, List, [], ◌++◌, ℕ, zero, suc, ◌+◌, ◌-◌, ◌*◌, ◌≤◌, ◌<◌, min, eqb, ltb, length, replicate}
+use Rattle.std.specs.Prelude.{Some, ◌≡◌, ◌↔◌, ◌⊎◌, true, false, cond, List, [], ◌++◌, ℕ, zero, suc, ◌+◌, ◌-◌, ◌*◌, ◌≤◌, ◌<◌, min, eqb, ltb, length, replicate}
 use Rattle.std.specs.Borrow.{Bor}
 use Rattle.field.specs.Question.{accepted, refused}
 use Rattle.code.specs.Word.{at}
@@ -16,7 +16,6 @@ use Rattle.report.specs.Compare.{sign_of, same_day, chosen_of, symbols_at, compa
 use Rattle.report.specs.Window.{is_window, counts_in, starts_sum, full_count, date_of, earlier, pumps, row_size, refused_at, blank_at, more_at}
 use Rattle.report.specs.Window.{row_from, row_of, part_added, report_of}
 use Rattle.report.specs.Quarter.{clock_text, quarter_of}
-use Rattle.report.specs.declared.quarter.Time.TheVariants.{At}
 use Rattle.report.specs.declared.row.Window.{Window}
 use Rattle.report.specs.declared.row.Date.{Date}
 use Rattle.report.specs.declared.row.Peak.{Peak}
@@ -243,4 +242,4 @@ PartsAdded =
 
 -- a quarter hour of the day has two texts, its number and its time, and nothing else stands for it
 abbrev pub QuartersRead : Type 0
-QuartersRead = (text : List ℕ) (n : ℕ) → (quarter_of text ≡ At n) ↔ ((n ≤ quarters) × ((text ≡ decimal n) ⊎ (text ≡ clock_text n)))
+QuartersRead = (text : List ℕ) (n : ℕ) → (quarter_of text ≡ Some n) ↔ ((n ≤ quarters) × ((text ≡ decimal n) ⊎ (text ≡ clock_text n)))

@@ -1,11 +1,9 @@
 -- A quarter hour of the day as people write it. Assumes nothing.
-use Rattle.std.specs.Prelude.{Bool, cond, ◌||◌, List, ◌∷◌, ◌++◌, ℕ, zero, suc, ◌+◌, ◌*◌, ◌/◌, ◌%◌}
+use Rattle.std.specs.Prelude.{Some, None, Option, Bool, cond, ◌||◌, List, ◌∷◌, ◌++◌, ℕ, zero, suc, ◌+◌, ◌*◌, ◌/◌, ◌%◌}
 use Rattle.code.specs.Call.{same_bytes}
 use Rattle.card.specs.Listing.{decimal}
 use Rattle.sheet.specs.Sheet.{quarters}
 use Rattle.report.specs.Table.{two_digits}
-use Rattle.report.specs.declared.quarter.Time.{Time}
-use Rattle.report.specs.declared.quarter.Time.TheVariants.{At, Bad}
 
 abbrev pub colon : ℕ
 colon = 58
@@ -19,10 +17,10 @@ unfoldable pub is_quarter : List ℕ → ℕ → Bool
 is_quarter text n = same_bytes text (decimal n) || same_bytes text (clock_text n)
 
 -- the quarter hour below n that the text stands for
-unfoldable pub quarter_below : List ℕ → ℕ → Time
-quarter_below text zero = Bad
-quarter_below text (suc n) = cond (is_quarter text n) (At n) (quarter_below text n)
+unfoldable pub quarter_below : List ℕ → ℕ → Option ℕ
+quarter_below text zero = None
+quarter_below text (suc n) = cond (is_quarter text n) (Some n) (quarter_below text n)
 
 -- the quarter hour that the text stands for: 0 to 96, which ends the day
-abbrev pub quarter_of : List ℕ → Time
+abbrev pub quarter_of : List ℕ → Option ℕ
 quarter_of text = quarter_below text (quarters + 1)

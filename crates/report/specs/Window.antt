@@ -1,9 +1,9 @@
 -- Starts in a window of the day, counted over a card for each pump. Assumes nothing.
+use Rattle.std.specs.Prelude.{Ok}
+use Rattle.field.specs.Question.{Verdict}
 use Rattle.std.specs.Prelude.{◌≡◌, Bool, cond, ◌&&◌, ◌||◌, List, [], ◌∷◌, ◌++◌, ℕ, ◌+◌, ◌-◌, ◌*◌, ◌/◌, ◌%◌, max, eqb, leb, ltb, length, set, take, drop, replicate}
 use Rattle.field.specs.Question.{Outcome, ask}
 use Rattle.field.specs.declared.Question.TheVariants.{Length, Window as InWindow}
-use Rattle.field.specs.declared.Verdict.{Verdict}
-use Rattle.field.specs.declared.Verdict.TheVariants.{Passed}
 use Rattle.code.specs.Word.{at}
 use Rattle.code.specs.Call.{written, done}
 use Rattle.code.specs.Demands.{occurs}
@@ -173,7 +173,7 @@ window_from first end = record { first = first; end = end }
 
 -- question 21, then question 2, put to a report of n numbers
 unfoldable pub window_asked : Window → ℕ → Verdict
-window_asked w n = ask (is_window w) InWindow (ask (eqb n report_size) Length Passed)
+window_asked w n = ask (is_window w) InWindow (ask (eqb n report_size) Length (Ok tt))
 
 -- what the call answers
 abbrev pub window_of : Window → List ℕ → Outcome

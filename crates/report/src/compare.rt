@@ -1,40 +1,37 @@
 // Two day sheets of the same pump and date, the controller's and the meter cupboard's, set side by side.
-ghost use Rattle.std.specs.Prelude.{◌≡◌, ◌≤◌, ◌<◌, length};
+ghost use Rattle.std.specs.Prelude.{◌≡◌, ◌≤◌, length};
 ghost use Rattle.field.specs.Question.{accepted};
 ghost use Rattle.code.specs.Demands.{occurs};
 ghost use Rattle.sheet.specs.Sheet.{quarters, sheet_size};
 ghost use Rattle.report.specs.Day.{sheet};
-ghost use Rattle.report.specs.inner.Parts.{day_in, refused_comparison, PartFrom, part_told};
+ghost use Rattle.report.specs.inner.Parts.{PartFrom};
 ghost use Rattle.report.specs.Compare.{sign_of, sheet_signs, same_day, chosen_of, compared_of, choice, Shows, TellsPart};
-ghost use Rattle.card.specs.Record.{on_accept};
-ghost use Rattle.report.specs.Compare.{numbers_asked, Compares, HandsBack, into_asked, ComparesInto};
+ghost use Rattle.report.specs.Compare.{numbers_asked, Compares, ComparesSheets, into_asked, ComparesInto};
 
 use crate::day::{Reading, has_record, read_day, slot};
-use code::Repair;
-use code::word::copy;
-use field::{Question, Verdict};
-use sheet::{DAY, MONTH, PUMP, QUARTERS, YEAR};
+use crate::row::date_of;
+use field::Question;
+use sheet::{PUMP, QUARTERS};
 
-// Whose sheet is chosen, or the question that was answered no.
-#[derive(Clone, Copy)]
-pub enum Choice {
+// Whose sheet is chosen.
+#[derive(Clone, Copy, PartialEq, Eq)]
+pub enum Side {
     Controller,
     Cupboard,
-    Refused(Question),
 }
 
 // The choice; for each quarter hour 0 where the counts are equal, 1 where the controller's is higher, 2 where the cupboard's is; and how
-// many quarter hours are of each kind. On a refusal every number is 0.
+// many quarter hours are of each kind.
 #[derive(Clone, Copy)]
 pub struct Comparison {
-    pub choice: Choice,
+    pub choice: Side,
     pub signs: [u8; QUARTERS],
     pub equal: u8,
     pub controller: u8,
     pub cupboard: u8,
 }
 
-// The comparison, beside the slot of the chosen sheet, as it was lent; nothing on a refusal.
+// The comparison, beside the slot of the chosen sheet, as it was lent.
 #[derive(Clone, Copy)]
 pub struct Compared<'a> {
     pub part: &'a [u8],
@@ -44,21 +41,8 @@ pub struct Compared<'a> {
 // The choice, and how many bytes the part has that was handed back.
 #[derive(Clone, Copy)]
 pub struct PartTold {
-    pub choice: Choice,
+    pub choice: Side,
     pub size: usize,
-}
-
-// A refusal: every number is 0.
-fn refused(q: Question) -> Comparison
-    ensures { result ≡ refused_comparison q }
-{
-    Comparison {
-        choice: Choice::Refused(q),
-        signs: [0; QUARTERS],
-        equal: 0,
-        controller: 0,
-        cupboard: 0,
-    }
 }
 
 // The sign of a quarter hour.
@@ -80,10 +64,8 @@ fn sign_row(controller: &[u8], cupboard: &[u8]) -> [u8; QUARTERS]
     ensures { result ≡ sheet_signs controller.now cupboard.now }
 {
     let mut signs = [0u8; QUARTERS];
-    let mut i = 0;
-    while i < QUARTERS {
+    for i in 0..QUARTERS {
         signs[i] = sign(controller[i], cupboard[i]);
-        i += 1;
     }
     signs
 }
@@ -93,15 +75,7 @@ fn count(signs: &[u8], s: u8) -> u8
     requires { length signs.now ≤ quarters }
     ensures { result ≡ occurs s signs.now }
 {
-    let mut n: u8 = 0;
-    let mut i = 0;
-    while i < signs.len() {
-        if signs[i] == s {
-            n += 1;
-        }
-        i += 1;
-    }
-    n
+    signs.iter().filter(|x| **x == s).count() as u8
 }
 
 // Are pump and date the same?
@@ -109,105 +83,82 @@ fn same_day(a: &[u8], b: &[u8]) -> bool
     requires { (length a.now ≡ sheet_size) × (length b.now ≡ sheet_size) }
     ensures { result ≡ same_day a.now b.now }
 {
-    if a[YEAR] != b[YEAR] {
-        return false;
-    }
-    if a[MONTH] != b[MONTH] {
-        return false;
-    }
-    if a[DAY] != b[DAY] {
-        return false;
-    }
-    a[PUMP] == b[PUMP]
+    date_of(a) == date_of(b) && a[PUMP] == b[PUMP]
 }
 
 // The one with fewer changed places; where both have as many, the controller's.
-fn choose(controller: u8, cupboard: u8) -> Choice
+fn choose(controller: u8, cupboard: u8) -> Side
     ensures { choice result ≡ accepted (chosen_of controller cupboard) }
 {
     if controller <= cupboard {
-        Choice::Controller
+        Side::Controller
     } else {
-        Choice::Cupboard
+        Side::Cupboard
     }
 }
 
-// Two sheets of which so many places were changed.
-fn side_by_side(controller: &[u8], k: u8, cupboard: &[u8], l: u8) -> Comparison
-    requires { (length controller.now ≡ sheet_size) × (length cupboard.now ≡ sheet_size) }
-    ensures { Shows (compared_of (sheet k controller.now) (sheet l cupboard.now)) controller.now
-        cupboard.now result }
+// Two sheets.
+fn side_by_side(a: Reading, b: Reading) -> Result<Comparison, Question>
+    ensures { Shows (compared_of (sheet a.changed a.symbols) (sheet b.changed b.symbols)) a.symbols b.symbols result }
 {
-    if !same_day(controller, cupboard) {
-        return refused(Question::SameDay);
+    if !same_day(&a.symbols, &b.symbols) {
+        return Err(Question::SameDay);
     }
-    let signs = sign_row(controller, cupboard);
-    Comparison {
-        choice: choose(k, l),
+    let signs = sign_row(&a.symbols, &b.symbols);
+    Ok(Comparison {
+        choice: choose(a.changed, b.changed),
         signs,
         equal: count(&signs, 0),
         controller: count(&signs, 1),
         cupboard: count(&signs, 2),
-    }
-}
-
-// Two readings: the controller's refusal comes first.
-fn compare_readings(controller: Reading, cupboard: Reading) -> Comparison
-    ensures { Shows (compared_of (day_in controller) (day_in cupboard)) controller.symbols cupboard.symbols result }
-{
-    let a = controller.answer;
-    let b = cupboard.answer;
-    match a {
-        Repair::Restored(k) => match b {
-            Repair::Restored(l) => side_by_side(&controller.symbols, k, &cupboard.symbols, l),
-            Repair::Refused(q) => refused(q),
-        },
-        Repair::Refused(q) => refused(q),
-    }
+    })
 }
 
 // Is each number that of a record of its card?
-pub fn ask_numbers<'a>(controller: &'a [u8], i: usize, cupboard: &'a [u8], j: usize) -> Verdict
+pub fn ask_numbers<'a>(
+    controller: &'a [u8],
+    i: usize,
+    cupboard: &'a [u8],
+    j: usize,
+) -> Result<(), Question>
     ensures { result ≡ numbers_asked controller.now i cupboard.now j }
 {
-    if !has_record(controller, i) {
-        return Verdict::Refused(Question::RecordNumber);
-    }
-    if has_record(cupboard, j) {
-        Verdict::Passed
+    if has_record(controller, i) && has_record(cupboard, j) {
+        Ok(())
     } else {
-        Verdict::Refused(Question::RecordNumber)
+        Err(Question::RecordNumber)
     }
 }
 
-// Compares record i of the controller's card and record j of the cupboard's, each restored in a copy and read as a day sheet.
-pub fn compare<'a>(controller: &'a [u8], i: usize, cupboard: &'a [u8], j: usize) -> Comparison
+// Compares record i of the controller's card and record j of the cupboard's, each restored in a copy and read as a day sheet. The controller's
+// refusal comes first.
+pub fn compare<'a>(
+    controller: &'a [u8],
+    i: usize,
+    cupboard: &'a [u8],
+    j: usize,
+) -> Result<Comparison, Question>
     ensures { Compares controller.now i cupboard.now j result }
 {
-    match ask_numbers(controller, i, cupboard, j) {
-        Verdict::Passed => compare_readings(
-            read_day(slot(controller, i)),
-            read_day(slot(cupboard, j)),
-        ),
-        Verdict::Refused(q) => refused(q),
-    }
+    ask_numbers(controller, i, cupboard, j)?;
+    let a = read_day(slot(controller, i))?;
+    let b = read_day(slot(cupboard, j))?;
+    side_by_side(a, b)
 }
 
-// The slot that the comparison chooses; nothing on a refusal.
+// The slot of the chosen sheet.
 pub fn chosen_part<'a>(
     controller: &'a [u8],
     i: usize,
     cupboard: &'a [u8],
     j: usize,
-    c: Comparison,
+    side: Side,
 ) -> &'a [u8]
-    ensures { PartFrom (choice c.choice) controller.entry i cupboard.entry j result }
+    ensures { PartFrom (choice side) controller.entry i cupboard.entry j result }
 {
-    let choice = c.choice;
-    match choice {
-        Choice::Controller => slot(controller, i),
-        Choice::Cupboard => slot(cupboard, j),
-        Choice::Refused(_) => &controller[0..0],
+    match side {
+        Side::Controller => slot(controller, i),
+        Side::Cupboard => slot(cupboard, j),
     }
 }
 
@@ -217,62 +168,45 @@ pub fn compare_sheets<'a>(
     i: usize,
     cupboard: &'a [u8],
     j: usize,
-) -> Compared<'a>
-    ensures { Compares controller.now i cupboard.now j result.comparison
-        × HandsBack controller.entry i cupboard.entry j result.part }
+) -> Result<Compared<'a>, Question>
+    ensures { ComparesSheets controller.entry i cupboard.entry j result }
 {
-    let c = compare(controller, i, cupboard, j);
-    Compared {
-        part: chosen_part(controller, i, cupboard, j, c),
-        comparison: c,
-    }
-}
-
-// What a comparison tells of its part.
-fn tell_part(part: &[u8], c: Comparison) -> PartTold
-    ensures { result ≡ part_told c.choice (length part.now) }
-{
-    let choice = c.choice;
-    PartTold {
-        choice,
-        size: part.len(),
-    }
+    let comparison = compare(controller, i, cupboard, j)?;
+    let part = chosen_part(controller, i, cupboard, j, comparison.choice);
+    Ok(Compared { part, comparison })
 }
 
 // compare_sheets for a caller that can be handed no part of a card: the choice, and how many bytes the chosen part has.
-pub fn compare_part<'a>(controller: &'a [u8], i: usize, cupboard: &'a [u8], j: usize) -> PartTold
+pub fn compare_part<'a>(
+    controller: &'a [u8],
+    i: usize,
+    cupboard: &'a [u8],
+    j: usize,
+) -> Result<PartTold, Question>
     ensures { TellsPart controller.now i cupboard.now j result }
 {
-    let c = compare_sheets(controller, i, cupboard, j);
-    tell_part(c.part, c.comparison)
+    let compared = compare_sheets(controller, i, cupboard, j)?;
+    Ok(PartTold {
+        choice: compared.comparison.choice,
+        size: compared.part.len(),
+    })
 }
 
 // Is each number that of a record of its card, and have the lent signs, m of them, their exact length?
-fn ask_into<'a>(controller: &'a [u8], i: usize, cupboard: &'a [u8], j: usize, m: usize) -> Verdict
+fn ask_into<'a>(
+    controller: &'a [u8],
+    i: usize,
+    cupboard: &'a [u8],
+    j: usize,
+    m: usize,
+) -> Result<(), Question>
     ensures { result ≡ into_asked controller.now i cupboard.now j m }
 {
-    match ask_numbers(controller, i, cupboard, j) {
-        Verdict::Passed => {
-            if m == QUARTERS {
-                Verdict::Passed
-            } else {
-                Verdict::Refused(Question::Length)
-            }
-        }
-        Verdict::Refused(q) => Verdict::Refused(q),
-    }
-}
-
-// Copies the signs of a comparison, unless it is a refusal.
-fn put_signs(c: Comparison, signs: &mut [u8])
-    requires { length signs.old ≡ quarters }
-    ensures { signs.new ≡ on_accept (choice c.choice) signs.old c.signs }
-{
-    let choice = c.choice;
-    match choice {
-        Choice::Controller => copy(signs, &c.signs),
-        Choice::Cupboard => copy(signs, &c.signs),
-        Choice::Refused(_) => {}
+    ask_numbers(controller, i, cupboard, j)?;
+    if m == QUARTERS {
+        Ok(())
+    } else {
+        Err(Question::Length)
     }
 }
 
@@ -283,15 +217,11 @@ pub fn compare_into<'a>(
     cupboard: &'a [u8],
     j: usize,
     signs: &mut [u8],
-) -> Comparison
+) -> Result<Comparison, Question>
     ensures { ComparesInto controller.now i cupboard.now j signs.old result signs.new }
 {
-    match ask_into(controller, i, cupboard, j, signs.len()) {
-        Verdict::Passed => {
-            let c = compare(controller, i, cupboard, j);
-            put_signs(c, signs);
-            c
-        }
-        Verdict::Refused(q) => refused(q),
-    }
+    ask_into(controller, i, cupboard, j, signs.len())?;
+    let c = compare(controller, i, cupboard, j)?;
+    signs.copy_from_slice(&c.signs);
+    Ok(c)
 }

@@ -1,20 +1,18 @@
 // The slots of a card by their numbers, and a record read as a day sheet.
 ghost use Rattle.std.specs.Prelude.{◌≡◌};
 ghost use Rattle.report.specs.Day.{has_record, restored_day, day_of};
-ghost use Rattle.report.specs.inner.Parts.{SlotPart, Whole, TellsDay};
+ghost use Rattle.report.specs.inner.Parts.{SlotPart, Whole, day_in};
 
 use card::cards::{is_number, record_count, record_from};
 use card::records::{HEADER, RECORD, restored_copy};
-use code::word::copy;
-use code::{Repair, word_length};
-use field::Verdict;
+use code::word_length;
+use field::Question;
 use sheet::{FIRST, SHEET, ask_content};
 
-// What reading a record as a day sheet answers: the number of places that restoring changed, or a refusal; and the symbols, 0 each where it
-// is refused. An enum holds no array, so the answer stands beside the symbols.
+// A record read as a day sheet: the number of places that restoring changed, and the symbols.
 #[derive(Clone, Copy)]
 pub struct Reading {
-    pub answer: Repair,
+    pub changed: u8,
     pub symbols: [u8; SHEET],
 }
 
@@ -36,44 +34,27 @@ pub(crate) fn slot(card: &[u8], number: usize) -> &[u8]
     }
 }
 
-// Reads the day sheet of a restored record, of which k places were changed. Its word is a codeword, so that only the questions about its
-// content are put.
-fn read_restored(bytes: &[u8], k: u8) -> Reading
+// Reads the day sheet of a restored record, of which so many places were changed. Its word is a codeword, so that only the questions about
+// its content are put.
+fn read_restored(bytes: &[u8], changed: u8) -> Result<Reading, Question>
     requires { Whole bytes.now }
-    ensures { TellsDay (restored_day k bytes.now) result }
+    ensures { day_in result ≡ restored_day changed bytes.now }
 {
     let width = bytes[0];
     let from = HEADER;
     let end = HEADER + word_length(width);
-    match ask_content(width, &bytes[from..end]) {
-        Verdict::Passed => {
-            let mut symbols = [0u8; SHEET];
-            let first = HEADER + FIRST;
-            let last = HEADER + FIRST + SHEET;
-            copy(&mut symbols, &bytes[first..last]);
-            Reading {
-                answer: Repair::Restored(k),
-                symbols,
-            }
-        }
-        Verdict::Refused(q) => Reading {
-            answer: Repair::Refused(q),
-            symbols: [0; SHEET],
-        },
-    }
+    ask_content(width, &bytes[from..end])?;
+    let first = HEADER + FIRST;
+    let last = first + SHEET;
+    let mut symbols = [0u8; SHEET];
+    symbols.copy_from_slice(&bytes[first..last]);
+    Ok(Reading { changed, symbols })
 }
 
 // Restores a record in a copy and reads it as a day sheet; the record stays as it is.
-pub fn read_day(bytes: &[u8]) -> Reading
-    ensures { TellsDay (day_of bytes.now) result }
+pub fn read_day(bytes: &[u8]) -> Result<Reading, Question>
+    ensures { day_in result ≡ day_of bytes.now }
 {
-    let restored = restored_copy(bytes);
-    let answer = restored.answer;
-    match answer {
-        Repair::Restored(k) => read_restored(&restored.bytes, k),
-        Repair::Refused(q) => Reading {
-            answer: Repair::Refused(q),
-            symbols: [0; SHEET],
-        },
-    }
+    let restored = restored_copy(bytes)?;
+    read_restored(&restored.bytes, restored.changed)
 }

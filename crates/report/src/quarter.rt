@@ -1,30 +1,26 @@
 // A quarter hour of the day as people write it: its number, 0 to 96, or the time at which it begins, hh:mm.
+#![tactic(auto, using(card::proofs::Writing::appending))]
+
 ghost use Rattle.std.specs.Prelude.{◌≡◌, ◌+◌, ◌≤◌, ◌<◌, length};
 ghost use Rattle.card.specs.Listing.{decimal};
-ghost use Rattle.card.specs.Placed.{Writes};
+ghost use Rattle.card.specs.Text.{Appends};
 ghost use Rattle.code.specs.Call.{same_bytes};
 ghost use Rattle.report.specs.Quarter.{clock_text, is_quarter, quarter_of};
 ghost use Rattle.report.specs.inner.Room.{longest_clock};
 
 use crate::table::put_two;
-use card::text::{put_bytes, put_decimal};
+use card::text::Text;
 use check::same;
 
-// The quarter hour, or that the text stands for none.
-#[derive(Clone, Copy)]
-pub enum Time {
-    At(u8),
-    Bad,
-}
-
 // Writes the time at which quarter hour n begins.
-fn put_clock(out: &mut [u8], at: usize, n: u64) -> usize
-    requires { at + longest_clock ≤ length out.old }
-    ensures { Writes out.old at (clock_text n) out.new result }
+#[tactic(auto, using(card::proofs::Writing::appending), unfolding(crate::specs::Quarter::clock_text))]
+fn put_clock(out: &mut Text, n: u64)
+    requires { longest_clock ≤ out.old.room }
+    ensures { Appends out.old (clock_text n) out.new }
 {
-    let a = put_two(out, at, n / 4);
-    let b = put_bytes(out, a, b":");
-    put_two(out, b, n % 4 * 15)
+    put_two(out, n / 4);
+    out.put_byte(b':');
+    put_two(out, n % 4 * 15);
 }
 
 // Is the text the number n?
@@ -32,8 +28,9 @@ fn is_number(text: &[u8], n: u64) -> bool
     ensures { result ≡ same_bytes text.now (decimal n) }
 {
     let mut out = [0u8; 20];
-    let used = put_decimal(&mut out, 0, n);
-    same(text, &out[..used])
+    let mut number = Text::new(&mut out);
+    number.put_decimal(n);
+    same(text, number.as_bytes())
 }
 
 // Is the text the time at which quarter hour n begins?
@@ -41,30 +38,27 @@ fn is_clock(text: &[u8], n: u64) -> bool
     ensures { result ≡ same_bytes text.now (clock_text n) }
 {
     let mut out = [0u8; 41];
-    let used = put_clock(&mut out, 0, n);
-    same(text, &out[..used])
+    let mut clock = Text::new(&mut out);
+    put_clock(&mut clock, n);
+    same(text, clock.as_bytes())
 }
 
 // Does the text stand for quarter hour n?
+#[tactic(auto, unfolding(crate::specs::Quarter::is_quarter))]
 fn is_quarter(text: &[u8], n: u8) -> bool
     ensures { result ≡ is_quarter text.now n }
 {
-    if is_number(text, n as u64) {
-        return true;
-    }
-    is_clock(text, n as u64)
+    is_number(text, u64::from(n)) || is_clock(text, u64::from(n))
 }
 
-// The quarter hour that the text stands for.
-pub fn quarter(text: &[u8]) -> Time
+// The quarter hour that the text stands for, if it stands for one.
+pub fn quarter(text: &[u8]) -> Option<u8>
     ensures { result ≡ quarter_of text.now }
 {
-    let mut n: u8 = 97;
-    while 0 < n {
-        n -= 1;
+    for n in (0..97).rev() {
         if is_quarter(text, n) {
-            return Time::At(n);
+            return Some(n);
         }
     }
-    Time::Bad
+    None
 }

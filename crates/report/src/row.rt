@@ -1,9 +1,9 @@
 // A window of the day, the counts of a sheet in it, and the row of a pump: its numbers in a report.
-ghost use Rattle.std.specs.Prelude.{◌≡◌, true, cond, ◌+◌, ◌^◌, ◌≤◌, ◌<◌, max, eqb, length};
+ghost use Rattle.std.specs.Prelude.{◌≡◌, true, ◌+◌, ◌^◌, ◌≤◌, ◌<◌, length};
 ghost use Rattle.sheet.specs.Sheet.{quarters, sheet_size};
 ghost use Rattle.sheet.specs.Demands.{SheetSymbols};
-ghost use Rattle.report.specs.Window.{is_window, full_count, counts_of, date_of, earlier, peak_of, row_after, row_with, row_from, row_numbers, row_size};
-ghost use Rattle.report.specs.inner.Room.{counts_with, Most};
+ghost use Rattle.report.specs.Window.{is_window, counts_of, date_of, peak_of, row_after, row_with, row_from, row_numbers, row_size};
+ghost use Rattle.report.specs.inner.Room.{Most};
 
 use sheet::{DAY, MONTH, QUARTERS, YEAR};
 
@@ -18,7 +18,7 @@ pub struct Window {
 }
 
 // A date: the year less 2000, the month, the day.
-#[derive(Clone, Copy)]
+#[derive(Clone, Copy, PartialEq, Eq, PartialOrd, Ord)]
 pub(crate) struct Date {
     pub year: u64,
     pub month: u64,
@@ -52,102 +52,39 @@ struct Counts {
     highest: u64,
 }
 
-fn wide(x: u8) -> u64
-    ensures { result ≡ x }
-{
-    x as u64
-}
-
-// 1 for a count of 127.
-fn full_of(x: u8) -> u64
-    ensures { result ≡ cond (eqb full_count x) 1 0 }
-{
-    if x == 127 {
-        return 1;
-    }
-    0
-}
-
-fn higher(a: u64, b: u64) -> u64
-    ensures { result ≡ max a b }
-{
-    if a < b {
-        return b;
-    }
-    a
-}
-
-// One more count.
-fn with_count(c: Counts, x: u8) -> Counts
-    requires { (c.sum ≤ 2 ^ 32) × (c.full ≤ 2 ^ 32) }
-    ensures { result ≡ counts_with c x }
-{
-    let n = wide(x);
-    Counts {
-        sum: c.sum + n,
-        full: c.full + full_of(x),
-        highest: higher(c.highest, n),
-    }
-}
-
 fn counts_of(xs: &[u8]) -> Counts
     requires { length xs.now ≤ quarters }
     ensures { result ≡ counts_of xs.now }
 {
-    let mut c = Counts {
-        sum: 0,
-        full: 0,
-        highest: 0,
-    };
-    let mut i = 0;
-    while i < xs.len() {
-        c = with_count(c, xs[i]);
-        i += 1;
+    Counts {
+        sum: xs.iter().map(|x| u64::from(*x)).sum(),
+        full: xs.iter().filter(|x| **x == 127).count() as u64,
+        highest: u64::from(xs.iter().copied().max().unwrap_or(0)),
     }
-    c
-}
-
-// Is the date a before b?
-fn is_earlier(a: Date, b: Date) -> bool
-    ensures { result ≡ earlier a b }
-{
-    if a.year != b.year {
-        return a.year < b.year;
-    }
-    if a.month != b.month {
-        return a.month < b.month;
-    }
-    a.day < b.day
 }
 
 // The highest count with its earliest date: that of so many sheets, or that of a further one.
 fn peak_of(sheets: u64, old: Peak, new: Peak) -> Peak
     ensures { result ≡ peak_of sheets old new }
 {
-    if sheets == 0 {
+    if sheets == 0 || old.count < new.count {
         return new;
     }
-    if old.count < new.count {
-        return new;
-    }
-    if new.count < old.count {
-        return old;
-    }
-    if is_earlier(new.date, old.date) {
+    if old.count == new.count && new.date < old.date {
         return new;
     }
     old
 }
 
 // The date among the symbols.
-fn date_of(symbols: &[u8]) -> Date
+pub(crate) fn date_of(symbols: &[u8]) -> Date
     requires { length symbols.now ≡ sheet_size }
     ensures { result ≡ date_of symbols.now }
 {
     Date {
-        year: wide(symbols[YEAR]),
-        month: wide(symbols[MONTH]),
-        day: wide(symbols[DAY]),
+        year: u64::from(symbols[YEAR]),
+        month: u64::from(symbols[MONTH]),
+        day: u64::from(symbols[DAY]),
     }
 }
 
@@ -178,10 +115,8 @@ pub(crate) fn with_sheet(row: Row, symbols: &[u8], w: Window) -> Row
     requires { (is_window w ≡ true) × SheetSymbols symbols.now × Most (2 ^ 63) row }
     ensures { result ≡ row_with w row symbols.now }
 {
-    let first = w.first as usize;
-    let end = w.end as usize;
-    let c = counts_of(&symbols[first..end]);
-    row_after(row, c, date_of(symbols))
+    let counts = counts_of(&symbols[w.first as usize..w.end as usize]);
+    row_after(row, counts, date_of(symbols))
 }
 
 // The row that stands in nine numbers.
@@ -209,23 +144,22 @@ pub(crate) fn put_row(xs: &mut [u64], r: Row)
     requires { length xs.old ≡ row_size }
     ensures { xs.new ≡ row_numbers r }
 {
-    xs[0] = r.sheets;
-    xs[1] = r.sum;
-    xs[2] = r.full;
-    xs[3] = r.peak.count;
-    xs[4] = r.peak.date.year;
-    xs[5] = r.peak.date.month;
-    xs[6] = r.peak.date.day;
-    xs[7] = r.quotient;
-    xs[8] = r.remainder;
+    xs.copy_from_slice(&[
+        r.sheets,
+        r.sum,
+        r.full,
+        r.peak.count,
+        r.peak.date.year,
+        r.peak.date.month,
+        r.peak.date.day,
+        r.quotient,
+        r.remainder,
+    ]);
 }
 
 // Is the window's first quarter hour below its end, and that at most 96?
 pub fn is_window(w: Window) -> bool
     ensures { result ≡ is_window w }
 {
-    if w.first < w.end {
-        return w.end as usize <= QUARTERS;
-    }
-    false
+    w.first < w.end && w.end as usize <= QUARTERS
 }

@@ -1,120 +1,115 @@
-// The text of a report as a table, written into a lent buffer. No function here is an entry point: each requires room for its text. The
-// bound on the report's numbers is for the year, which is counted from 2000.
+// The text of a report as a table. No function here is an entry point: each requires room for its text. The bound on the report's numbers
+// is for the year, which is counted from 2000.
+#![tactic(auto, using(card::proofs::Writing::appending))]
+
 ghost use Rattle.std.specs.Prelude.{◌+◌, ◌*◌, ◌^◌, ◌≤◌, ◌<◌, length};
-ghost use Rattle.card.specs.Placed.{Writes};
+ghost use Rattle.card.specs.Text.{Appends};
 ghost use Rattle.report.specs.Window.{pumps};
 ghost use Rattle.report.specs.inner.Room.{Countable, longest_number, longest_date, longest_counts, longest_row, longest_last, longest_table};
 ghost use Rattle.report.specs.Table.{two_digits, date_text, count_fields, row_line, pump_line, pump_lines, last_lines, table_text};
 
 use crate::row::{Date, ROW, Row, row_of};
 use crate::window::{BLANK, MORE, REFUSED};
-use card::text::{put_bytes, put_decimal, put_field, put_more};
+use card::listing::put_more;
+use card::text::Text;
 
-// Writes n's digits, with a zero before a single one. Each function that puts something answers the place behind it.
-pub(crate) fn put_two(out: &mut [u8], at: usize, n: u64) -> usize
-    requires { at + longest_number ≤ length out.old }
-    ensures writes { Writes out.old at (two_digits n) out.new result }
-    ensures upper_bound { result ≤ at + longest_number }
+// Writes n's digits, with a zero before a single one.
+#[tactic(auto, using(card::proofs::Writing::appending, card::proofs::Writing::length_one), unfolding(crate::specs::Table::two_digits))]
+pub(crate) fn put_two(out: &mut Text, n: u64)
+    requires { longest_number ≤ out.old.room }
+    ensures text { Appends out.old (two_digits n) out.new }
+    ensures upper_bound { out.old.room ≤ longest_number + out.new.room }
 {
     if n < 10 {
-        let next = put_bytes(out, at, b"0");
-        put_decimal(out, next, n)
-    } else {
-        put_decimal(out, at, n)
+        out.put_byte(b'0');
     }
+    out.put_decimal(n);
 }
 
 // Writes a date.
-fn put_date(out: &mut [u8], at: usize, d: Date) -> usize
-    requires { (at + longest_date ≤ length out.old) × (d.year ≤ 2 ^ 63) }
-    ensures writes { Writes out.old at (date_text d) out.new result }
-    ensures upper_bound { result ≤ at + longest_date }
+#[tactic(auto, using(card::proofs::Writing::appending), unfolding(crate::specs::Table::date_text))]
+fn put_date(out: &mut Text, d: Date)
+    requires { (longest_date ≤ out.old.room) × (d.year ≤ 2 ^ 63) }
+    ensures text { Appends out.old (date_text d) out.new }
+    ensures upper_bound { out.old.room ≤ longest_date + out.new.room }
 {
-    let a = put_field(out, at, d.year + 2000, b'-');
-    let b = put_two(out, a, d.month);
-    let c = put_bytes(out, b, b"-");
-    put_two(out, c, d.day)
+    out.put_field(d.year + 2000, b'-');
+    put_two(out, d.month);
+    out.put_byte(b'-');
+    put_two(out, d.day);
 }
 
 // Writes the first five columns of pump p, which has the row r.
-fn put_counts(out: &mut [u8], at: usize, p: u64, r: Row) -> usize
-    requires { at + longest_counts ≤ length out.old }
-    ensures writes { Writes out.old at (count_fields p r) out.new result }
-    ensures upper_bound { result ≤ at + longest_counts }
+#[tactic(auto, using(card::proofs::Writing::appending), unfolding(crate::specs::Table::count_fields))]
+fn put_counts(out: &mut Text, p: u64, r: Row)
+    requires { longest_counts ≤ out.old.room }
+    ensures text { Appends out.old (count_fields p r) out.new }
+    ensures upper_bound { out.old.room ≤ longest_counts + out.new.room }
 {
-    let a = put_field(out, at, p, b' ');
-    let b = put_field(out, a, r.sheets, b' ');
-    let c = put_field(out, b, r.sum, b' ');
-    let d = put_field(out, c, r.full, b' ');
-    put_field(out, d, r.peak.count, b' ')
+    out.put_field(p, b' ');
+    out.put_field(r.sheets, b' ');
+    out.put_field(r.sum, b' ');
+    out.put_field(r.full, b' ');
+    out.put_field(r.peak.count, b' ');
 }
 
 // Writes the line of pump p, which has the row r.
-fn put_line(out: &mut [u8], at: usize, p: u64, r: Row) -> usize
-    requires { (at + longest_row ≤ length out.old) × (r.peak.date.year ≤ 2 ^ 63) }
-    ensures { Writes out.old at (row_line p r) out.new result }
+#[tactic(auto, using(card::proofs::Writing::appending), unfolding(crate::specs::Table::row_line))]
+fn put_line(out: &mut Text, p: u64, r: Row)
+    requires { (longest_row ≤ out.old.room) × (r.peak.date.year ≤ 2 ^ 63) }
+    ensures { Appends out.old (row_line p r) out.new }
 {
-    let a = put_counts(out, at, p, r);
-    let peak = r.peak;
-    let b = put_date(out, a, peak.date);
-    let c = put_bytes(out, b, b" ");
-    let d = put_field(out, c, r.quotient, b' ');
-    put_field(out, d, r.remainder, b'\n')
+    put_counts(out, p, r);
+    put_date(out, r.peak.date);
+    out.put_byte(b' ');
+    out.put_field(r.quotient, b' ');
+    out.put_field(r.remainder, b'\n');
 }
 
 // Writes the line of pump p, if it has sheets.
-fn put_pump(out: &mut [u8], at: usize, report: &[u64], p: usize) -> usize
-    requires { (at + longest_row ≤ length out.old) × (p < pumps) × Countable (2 ^ 63) report.now }
-    ensures { Writes out.old at (pump_line report.now p) out.new result }
+fn put_pump(out: &mut Text, report: &[u64], p: usize)
+    requires { (longest_row ≤ out.old.room) × (p < pumps) × Countable (2 ^ 63) report.now }
+    ensures { Appends out.old (pump_line report.now p) out.new }
 {
     let from = p * ROW;
-    let to = from + ROW;
-    let row = row_of(&report[from..to]);
-    if row.sheets == 0 {
-        return at;
+    let row = row_of(&report[from..from + ROW]);
+    if row.sheets != 0 {
+        put_line(out, p as u64, row);
     }
-    put_line(out, at, p as u64, row)
 }
 
 // Writes the lines of all pumps.
-fn put_pumps(out: &mut [u8], at: usize, report: &[u64]) -> usize
-    requires { (at + pumps * longest_row ≤ length out.old) × Countable (2 ^ 63) report.now }
-    ensures { Writes out.old at (pump_lines report.now pumps) out.new result }
+fn put_pumps(out: &mut Text, report: &[u64])
+    requires { (pumps * longest_row ≤ out.old.room) × Countable (2 ^ 63) report.now }
+    ensures { Appends out.old (pump_lines report.now pumps) out.new }
 {
-    let mut next = at;
-    let mut p = 0;
-    while p < 128 {
-        next = put_pump(out, next, report, p);
-        p += 1;
+    for p in 0..128 {
+        put_pump(out, report, p);
     }
-    next
 }
 
 // Writes the lines behind those of the pumps.
-fn put_last(out: &mut [u8], at: usize, report: &[u64]) -> usize
-    requires { (at + longest_last ≤ length out.old) × Countable (2 ^ 63) report.now }
-    ensures { Writes out.old at (last_lines report.now) out.new result }
+#[tactic(auto, using(card::proofs::Writing::appending), unfolding(crate::specs::Table::last_lines))]
+fn put_last(out: &mut Text, report: &[u64])
+    requires { (longest_last ≤ out.old.room) × Countable (2 ^ 63) report.now }
+    ensures { Appends out.old (last_lines report.now) out.new }
 {
-    let a = put_bytes(out, at, b"refused ");
-    let b = put_field(out, a, report[REFUSED], b'\n');
-    let c = put_bytes(out, b, b"blank ");
-    let d = put_field(out, c, report[BLANK], b'\n');
-    if report[MORE] == 0 {
-        return d;
+    out.put_bytes(b"refused ");
+    out.put_field(report[REFUSED], b'\n');
+    out.put_bytes(b"blank ");
+    out.put_field(report[BLANK], b'\n');
+    if report[MORE] != 0 {
+        put_more(out);
     }
-    put_more(out, d)
 }
 
 // Writes the whole table. No entry point: it requires room for it, and numbers to which 2000 can be added.
-pub fn put_table(out: &mut [u8], report: &[u64]) -> usize
-    requires { (longest_table ≤ length out.old) × Countable (2 ^ 63) report.now }
-    ensures { Writes out.old 0 (table_text report.now) out.new result }
+#[tactic(auto, using(card::proofs::Writing::appending, crate::proofs::Tables::pumps_short), unfolding(crate::specs::Table::table_text))]
+pub fn put_table(out: &mut Text, report: &[u64])
+    requires { (longest_table ≤ out.old.room) × Countable (2 ^ 63) report.now }
+    ensures { Appends out.old (table_text report.now) out.new }
 {
-    let a = put_bytes(
-        out,
-        0,
-        b"pump sheets starts full highest date quotient remainder\n",
-    );
-    let b = put_pumps(out, a, report);
-    put_last(out, b, report)
+    out.put_bytes(b"pump sheets starts full highest date quotient remainder\n");
+    put_pumps(out, report);
+    put_last(out, report);
 }

@@ -1,6 +1,6 @@
 // Starts in a window of the day, counted over a card for each pump, in a lent report of 1,155 numbers: nine for each pump, then the refused
 // records, the blank slots, and whether the card goes on.
-ghost use Rattle.std.specs.Prelude.{◌≡◌, true, ◌+◌, ◌*◌, ◌^◌, ◌≤◌, ◌<◌, length, take, replicate};
+ghost use Rattle.std.specs.Prelude.{◌≡◌, true, ◌+◌, ◌*◌, ◌^◌, ◌≤◌, ◌<◌, length, replicate};
 ghost use Rattle.code.specs.Word.{at};
 ghost use Rattle.card.specs.Record.{record_size};
 ghost use Rattle.card.specs.Listing.{most_records};
@@ -15,8 +15,7 @@ use crate::day::read_day;
 use crate::row::{ROW, Window, is_window, put_row, row_of, with_sheet};
 use card::cards::{is_blank, record_count, record_from};
 use card::records::RECORD;
-use code::Repair;
-use field::{Question, Verdict};
+use field::Question;
 use sheet::PUMP;
 
 // Behind the rows of 128 pumps.
@@ -39,9 +38,8 @@ fn add_sheet(symbols: &[u8], w: Window, report: &mut [u64])
         (row_with w (row_of report.old (at symbols.now pump_at)) symbols.now) }
 {
     let from = symbols[PUMP] as usize * ROW;
-    let to = from + ROW;
-    let row = with_sheet(row_of(&report[from..to]), symbols, w);
-    put_row(&mut report[from..to], row);
+    let row = &mut report[from..from + ROW];
+    put_row(row, with_sheet(row_of(row), symbols, w));
 }
 
 // One more in a number of the report.
@@ -57,11 +55,9 @@ fn add_record(slot: &[u8], w: Window, report: &mut [u64])
     requires { (is_window w ≡ true) × Countable (2 ^ 63) report.old }
     ensures { report.new ≡ day_added w report.old (day_of slot.now) }
 {
-    let day = read_day(slot);
-    let answer = day.answer;
-    match answer {
-        Repair::Restored(_) => add_sheet(&day.symbols, w, report),
-        Repair::Refused(_) => add_one(report, REFUSED),
+    match read_day(slot) {
+        Ok(day) => add_sheet(&day.symbols, w, report),
+        Err(_) => add_one(report, REFUSED),
     }
 }
 
@@ -83,11 +79,8 @@ pub fn add_part(part: &[u8], w: Window, report: &mut [u64])
     requires { (is_window w ≡ true) × (length part.now ≤ most_records * record_size) × Countable (2 ^ 62) report.old }
     ensures { report.new ≡ part_added w report.old part.now }
 {
-    let n = record_count(part.len());
-    let mut i = 0;
-    while i < n {
+    for i in 0..record_count(part.len()) {
         add_slot(record_from(part, i * RECORD), w, report);
-        i += 1;
     }
 }
 
@@ -95,11 +88,7 @@ pub fn add_part(part: &[u8], w: Window, report: &mut [u64])
 pub fn begin(report: &mut [u64])
     ensures { report.new ≡ replicate (length report.old) 0 }
 {
-    let mut i = 0;
-    while i < report.len() {
-        report[i] = 0;
-        i += 1;
-    }
+    report.fill(0);
 }
 
 // Says in the report whether the card goes on behind the records that were looked at. No entry point: it requires a report that is long
@@ -108,19 +97,7 @@ pub fn finish(report: &mut [u64], more: bool)
     requires { more_at < length report.old }
     ensures { report.new ≡ finished report.old more }
 {
-    if more {
-        report[MORE] = 1;
-    } else {
-        report[MORE] = 0;
-    }
-}
-
-// The first n bytes of a card.
-fn front(card: &[u8], n: usize) -> &[u8]
-    requires { n ≤ length card.now }
-    ensures { result.now ≡ take n card.now }
-{
-    &card[..n]
+    report[MORE] = u64::from(more);
 }
 
 // The report of a card: of its first 1,000,000 slots.
@@ -130,38 +107,29 @@ fn write_report(card: &[u8], w: Window, report: &mut [u64])
 {
     begin(report);
     let most = MOST * RECORD;
-    if card.len() <= most {
-        add_part(card, w, report);
-        finish(report, false);
-    } else {
-        add_part(front(card, most), w, report);
-        finish(report, true);
-    }
+    add_part(&card[..card.len().min(most)], w, report);
+    finish(report, most < card.len());
 }
 
 // Question 21, then question 2, put to a report of n numbers.
-fn ask_window(w: Window, n: usize) -> Verdict
+fn ask_window(w: Window, n: usize) -> Result<(), Question>
     ensures { result ≡ window_asked w n }
 {
     if !is_window(w) {
-        return Verdict::Refused(Question::Window);
+        return Err(Question::Window);
     }
     if n == REPORT {
-        Verdict::Passed
+        Ok(())
     } else {
-        Verdict::Refused(Question::Length)
+        Err(Question::Length)
     }
 }
 
 // Reports the starts in the window over a card.
-pub fn window(card: &[u8], w: Window, report: &mut [u64]) -> Verdict
+pub fn window(card: &[u8], w: Window, report: &mut [u64]) -> Result<(), Question>
     ensures { ReportsWindow w card.now report.old result report.new }
 {
-    match ask_window(w, report.len()) {
-        Verdict::Passed => {
-            write_report(card, w, report);
-            Verdict::Passed
-        }
-        Verdict::Refused(q) => Verdict::Refused(q),
-    }
+    ask_window(w, report.len())?;
+    write_report(card, w, report);
+    Ok(())
 }

@@ -1,15 +1,13 @@
 -- From the answers of the questions to the contracts of the calls. Assumes nothing.
+use Rattle.std.proofs.Common.{Ok}
+use Rattle.field.specs.Question.{Verdict, accepted}
 use Rattle.field.proofs.Base.{◌≡◌, refl, sym, ap, ◌∙◌, List, ℕ, ◌+◌, ◌≤◌, arith, length}
 use mathlib.Core.Path.{subst₂}
-use Rattle.field.specs.Question.{accepted}
-use Rattle.field.specs.declared.Question.{Question}
-use Rattle.field.specs.declared.Verdict.{Verdict}
-use Rattle.field.specs.declared.Verdict.TheVariants.{Passed, Refused}
 use Rattle.code.specs.Word.{checks}
 use Rattle.code.specs.Call.{written, done, encode_asked, Encodes}
 use Rattle.code.proofs.calls.Passing.{encode-passes}
 use Rattle.sheet.specs.Sheet.{sheet_width, sheet_size, sheet_data, sheet_word, symbols_of}
-use Rattle.sheet.specs.Call.{write_sheet_asked, WritesSheet, read_sheet_asked, ReadsSheet}
+use Rattle.sheet.specs.Call.{write_sheet_asked, WritesSheet, read_sheet_asked}
 use Rattle.sheet.specs.Demands.{Writable}
 use Rattle.sheet.proofs.Asking.{after-accepted}
 use Rattle.sheet.proofs.Sheets.{sheet-data, write-means, read-means, read-symbols}
@@ -17,8 +15,8 @@ use Rattle.sheet.proofs.Sheets.{sheet-data, write-means, read-means, read-symbol
 -- ---- writing; v is the verdict of the questions
 
 module _ (m : ℕ) (ss old : List ℕ) (v : Verdict) (e : v ≡ write_sheet_asked m ss (length old)) where
-  module _ (p : v ≡ Passed) where
-    asked : write_sheet_asked m ss (length old) ≡ Passed
+  module _ (p : v ≡ (Ok tt)) where
+    asked : write_sheet_asked m ss (length old) ≡ (Ok tt)
     asked = sym e ∙ p
 
     pub writes-size : length ss ≡ sheet_size
@@ -38,19 +36,14 @@ module _ (m : ℕ) (ss old : List ℕ) (v : Verdict) (e : v ≡ write_sheet_aske
         E' : Encodes sheet_width (sheet_data ss) old u new
         E' = subst₂ (λ (n : ℕ) (ds : List ℕ). Encodes n ds old u new) W.width d E
 
-        passes : encode_asked sheet_width (sheet_data ss) (length old) ≡ Passed
+        passes : encode_asked sheet_width (sheet_data ss) (length old) ≡ (Ok tt)
         passes = encode-passes sheet_width refl (sheet_data ss) old (sheet-data ss W.symbols) W.word_size
-
-  pub writes-refused : (q : Question) → v ≡ Refused q → WritesSheet m ss old (Refused q) old
-  writes-refused q p =
-      let f = sym p ∙ e in
-      record { answer = ap done f; word = ap (λ (x : Verdict). written x old (sheet_word ss)) f }
 
 -- ---- reading; v has the outcome of the questions
 
 module _ (m : ℕ) (w old : List ℕ) (v : Verdict) (e : done v ≡ done (read_sheet_asked m w (length old))) where
-  module _ (p : v ≡ Passed) where
-    passed : read_sheet_asked m w (length old) ≡ Passed
+  module _ (p : v ≡ (Ok tt)) where
+    passed : read_sheet_asked m w (length old) ≡ (Ok tt)
     passed = after-accepted (read_sheet_asked m w (length old)) (accepted 0) 0 (ap done (sym p) ∙ e)
 
     pub reads-long : checks + sheet_size ≤ length w
@@ -60,17 +53,3 @@ module _ (m : ℕ) (w old : List ℕ) (v : Verdict) (e : done v ≡ done (read_s
     reads-size =
         let R = read-means m w old passed in
         R.symbols-size ∙ sym (read-symbols w R.sheet).size
-
-    pub reads : (new : List ℕ) → new ≡ symbols_of w → ReadsSheet m w old Passed new
-    reads new h =
-        record { answer = sym (ap done passed); symbols = h ∙ sym (ap (λ (x : Verdict). written x old (symbols_of w)) passed) }
-
-  pub reads-refused : (q : Question) → v ≡ Refused q → ReadsSheet m w old (Refused q) old
-  reads-refused q p = record { answer = sym (ap done p) ∙ e; symbols = go (read_sheet_asked m w (length old)) e }
-    where
-      go : (u : Verdict) → done v ≡ done u → old ≡ written u old (symbols_of w)
-      go Passed f =
-          let g = after-accepted v (accepted 0) 0 (sym f) in
-          let z : ◌≡◌ {A = ℕ} 0 1 = cc in
-          absurd (omega arith)
-      go (Refused r) f = refl

@@ -1,6 +1,6 @@
 -- The calendar, as the functions compute it. Assumes nothing.
-use Rattle.field.proofs.Base.{◌≡◌, refl, sym, ap, ◌∙◌, ◌≢◌, inl, inr, Bool, true, false, cond, ◌&&◌, ◌||◌, List, [], ◌∷◌, ◌++◌, map, ℕ, suc, ◌+◌, ◌%◌}
-use Rattle.field.proofs.Base.{arith, eq-eqb, ne_eqb, le-leb, eqb, leb, length, replicate}
+use Rattle.field.proofs.Base.{◌≡◌, refl, sym, ap, ◌∙◌, ◌≢◌, inl, inr, Bool, false, cond, not, ◌||◌, List, [], ◌∷◌, ◌++◌, map, ℕ, suc, ◌+◌, ◌%◌, ◌≤◌}
+use Rattle.field.proofs.Base.{arith, eq-eqb, ne_eqb, le-leb, lt-leb, eqb, leb, length, replicate}
 use types.Run.{OneOf}
 use Rattle.code.specs.Erasure.{member}
 use Rattle.sheet.specs.Calendar.{is_leap, thirty, thirty_one, days_in, epoch, date_exists}
@@ -8,11 +8,11 @@ use Rattle.sheet.specs.Calendar.{is_leap, thirty, thirty_one, days_in, epoch, da
 -- ---- leap years
 
 module _ (y : ℕ) where
-  pub leap-not-fourth : y % 4 ≢ 0 → false ≡ is_leap y
+  pub leap-not-fourth : y % 4 ≢ 0 → eqb (y % 4) 0 ≡ is_leap y
   unfolding is_leap
   leap-not-fourth h = simp (ne_eqb (y % 4) 0 h)
 
-  pub leap-fourth : y % 4 ≡ 0 → y % 100 ≢ 0 → true ≡ is_leap y
+  pub leap-fourth : y % 4 ≡ 0 → y % 100 ≢ 0 → not (eqb (y % 100) 0) ≡ is_leap y
   unfolding is_leap
   leap-fourth h n = simp (eq-eqb (y % 4) 0 h, ne_eqb (y % 100) 0 n)
 
@@ -69,10 +69,10 @@ module _ (y mo : ℕ) where
 -- ---- dates
 
 module _ (y mo d : ℕ) where
-  pub date-zero : d ≡ 0 → false ≡ date_exists y mo d
+  pub date-zero : (1 ≤ d → ⊥) → leb 1 d ≡ date_exists y mo d
   unfolding date_exists
-  date-zero h = sym (ap (λ (x : ℕ). leb 1 x && leb x (days_in (epoch + y) mo)) h)
+  date-zero h = simp (lt-leb 1 d (omega arith))
 
-  pub date-some : d ≢ 0 → (n : ℕ) → n ≡ days_in (epoch + y) mo → leb d n ≡ date_exists y mo d
+  pub date-some : 1 ≤ d → (n : ℕ) → n ≡ days_in (epoch + y) mo → leb d n ≡ date_exists y mo d
   unfolding date_exists
-  date-some h n e = ap (leb d) e ∙ simp (le-leb 1 d (omega arith))
+  date-some h n e = ap (leb d) e ∙ simp (le-leb 1 d h)

@@ -1,8 +1,7 @@
 -- The demands of specs/Demands.antt, each under its name in small letters. Assumes nothing.
+use Rattle.std.proofs.Common.{Ok}
+use Rattle.field.specs.Question.{Verdict, accepted}
 use Rattle.field.proofs.Base.{◌≡◌, refl, sym, ap, ◌∙◌, subst, List, ℕ, length}
-use Rattle.field.specs.Question.{accepted}
-use Rattle.field.specs.declared.Verdict.{Verdict}
-use Rattle.field.specs.declared.Verdict.TheVariants.{Passed}
 use Rattle.code.specs.Call.{written, done}
 use Rattle.sheet.specs.Calendar.{is_leap, days_in}
 use Rattle.sheet.specs.Sheet.{sheet_word, symbols_of}
@@ -13,11 +12,11 @@ use Rattle.sheet.proofs.Sheets.{write-passes, write-means, read-passes, read-mea
 
 -- ---- day sheets
 
-writable-passes : (m : ℕ) (ss word : List ℕ) → Writable m ss word → write_sheet_asked m ss (length word) ≡ Passed
+writable-passes : (m : ℕ) (ss word : List ℕ) → Writable m ss word → write_sheet_asked m ss (length word) ≡ (Ok tt)
 writable-passes m ss word W =
     ap (λ (n : ℕ). write_sheet_asked n ss (length word)) W.width ∙ write-passes ss W.symbols (length word) W.word_size
 
-readable-passes : (m : ℕ) (w ss : List ℕ) → Readable m w ss → read_sheet_asked m w (length ss) ≡ Passed
+readable-passes : (m : ℕ) (w ss : List ℕ) → Readable m w ss → read_sheet_asked m w (length ss) ≡ (Ok tt)
 readable-passes m w ss R =
     ap (λ (n : ℕ). read_sheet_asked n w (length ss)) R.width ∙ read-passes w (length ss) R.sheet R.symbols-size
 
@@ -31,7 +30,7 @@ read-accepts m w ss =
 
 pub sheet-read-back : SheetReadBack
 sheet-read-back m ss word out e l =
-    let a : write_sheet_asked m ss (length word) ≡ Passed = after-accepted _ _ 0 (sym e) in
+    let a : write_sheet_asked m ss (length word) ≡ (Ok tt) = after-accepted _ _ 0 (sym e) in
     let W = write-means m ss word a in
     let r = readable-passes m (sheet_word ss) out (record { width = W.width; symbols-size = l; sheet = written-sheet ss W.symbols }) in
     subst (λ (w : List ℕ). (read_sheet_of m w out ≡ accepted 0) × (read_sheet_written m w out ≡ ss))
@@ -40,7 +39,7 @@ sheet-read-back m ss word out e l =
 
 pub sheet-written-back : SheetWrittenBack
 sheet-written-back m w ss out e l =
-    let a : read_sheet_asked m w (length ss) ≡ Passed = after-accepted _ _ 0 (sym e) in
+    let a : read_sheet_asked m w (length ss) ≡ (Ok tt) = after-accepted _ _ 0 (sym e) in
     let R = read-means m w ss a in
     let r = writable-passes m (symbols_of w) out (record { width = R.width; word_size = l; symbols = read-symbols w R.sheet }) in
     subst (λ (xs : List ℕ). (write_sheet_of m xs out ≡ accepted 0) × (write_sheet_written m xs out ≡ w))

@@ -1,11 +1,11 @@
 -- What passes the questions of writing and reading, what passing tells, and that each undoes the other. Assumes nothing.
+use Rattle.std.proofs.Common.{Ok}
 use Rattle.field.proofs.Base.{◌≡◌, refl, sym, ap, ap₂, ◌∙◌, subst, true, List, [], ◌∷◌, ◌++◌, ℕ, ◌+◌, ◌-◌, ◌<◌, arith, eq-eqb, eqb-true, eqb, ltb}
 use Rattle.field.proofs.Base.{length, get_or, replicate, take-append-drop, length-take, length-drop, length-append, take_at, drop_at, get_or-take}
 use Rattle.field.proofs.Base.{get_or-drop}
 use Rattle.field.specs.Field.{order}
 use Rattle.field.specs.Question.{is_width, all_below}
 use Rattle.field.specs.declared.Question.TheVariants.{Width, Length, Symbol, Syndrome, SheetWidth, Date, Unused}
-use Rattle.field.specs.declared.Verdict.TheVariants.{Passed}
 use Rattle.field.proofs.Ask.{ask-yes, ask-next, and-true-left, and-true-right}
 use Rattle.code.specs.Word.{checks, places, items, at, Codeword, encode, data_of}
 use Rattle.code.specs.Call.{all_zero, zero_syndromes}
@@ -76,7 +76,7 @@ module _ (ss : List ℕ) (S : SheetSymbols ss) where
         (omega (arith, data-long));
   }
 
-  pub write-passes : (n : ℕ) → n ≡ places sheet_width → write_sheet_asked sheet_width ss n ≡ Passed
+  pub write-passes : (n : ℕ) → n ≡ places sheet_width → write_sheet_asked sheet_width ss n ≡ (Ok tt)
   unfolding write_sheet_asked
   write-passes n e = simp (eq-eqb n (places sheet_width) e, eq-eqb (length ss) sheet_size S.size, symbols-below, S.date)
 
@@ -92,7 +92,7 @@ module _ (ss : List ℕ) (S : SheetSymbols ss) where
       sheet-of (sheet_word ss) (encode-codeword (field_of sheet_width refl) sheet-data) (ap is_dated sheet-symbols ∙ S.date)
       (ap all_zero sheet-unused)
 
-pub write-means : (m : ℕ) (ss word : List ℕ) → write_sheet_asked m ss (length word) ≡ Passed → Writable m ss word
+pub write-means : (m : ℕ) (ss word : List ℕ) → write_sheet_asked m ss (length word) ≡ (Ok tt) → Writable m ss word
 unfolding write_sheet_asked
 write-means m ss word p1 =
     let n = length word in
@@ -110,7 +110,7 @@ write-means m ss word p1 =
       symbols = record {
         size = size;
         symbols = λ i l. subst (λ (q : ℕ). at ss i < q) (ap order x) (all_below-means (order m) ss below i (omega arith));
-        date = ask-yes (is_dated ss) Date Passed p6;
+        date = ask-yes (is_dated ss) Date (Ok tt) p6;
       };
     }
 
@@ -128,10 +128,10 @@ module _ (w : List ℕ) where
     zero-syndromes m w C.zero-syndromes,
   )
 
-  pub read-passes : (k : ℕ) → DaySheet w → k ≡ sheet_size → read_sheet_asked sheet_width w k ≡ Passed
+  pub read-passes : (k : ℕ) → DaySheet w → k ≡ sheet_size → read_sheet_asked sheet_width w k ≡ (Ok tt)
   read-passes k D e = codeword-content sheet_width k refl D.codeword e ∙ simp (D.date, unused-zero w D)
 
-pub read-means : (m : ℕ) (w ss : List ℕ) → read_sheet_asked m w (length ss) ≡ Passed → Readable m w ss
+pub read-means : (m : ℕ) (w ss : List ℕ) → read_sheet_asked m w (length ss) ≡ (Ok tt) → Readable m w ss
 unfolding read_sheet_asked
 read-means m w ss p1 =
     let k = length ss in
@@ -153,7 +153,7 @@ read-means m w ss p1 =
       width = x;
       symbols-size = eqb-true k sheet_size (ask-yes (eqb k sheet_size) Length _ p3);
       sheet = sheet-of w (subst (λ (n : ℕ). Codeword n w) x C) (ask-yes (is_dated (symbols_of w)) Date _ p7)
-          (ask-yes (all_zero (unused_symbols w)) Unused Passed p8);
+          (ask-yes (all_zero (unused_symbols w)) Unused (Ok tt) p8);
     }
 
 -- ---- what is read, written again

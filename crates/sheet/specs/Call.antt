@@ -1,11 +1,9 @@
 -- What the calls of this crate answer, and what the lent memory holds afterwards, on every input. Questions 11 to 13 are document 02's, named
 -- by their refusals. Of an output the questions are given the length alone. Assumes nothing.
-use Rattle.std.specs.Prelude.{◌≡◌, List, ℕ, eqb, length}
+use Rattle.std.specs.Prelude.{Ok, ◌≡◌, List, ℕ, eqb, length}
 use Rattle.field.specs.Field.{order}
-use Rattle.field.specs.Question.{Outcome, ask, all_below}
+use Rattle.field.specs.Question.{Outcome, Verdict, ask, all_below}
 use Rattle.field.specs.declared.Question.TheVariants.{Length, Symbol, Syndrome, SheetWidth, Date, Unused}
-use Rattle.field.specs.declared.Verdict.{Verdict}
-use Rattle.field.specs.declared.Verdict.TheVariants.{Passed}
 use Rattle.code.specs.Call.{written, all_zero, zero_syndromes, done, word_asked}
 use Rattle.sheet.specs.Sheet.{sheet_width, sheet_size, is_dated, sheet_word, symbols_of, unused_symbols}
 
@@ -21,7 +19,7 @@ sheet_asked m ss next = ask (eqb m sheet_width) SheetWidth (ask (is_dated ss) Da
 
 -- the questions, put to the symbols and a word of n bytes
 unfoldable pub write_sheet_asked : ℕ → List ℕ → ℕ → Verdict
-write_sheet_asked m ss n = slices_asked m n (length ss) ss (sheet_asked m ss Passed)
+write_sheet_asked m ss n = slices_asked m n (length ss) ss (sheet_asked m ss (Ok tt))
 
 -- what the call answers
 abbrev pub write_sheet_of : ℕ → List ℕ → List ℕ → Outcome
@@ -40,7 +38,7 @@ pub record WritesSheet (m : ℕ) (ss old : List ℕ) (v : Verdict) (new : List �
 
 -- questions 11, 12 and 13, put to a codeword
 abbrev pub content_asked : ℕ → List ℕ → Verdict
-content_asked m w = sheet_asked m (symbols_of w) (ask (all_zero (unused_symbols w)) Unused Passed)
+content_asked m w = sheet_asked m (symbols_of w) (ask (all_zero (unused_symbols w)) Unused (Ok tt))
 
 -- the questions, put to the word and a slice of k symbols
 unfoldable pub read_sheet_asked : ℕ → List ℕ → ℕ → Verdict

@@ -6,13 +6,7 @@ ghost use Rattle.sheet.specs.Calendar.{is_leap, days_in, date_exists};
 fn is_leap(year: u16) -> bool
     ensures { result ≡ is_leap year }
 {
-    if year % 4 != 0 {
-        return false;
-    }
-    if year % 100 != 0 {
-        return true;
-    }
-    year % 400 == 0
+    year % 4 == 0 && (year % 100 != 0 || year % 400 == 0)
 }
 
 // The days of a month; a number that is no month has none.
@@ -32,8 +26,5 @@ fn days_in(year: u16, month: u8) -> u8
 pub fn date_exists(year: u8, month: u8, day: u8) -> bool
     ensures { result ≡ date_exists year month day }
 {
-    if day == 0 {
-        return false;
-    }
-    day <= days_in(2000 + year as u16, month)
+    1 <= day && day <= days_in(2000 + year as u16, month)
 }

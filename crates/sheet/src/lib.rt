@@ -10,11 +10,9 @@ ghost use Rattle.sheet.specs.Call.{write_sheet_asked, WritesSheet, content_asked
 pub mod calendar;
 
 use calendar::date_exists;
-use code::Membership;
 use code::validation::{all_zero, below};
-use code::word::copy;
+use field::Question;
 use field::arithmetic::order_of;
-use field::{Question, Verdict};
 
 // The width of a day sheet.
 pub const SHEET_WIDTH: u8 = 7;
@@ -48,29 +46,29 @@ fn is_dated(symbols: &[u8]) -> bool
 }
 
 // Questions 1, 2, 7, 11 and 12, put to the symbols and a word of n bytes.
-fn ask_write(width: u8, symbols: &[u8], n: usize) -> Verdict
+fn ask_write(width: u8, symbols: &[u8], n: usize) -> Result<(), Question>
     ensures { result ≡ write_sheet_asked width symbols.now n }
 {
     let q = order_of(width);
     if q == 0 {
-        return Verdict::Refused(Question::Width);
+        return Err(Question::Width);
     }
     if n != q as usize + 4 {
-        return Verdict::Refused(Question::Length);
+        return Err(Question::Length);
     }
     if symbols.len() != SHEET {
-        return Verdict::Refused(Question::Length);
+        return Err(Question::Length);
     }
     if !below(symbols, q) {
-        return Verdict::Refused(Question::Symbol);
+        return Err(Question::Symbol);
     }
     if width != SHEET_WIDTH {
-        return Verdict::Refused(Question::SheetWidth);
+        return Err(Question::SheetWidth);
     }
     if is_dated(symbols) {
-        Verdict::Passed
+        Ok(())
     } else {
-        Verdict::Refused(Question::Date)
+        Err(Question::Date)
     }
 }
 
@@ -80,72 +78,59 @@ fn padded(symbols: &[u8]) -> [u8; 127]
     ensures { result ≡ sheet_data symbols.now }
 {
     let mut message = [0u8; 127];
-    let n = SHEET;
-    copy(&mut message[..n], symbols);
+    message[..SHEET].copy_from_slice(symbols);
     message
 }
 
 // Writes the day sheet that has these symbols.
-pub fn write_sheet(width: u8, symbols: &[u8], word: &mut [u8]) -> Verdict
+pub fn write_sheet(width: u8, symbols: &[u8], word: &mut [u8]) -> Result<(), Question>
     ensures { WritesSheet width symbols.now word.old result word.new }
 {
-    match ask_write(width, symbols, word.len()) {
-        Verdict::Passed => {
-            let message = padded(symbols);
-            code::encode(width, &message, word)
-        }
-        Verdict::Refused(q) => Verdict::Refused(q),
-    }
+    ask_write(width, symbols, word.len())?;
+    let message = padded(symbols);
+    code::encode(width, &message, word)
 }
 
 // Questions 11, 12 and 13, put to a codeword. No entry point: it requires the word's length.
-pub fn ask_content(width: u8, word: &[u8]) -> Verdict
+pub fn ask_content(width: u8, word: &[u8]) -> Result<(), Question>
     requires { length word.now ≡ places width }
     ensures { result ≡ content_asked width word.now }
 {
     if width != SHEET_WIDTH {
-        return Verdict::Refused(Question::SheetWidth);
+        return Err(Question::SheetWidth);
     }
-    let from = FIRST;
-    let to = END;
-    if !is_dated(&word[from..to]) {
-        return Verdict::Refused(Question::Date);
+    if !is_dated(&word[FIRST..END]) {
+        return Err(Question::Date);
     }
-    if all_zero(&word[to..]) {
-        Verdict::Passed
+    if all_zero(&word[END..]) {
+        Ok(())
     } else {
-        Verdict::Refused(Question::Unused)
+        Err(Question::Unused)
     }
 }
 
 // All questions of the reader, put to the word and a slice of n symbols.
-fn ask_read(width: u8, word: &[u8], n: usize) -> Verdict
+fn ask_read(width: u8, word: &[u8], n: usize) -> Result<(), Question>
     ensures { done result ≡ done (read_sheet_asked width word.now n) }
 {
     if order_of(width) == 0 {
-        return Verdict::Refused(Question::Width);
+        return Err(Question::Width);
     }
     if n != SHEET {
-        return Verdict::Refused(Question::Length);
+        return Err(Question::Length);
     }
-    match code::is_codeword(width, word) {
-        Membership::Codeword => ask_content(width, word),
-        Membership::Other => Verdict::Refused(Question::Syndrome),
-        Membership::Refused(q) => Verdict::Refused(q),
+    if code::is_codeword(width, word)? {
+        ask_content(width, word)
+    } else {
+        Err(Question::Syndrome)
     }
 }
 
 // Reads the symbols of a day sheet.
-pub fn read_sheet(width: u8, word: &[u8], symbols: &mut [u8]) -> Verdict
+pub fn read_sheet(width: u8, word: &[u8], symbols: &mut [u8]) -> Result<(), Question>
     ensures { ReadsSheet width word.now symbols.old result symbols.new }
 {
-    match ask_read(width, word, symbols.len()) {
-        Verdict::Passed => {
-            let from = FIRST;
-            let to = END;
-            copy(symbols, &word[from..to]);
-            Verdict::Passed
-        }
-        Verdict::Refused(q) => Verdict::Refused(q),
-    }
+    ask_read(width, word, symbols.len())?;
+    symbols.copy_from_slice(&word[FIRST..END]);
+    Ok(())
 }

@@ -1,57 +1,23 @@
 -- Two day sheets side by side as text, line by line. Assumes nothing.
-use Rattle.field.proofs.Base.{◌≡◌, refl, sym, ap, ap₂, ◌∙◌, subst, Bool, true, false, cond, List, [], ◌∷◌, ◌++◌, ℕ, ◌+◌, ◌*◌, ◌≤◌, ◌<◌, add-one}
-use Rattle.field.proofs.Base.{arith, eq-eqb, ne_eqb, eqb, length, get_or, drop, drop_of_length-le, drop-cons, take_all}
-use Rattle.field.specs.Question.{Outcome, accepted, refused, after}
-use Rattle.field.specs.declared.Verdict.{Verdict}
-use Rattle.field.specs.declared.Verdict.TheVariants.{Passed, Refused}
+use Rattle.std.proofs.Common.{Ok, Err, Result}
+use Rattle.std.specs.Result.{IsOk}
+use Rattle.field.proofs.Base.{◌≡◌, refl, sym, ap, ap₂, ◌∙◌, subst, Bool, true, false, cond, List, [], ◌∷◌, ℕ, ◌≤◌}
+use Rattle.field.proofs.Base.{arith, eqb, length, take_all}
+use Rattle.field.specs.Question.{Verdict, Outcome, accepted, refused, after}
+use Rattle.field.specs.declared.Question.{Question}
 use Rattle.card.specs.Card.{is_accepted}
-use Rattle.card.specs.Listing.{bytes_of, newline}
 use Rattle.card.specs.Record.{record_size}
 use Rattle.card.specs.Slots.{record_count, record_at}
 use Rattle.card.proofs.Numbering.{number-yes}
 use Rattle.sheet.specs.Demands.{SheetSymbols}
-use Rattle.report.specs.Window.{starts_sum}
-use Rattle.report.specs.Quarter.{clock_text}
 use Rattle.report.specs.Day.{has_record, slot_of, Day, sheet, no_sheet, day_of, day_symbols}
 use Rattle.report.specs.Compare.{compared_of, choice, Shows, symbols_at, numbers_asked, compare_of, part_of}
 use Rattle.report.specs.declared.compare.Comparison.{Comparison}
+use Rattle.report.specs.declared.day.Reading.{Reading}
+use Rattle.report.specs.inner.Parts.{day_in}
 use Rattle.report.proofs.Days.{is-sheet}
-use Rattle.show.specs.Text.{labelled}
-use Rattle.show.specs.Comparison.{quarter_line, beside_text, outcome_text, slots_outcome, comparison_text}
+use Rattle.show.specs.Comparison.{beside_text, outcome_text, slots_outcome, comparison_text}
 use Rattle.show.specs.inner.Comparison.{AcceptedSlots}
-
--- ---- the sum of some counts, one by one: s is of those before place i
-
-pub record Summed (xs : List ℕ) (s i : ℕ) : Type 0 where
-  pub place : i ≤ length xs
-  pub sum : s + starts_sum (drop i xs) ≡ starts_sum xs
-  pub small : s ≤ i * 255
-
-pub summed-none : (xs : List ℕ) → Summed xs 0 0
-summed-none xs = record { place = omega arith; sum = omega arith; small = omega arith }
-
-module _ (xs : List ℕ) (s i : ℕ) (S : Summed xs s i) where
-  pub summed-on : i < length xs → get_or xs i 0 < 256 → Summed xs (s + get_or xs i 0) (i + 1)
-  summed-on h b = record { place = omega arith; sum = omega (arith, S.sum, ap starts_sum one); small = omega (arith, S.small) }
-    where
-      one : drop i xs ≡ get_or xs i 0 ∷ drop (i + 1) xs
-      one = rw (add-one, drop-cons xs i 0)
-
-  pub summed-all : length xs ≤ i → s ≡ starts_sum xs
-  summed-all h = omega (arith, S.sum, ap starts_sum (drop_of_length-le xs h))
-
--- ---- the line of a quarter hour
-
-module _ (i a b : ℕ) where
-  pub quarter-same : a ≡ b → quarter_line i a b ≡ []
-  unfolding quarter_line
-  quarter-same e = rw (eq-eqb a b e)
-
-  pub quarter-other : (a ≡ b → ⊥)
-      → quarter_line i a b
-      ≡ clock_text i ++ (labelled (bytes_of " controller ") a ++ (labelled (bytes_of ", cupboard ") b ++ newline ∷ []))
-  unfolding quarter_line
-  quarter-other n = rw (ne_eqb a b n)
 
 -- ---- two slots
 
@@ -69,20 +35,43 @@ slot-one (x ∷ xs) h =
 slot-symbols : (a : List ℕ) → length a ≤ record_size → {ss : List ℕ} → ss ≡ day_symbols (day_of a) → ss ≡ symbols_at a 1
 slot-symbols a h e = e ∙ ap (λ (l : List ℕ). day_symbols (day_of l)) (sym (slot-one a h))
 
+-- a day sheet
+abbrev pub Dated : Day → Type 0
+Dated (sheet k ss) = Unit
+Dated (no_sheet n) = ⊥
+
+-- the slot r is read as x
+module _ (r : List ℕ) (x : Result Reading Question) (T : day_in x ≡ day_of r) where
+  pub read-ok : Dated (day_of r) → IsOk x
+  read-ok D = go x T
+    where
+      go : (u : Result Reading Question) → day_in u ≡ day_of r → IsOk u
+      go (Ok y) e = refl
+      go (Err q) e = absurd (subst Dated (sym e) D)
+
+  pub read-symbols : (y : Reading) → x ≡ Ok y → y.symbols ≡ day_symbols (day_of r)
+  read-symbols y e = ap day_symbols (ap day_in (sym e) ∙ T)
+
+  pub read-sheet : Dated (day_of r) → (y : Reading) → x ≡ Ok y → SheetSymbols y.symbols
+  read-sheet D y e = subst SheetSymbols (sym (read-symbols y e)) (go (day_of r) refl D)
+    where
+      go : (d : Day) → day_of r ≡ d → Dated d → SheetSymbols (day_symbols d)
+      go (sheet k ss) f D = (is-sheet r k ss f).symbols
+      go (no_sheet n) f D = absurd D
+
 -- slots whose comparison is accepted are day sheets
-accepted-sheets : (a b : List ℕ) → is_accepted (slots_outcome a b) ≡ true → SheetSymbols (symbols_at a 1) × SheetSymbols (symbols_at b 1)
+accepted-days : (a b : List ℕ) → is_accepted (slots_outcome a b) ≡ true → Dated (day_of (slot_of a 1)) × Dated (day_of (slot_of b 1))
 unfolding compare_of
-accepted-sheets a b = go (day_of (slot_of a 1)) (day_of (slot_of b 1)) refl refl (numbers_asked a 1 b 1)
+accepted-days a b = go (day_of (slot_of a 1)) (day_of (slot_of b 1)) (numbers_asked a 1 b 1)
   where
     none : (x y : Day) → is_accepted (compared_of x y) ≡ false → (v : Verdict) → is_accepted (after v (compared_of x y)) ≡ true → ⊥
-    none x y f Passed e = let z : ◌≡◌ {A = Bool} false true = sym f ∙ e in let c : ◌≡◌ {A = ℕ} 0 1 = cc in omega arith
-    none x y f (Refused q) e = let c : ◌≡◌ {A = ℕ} 0 1 = cc in omega arith
+    none x y f (Ok tt) e = let z : ◌≡◌ {A = Bool} false true = sym f ∙ e in let c : ◌≡◌ {A = ℕ} 0 1 = cc in omega arith
+    none x y f (Err q) e = let c : ◌≡◌ {A = ℕ} 0 1 = cc in omega arith
 
-    go : (x y : Day) → day_of (slot_of a 1) ≡ x → day_of (slot_of b 1) ≡ y → (v : Verdict) → is_accepted (after v (compared_of x y)) ≡ true
-        → SheetSymbols (day_symbols x) × SheetSymbols (day_symbols y)
-    go (sheet k ss) (sheet l ts) f g v e = ((is-sheet (slot_of a 1) k ss f).symbols, (is-sheet (slot_of b 1) l ts g).symbols)
-    go (no_sheet n) y f g v e = absurd (none (no_sheet n) y refl v e)
-    go (sheet k ss) (no_sheet n) f g v e = absurd (none (sheet k ss) (no_sheet n) refl v e)
+    go : (x y : Day) (v : Verdict) → is_accepted (after v (compared_of x y)) ≡ true → Dated x × Dated y
+    go (sheet k ss) (sheet l ts) v e = (tt, tt)
+    go (no_sheet n) y v e = absurd (none (no_sheet n) y refl v e)
+    go (sheet k ss) (no_sheet n) v e = absurd (none (sheet k ss) (no_sheet n) refl v e)
 
 -- the symbols of the part are those of the slot that was chosen
 chosen-symbols : (w : ℕ) (p a b : List ℕ) → p ≡ part_of (accepted w) a b
@@ -94,41 +83,45 @@ chosen-symbols w p a b e = ap (λ (l : List ℕ). day_symbols (day_of l)) e ∙ 
     go false = refl
 
 -- an accepted comparison has the text of its outcome
-shown-text : (o : Outcome) (cs ss ts : List ℕ) (x : Comparison) → is_accepted o ≡ true → Shows o ss ts x
+shown-text : (o : Outcome) (cs ss ts : List ℕ) (x : Comparison) → is_accepted o ≡ true → Shows o ss ts (Ok x)
     → ((w : ℕ) → o ≡ accepted w → cs ≡ cond (eqb w 1) ss ts)
     → beside_text (choice x.choice) x.equal x.controller x.cupboard cs ss ts ≡ outcome_text o ss ts
 shown-text (accepted w) cs ss ts x e S h = rw (h w refl, S.answer, S.equal, S.controller, S.cupboard)
 shown-text (refused n) cs ss ts x e S h = let c : ◌≡◌ {A = ℕ} 0 1 = cc in absurd (omega arith)
 
--- the symbols that were read of them, and of the chosen part p
-module _ (a b : List ℕ) (x : Comparison) (P : AcceptedSlots a b x) {ss ts : List ℕ} (es : ss ≡ day_symbols (day_of a)) (et : ts ≡ day_symbols (day_of b))
-    (p : List ℕ) (ep : p ≡ part_of (choice x.choice) (slot_of a 1) (slot_of b 1)) {cs : List ℕ} (ec : cs ≡ day_symbols (day_of p)) where
-  first : ss ≡ symbols_at a 1
-  first = slot-symbols a P.controller-short es
+module _ (a b : List ℕ) (x : Comparison) (P : AcceptedSlots a b x) where
+  pub controller-dated : Dated (day_of a)
+  controller-dated = subst (λ (l : List ℕ). Dated (day_of l)) (slot-one a P.controller-short) (accepted-days a b P.well).0
 
-  second : ts ≡ symbols_at b 1
-  second = slot-symbols b P.cupboard-short et
+  pub cupboard-dated : Dated (day_of b)
+  cupboard-dated = subst (λ (l : List ℕ). Dated (day_of l)) (slot-one b P.cupboard-short) (accepted-days a b P.well).1
 
-  third : (w : ℕ) → slots_outcome a b ≡ accepted w → cs ≡ cond (eqb w 1) (symbols_at a 1) (symbols_at b 1)
-  third w e = ec ∙ chosen-symbols w p (slot_of a 1) (slot_of b 1) (ep ∙ ap (λ (o : Outcome). part_of o (slot_of a 1) (slot_of b 1)) (P.compares.answer ∙ e))
+  -- the chosen part
+  module _ (p : List ℕ) (ep : p ≡ part_of (choice x.choice) (slot_of a 1) (slot_of b 1)) where
+    pub chosen-dated : Dated (day_of p)
+    chosen-dated = go (slots_outcome a b) P.compares.answer P.well
+      where
+        one : (t : Bool) → Dated (day_of (cond t (slot_of a 1) (slot_of b 1)))
+        one true = (accepted-days a b P.well).0
+        one false = (accepted-days a b P.well).1
 
-  pub read-sheets : SheetSymbols cs × SheetSymbols ss × SheetSymbols ts
-  read-sheets =
-      let both = accepted-sheets a b P.well in (
-        chosen (slots_outcome a b) refl P.well,
-        subst SheetSymbols (sym first) both.0,
-        subst SheetSymbols (sym second) both.1,
-      )
-    where
-      one : (t : Bool) → SheetSymbols (cond t (symbols_at a 1) (symbols_at b 1))
-      one true = (accepted-sheets a b P.well).0
-      one false = (accepted-sheets a b P.well).1
+        go : (o : Outcome) → choice x.choice ≡ o → is_accepted o ≡ true → Dated (day_of p)
+        go (accepted w) e t =
+            let part = ep ∙ ap (λ (u : Outcome). part_of u (slot_of a 1) (slot_of b 1)) e in
+            subst (λ (l : List ℕ). Dated (day_of l)) (sym part) (one (eqb w 1))
+        go (refused n) e t = let c : ◌≡◌ {A = ℕ} 0 1 = cc in absurd (omega arith)
 
-      chosen : (o : Outcome) → slots_outcome a b ≡ o → is_accepted o ≡ true → SheetSymbols cs
-      chosen (accepted w) e t = subst SheetSymbols (sym (third w e)) (one (eqb w 1))
-      chosen (refused n) e t = let c : ◌≡◌ {A = ℕ} 0 1 = cc in absurd (omega arith)
-
-  pub read-text : beside_text (choice x.choice) x.equal x.controller x.cupboard cs ss ts ≡ comparison_text a b
-  read-text =
-      ap₂ (beside_text (choice x.choice) x.equal x.controller x.cupboard cs) first second
-      ∙ shown-text (slots_outcome a b) cs (symbols_at a 1) (symbols_at b 1) x P.well P.compares third
+    -- the symbols that were read of the slots, and of the chosen part
+    pub read-text : {ss ts cs : List ℕ} → ss ≡ day_symbols (day_of a) → ts ≡ day_symbols (day_of b) → cs ≡ day_symbols (day_of p)
+        → beside_text (choice x.choice) x.equal x.controller x.cupboard cs ss ts ≡ comparison_text a b
+    read-text {ss} {ts} {cs} es et ec =
+        ap₂ (beside_text (choice x.choice) x.equal x.controller x.cupboard cs)
+        (slot-symbols a P.controller-short es)
+        (slot-symbols b P.cupboard-short et)
+        ∙ shown-text (slots_outcome a b) cs (symbols_at a 1) (symbols_at b 1) x P.well P.compares chosen
+      where
+        chosen : (w : ℕ) → slots_outcome a b ≡ accepted w → cs ≡ cond (eqb w 1) (symbols_at a 1) (symbols_at b 1)
+        chosen w e =
+            ec
+            ∙ chosen-symbols w p (slot_of a 1) (slot_of b 1)
+            (ep ∙ ap (λ (o : Outcome). part_of o (slot_of a 1) (slot_of b 1)) (P.compares.answer ∙ e))

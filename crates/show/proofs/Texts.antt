@@ -1,14 +1,14 @@
 -- Texts one behind the other. Assumes nothing.
-use Rattle.field.proofs.Base.{List, ℕ, ◌+◌, ◌≤◌, add-one, length}
-use Rattle.card.specs.Placed.{Writes}
-use Rattle.card.proofs.Writing.{writes-none, writes-on}
+use Rattle.field.proofs.Base.{◌≡◌, refl, List, [], ◌++◌, ℕ, ◌+◌, add-one}
+use Rattle.card.proofs.Writing.{appending}
 use Rattle.show.specs.Text.{texts}
 
-pub texts-none : (f : ℕ → List ℕ) (out : List ℕ) (i : ℕ) → i ≤ length out → Writes out i (texts f 0) out i
+pub texts_none : (f : ℕ → List ℕ) → texts f 0 ≡ []
 unfolding texts
-texts-none f out i h = writes-none out i h
+texts_none f = refl
 
-pub texts-more : (f : ℕ → List ℕ) (n : ℕ) {a b c : List ℕ} {i j k : ℕ} → Writes a i (texts f n) b j → Writes b j (f n) c k
-    → Writes a i (texts f (n + 1)) c k
+pub texts_more : (f : ℕ → List ℕ) (n : ℕ) → texts f (n + 1) ≡ texts f n ++ f n
 unfolding texts
-texts-more f n w v = rw (add-one n) (writes-on w v)
+texts_more f n = rw (add-one n) refl
+
+pub ruleset texts_steps = (appending, texts_none, texts_more)

@@ -1,19 +1,17 @@
 -- A look at a record, and looks between the steps of a walk. Assumes nothing.
-use Rattle.field.proofs.Base.{eq-eqb, ne_eqb, eqb-true, ◌≡◌, refl, sym, ap, ap₂, ◌∙◌, subst, Bool, true, false, List, [], ◌∷◌, ◌++◌, append-nil, ℕ}
+use Rattle.std.proofs.Common.{Ok, Err, Result}
+use Rattle.std.specs.Result.{result_and, result_unwrap_or}
+use Rattle.field.proofs.Base.{eq-eqb, ne_eqb, eqb-true, ◌≡◌, refl, sym, ap, ap₂, ◌∙◌, subst, Bool, true, false, not, List, [], ◌∷◌, ◌++◌, append-nil, ℕ}
 use Rattle.field.proofs.Base.{◌+◌, ◌-◌, ◌*◌, ◌≤◌, ◌<◌, dec_lt, arith, eqb, length, take, drop, length-append, length-take, length-drop}
-use Rattle.field.proofs.Base.{take-append-drop, drop_of_length-le, take_all}
-use Rattle.field.specs.Question.{Outcome, accepted, refused, refusal, after}
+use Rattle.field.proofs.Base.{not-true, not-false, take-append-drop, drop_of_length-le, take_all}
+use Rattle.field.specs.Question.{Verdict, Outcome, accepted, refused, refusal, after}
 use Rattle.field.specs.declared.Question.{Question}
 use Rattle.field.specs.declared.Question.TheVariants.{Length, RecordNumber}
-use Rattle.field.specs.declared.Verdict.{Verdict}
-use Rattle.field.specs.declared.Verdict.TheVariants.{Passed, Refused}
 use Rattle.field.proofs.Ask.{ask-yes, ask-next}
-use Rattle.code.specs.Call.{repair}
-use Rattle.code.specs.declared.Repair.{Repair}
-use Rattle.code.specs.declared.Repair.TheVariants.{Restored, Refused as RefusedRepair}
+use Rattle.code.specs.Call.{done, repair}
 use Rattle.card.specs.declared.RestoredCopy.{RestoredCopy}
 use Rattle.card.specs.inner.Parts.{header_size}
-use Rattle.card.specs.Record.{record_size, word_of, record_of, on_accept, record_written, RestoresCopy}
+use Rattle.card.specs.Record.{record_size, word_of, record_of, on_accept, record_written, copy_changes, copy_bytes, RestoresCopy}
 use Rattle.card.specs.Slots.{record_count, record_at}
 use Rattle.card.specs.Card.{is_number, record_numbered}
 use Rattle.card.proofs.Recording.{copy-accepted}
@@ -21,7 +19,7 @@ use Rattle.card.proofs.Again.{refused-stays, accepted-whole, restored-again, res
 use Rattle.walk.specs.declared.Walk.{Walk}
 use Rattle.walk.specs.Restored.{restored_card, slots_from, restored_from}
 use Rattle.walk.specs.Walk.{step_asked, step_count, step_written, after_steps, after_states}
-use Rattle.walk.specs.Look.{look_size, in_row, look_symbols, uncounted, look_asked, look_of, look_written, Looks}
+use Rattle.walk.specs.Look.{look_size, in_row, look_symbols, uncounted, look_asked, look_of, look_written, Looks, no_symbols, LooksAt}
 use Rattle.walk.specs.inner.Parts.{ShowsRecord}
 use Rattle.walk.specs.Demands.{Tells, LookBetween, LookAmong}
 use Rattle.card.proofs.Lines.{record-front, record-behind}
@@ -32,23 +30,16 @@ use Rattle.walk.proofs.Walking.{going-low, card-by, reached, at-moment}
 -- ---- at one record
 
 module _ (r row : List ℕ) where
-  -- the record was restored in a copy, with the answer x beside it
-  module _ (copy : RestoredCopy) (R : RestoresCopy r copy) (x : Repair) (ex : copy.answer ≡ x) where
-    told : repair x ≡ record_of r
-    told = ap repair (sym ex) ∙ R.answer
-
-    pub shows-no : (q : Question) → x ≡ RefusedRepair q → ShowsRecord r row (Refused q) row
-    shows-no q p =
-        let o : refused (refusal q) ≡ record_of r = ap repair (sym p) ∙ told in
-        record { answer = ap uncounted o; symbols = ap (λ (y : Outcome). on_accept y row (look_symbols r)) o }
-
+  -- the record was restored in a copy
+  module _ (x : Result RestoredCopy Question) (R : RestoresCopy r x) where
     -- the row is the last part of the restored copy
-    pub shows-yes : (k : ℕ) → x ≡ Restored k
-        → (row' : List ℕ) → row' ≡ take (record_size - header_size) (drop header_size copy.bytes) → ShowsRecord r row Passed row'
-    shows-yes k p row' e =
-        let o : accepted k ≡ record_of r = ap repair (sym p) ∙ told in
+    pub shows-yes : (copy : RestoredCopy) → x ≡ Ok copy
+        → (row' : List ℕ) → row' ≡ take (record_size - header_size) (drop header_size copy.bytes) → ShowsRecord r row (Ok tt) row'
+    shows-yes copy p row' e =
+        let k = copy.changed in
+        let o : accepted k ≡ record_of r = ap (λ (y : Result RestoredCopy Question). repair (copy_changes y)) (sym p) ∙ R.answer in
         let whole : length r ≡ record_size = accepted-whole r k (sym o) in
-        let written : copy.bytes ≡ record_written r = R.content ∙ sym (copy-accepted r k o) in
+        let written : copy.bytes ≡ record_written r = ap copy_bytes (sym p) ∙ R.content ∙ sym (copy-accepted r k o) in
         let size : length copy.bytes ≡ record_size = ap length written ∙ written-size r ∙ whole in
         record {
           answer = ap uncounted o;
@@ -74,20 +65,20 @@ module _ (n number m r : ℕ) (er : r ≡ record_count n) (b : Bool) (eb : b ≡
   same : b ≡ is_number (record_count n) number
   same = eb ∙ ap (λ (k : ℕ). is_number k number) er
 
-  pub asked-number : b ≡ false → Refused RecordNumber ≡ look_asked n number m
+  pub asked-number : not b ≡ true → Err RecordNumber ≡ look_asked n number m
   unfolding look_asked
-  asked-number t = simp (sym same ∙ t)
+  asked-number t = simp (sym same ∙ not-true b t)
 
-  pub asked-row : b ≡ true → (m ≡ look_size → ⊥) → Refused Length ≡ look_asked n number m
+  pub asked-row : not b ≡ false → (m ≡ look_size → ⊥) → Err Length ≡ look_asked n number m
   unfolding look_asked
-  asked-row t e = simp (sym same ∙ t, ne_eqb m look_size e)
+  asked-row t e = simp (sym same ∙ not-false b t, ne_eqb m look_size e)
 
-  pub asked-passed : b ≡ true → m ≡ look_size → Passed ≡ look_asked n number m
+  pub asked-passed : not b ≡ false → m ≡ look_size → (Ok tt) ≡ look_asked n number m
   unfolding look_asked
-  asked-passed t e = simp (sym same ∙ t, eq-eqb m look_size e)
+  asked-passed t e = simp (sym same ∙ not-false b t, eq-eqb m look_size e)
 
 -- what the questions tell where they were answered yes
-module _ (n number m : ℕ) (v : Verdict) (e : v ≡ look_asked n number m) (p : v ≡ Passed) where
+module _ (n number m : ℕ) (v : Verdict) (e : v ≡ look_asked n number m) (p : v ≡ (Ok tt)) where
   in-range : is_number (record_count n) number ≡ true
   unfolding look_asked
   in-range = ask-yes (is_number (record_count n) number) RecordNumber _ (sym e ∙ p)
@@ -102,7 +93,7 @@ module _ (n number m : ℕ) (v : Verdict) (e : v ≡ look_asked n number m) (p :
   unfolding look_asked
   looked-row =
       eqb-true m look_size
-      (ask-yes (eqb m look_size) Length Passed (ask-next (is_number (record_count n) number) RecordNumber _ (sym e ∙ p)))
+      (ask-yes (eqb m look_size) Length (Ok tt) (ask-next (is_number (record_count n) number) RecordNumber _ (sym e ∙ p)))
 
 -- a count that is left out changes nothing in what is written
 uncounted-accept : (o : Outcome) (old new : List ℕ) → on_accept (uncounted o) old new ≡ on_accept o old new
@@ -120,23 +111,35 @@ module _ (card : List ℕ) (number : ℕ) (row : List ℕ) (v : Verdict) (e : v 
   written-by = ap (λ (o : Outcome). on_accept o row (look_symbols (record_numbered card number))) answer-by
 
 pub looks-refused : (card : List ℕ) (number : ℕ) (row : List ℕ) (v : Verdict) (q : Question)
-    → v ≡ look_asked (length card) number (length row) → v ≡ Refused q → Looks card number row (Refused q) row
-looks-refused card number row v q e p =
+    → v ≡ look_asked (length card) number (length row) → v ≡ Err q → (r : Verdict) → r ≡ Err q → Looks card number row r row
+looks-refused card number row v q e p r g =
     let a = sym p ∙ e in
-    record { answer = answer-by card number row (Refused q) a; symbols = written-by card number row (Refused q) a }
+    record { answer = ap done g ∙ answer-by card number row (Err q) a; symbols = written-by card number row (Err q) a }
 
 pub looks-shown : (card : List ℕ) (number : ℕ) (row : List ℕ) (v : Verdict)
-    → v ≡ look_asked (length card) number (length row) → v ≡ Passed → (bytes : List ℕ) → bytes ≡ record_numbered card number
+    → v ≡ look_asked (length card) number (length row) → v ≡ (Ok tt) → (bytes : List ℕ) → bytes ≡ record_numbered card number
     → (x : Verdict) (new : List ℕ) → ShowsRecord bytes row x new → Looks card number row x new
 looks-shown card number row v e p bytes eb x new S =
     let a = sym p ∙ e in
     record {
-      answer = S.answer ∙ ap (λ (r : List ℕ). uncounted (record_of r)) eb ∙ answer-by card number row Passed a;
+      answer = S.answer ∙ ap (λ (r : List ℕ). uncounted (record_of r)) eb ∙ answer-by card number row (Ok tt) a;
       symbols = S.symbols
           ∙ ap (λ (r : List ℕ). on_accept (record_of r) row (look_symbols r)) eb
           ∙ sym (uncounted-accept (record_of (record_numbered card number)) row (look_symbols (record_numbered card number)))
-          ∙ written-by card number row Passed a;
+          ∙ written-by card number row (Ok tt) a;
     }
+
+-- the row by value, where v is the verdict of the look into a row of zeros
+module _ (card : List ℕ) (number : ℕ) (v : Verdict) (new : List ℕ) (L : Looks card number no_symbols v new) where
+  pub by-value-refused : (q : Question) → v ≡ Err q → (r : Result (List ℕ) Question) → r ≡ Err q → LooksAt card number r
+  unfolding look_written
+  by-value-refused q p r g =
+      let o : refused (refusal q) ≡ look_of card number no_symbols = ap done (sym p) ∙ L.answer in
+      record {
+        answer = ap (λ (x : Result (List ℕ) Question). done (result_and x (Ok tt))) g ∙ o;
+        symbols = ap (λ (x : Result (List ℕ) Question). result_unwrap_or x no_symbols) g
+            ∙ ap (λ (u : Outcome). on_accept u no_symbols (look_symbols (record_numbered card number))) o;
+      }
 
 -- ---- looks between steps
 
@@ -219,18 +222,18 @@ module _ (card new : List ℕ) (S : Shown card new) (number : ℕ) (row : List �
       same_asked = ap (λ (n : ℕ). look_asked n number (length row)) (sym S.size)
 
       go : (v : Verdict) → v ≡ look_asked (length card) number (length row) → SameLook card new number row
-      go (Refused q) e =
+      go (Err q) e =
           record {
-            answer = sym (answer-by new number row (Refused q) (e ∙ same_asked)) ∙ answer-by card number row (Refused q) e;
-            symbols = sym (written-by new number row (Refused q) (e ∙ same_asked)) ∙ written-by card number row (Refused q) e;
+            answer = sym (answer-by new number row (Err q) (e ∙ same_asked)) ∙ answer-by card number row (Err q) e;
+            symbols = sym (written-by new number row (Err q) (e ∙ same_asked)) ∙ written-by card number row (Err q) e;
           }
-      go Passed e =
-          let s = S.each (number - 1) (looked-at (length card) number (length row) Passed e refl) in
+      go (Ok tt) e =
+          let s = S.each (number - 1) (looked-at (length card) number (length row) (Ok tt) e refl) in
           record {
-            answer = sym (answer-by new number row Passed (e ∙ same_asked)) ∙ s.answer ∙ answer-by card number row Passed e;
-            symbols = sym (written-by new number row Passed (e ∙ same_asked))
+            answer = sym (answer-by new number row (Ok tt) (e ∙ same_asked)) ∙ s.answer ∙ answer-by card number row (Ok tt) e;
+            symbols = sym (written-by new number row (Ok tt) (e ∙ same_asked))
                 ∙ ap₂ (λ (o : Outcome) (x : List ℕ). on_accept o row x) s.answer s.symbols
-                ∙ written-by card number row Passed e;
+                ∙ written-by card number row (Ok tt) e;
           }
 
 pub look-same : (card : List ℕ) (k number : ℕ) (row : List ℕ) → SameLook card (after_steps k card).card number row
@@ -258,10 +261,10 @@ step-look w card number row = go (step_asked w (length card)) refl
         rw (none, from-none record_written f card) unchanged
 
     go : (v : Verdict) → v ≡ step_asked w (length card) → SameLook card (step_written w card) number row
-    go (Refused q) e = rw (← card-by w card (Refused q) e) unchanged
-    go Passed e =
-        rw (← card-by w card Passed e)
-        (treated (going-low w (length card) Passed e refl) (dec_lt f (record_count (length card))))
+    go (Err q) e = rw (← card-by w card (Err q) e) unchanged
+    go (Ok tt) e =
+        rw (← card-by w card (Ok tt) e)
+        (treated (going-low w (length card) (Ok tt) e refl) (dec_lt f (record_count (length card))))
 
 -- after steps in any states
 among_same : (ws : List Walk) (card : List ℕ) (number : ℕ) (row : List ℕ) → SameLook card (after_states ws card) number row
@@ -281,10 +284,10 @@ look-tells card now i row h s same =
     let yes = number-yes (record_count (length card)) (i + 1) (omega arith) (omega arith) in
     let passed = asked-passed (length card) (i + 1) (length row) (record_count (length card)) refl true (sym yes) refl s in
     let answer : look_of now (i + 1) row ≡ uncounted (record_of r) =
-    same.answer ∙ sym (answer-by card (i + 1) row Passed passed) ∙ ap (λ (j : ℕ). uncounted (record_of (record_at card j))) back in
+    same.answer ∙ sym (answer-by card (i + 1) row (Ok tt) passed) ∙ ap (λ (j : ℕ). uncounted (record_of (record_at card j))) back in
     let symbols : look_written now (i + 1) row ≡ on_accept (uncounted (record_of r)) row (look_symbols r) =
     same.symbols
-    ∙ sym (written-by card (i + 1) row Passed passed)
+    ∙ sym (written-by card (i + 1) row (Ok tt) passed)
     ∙ ap (λ (j : ℕ). on_accept (uncounted (record_of (record_at card j))) row (look_symbols (record_at card j))) back in
     record {
       symbols = λ k e. (answer ∙ ap uncounted e, symbols ∙ ap (λ (o : Outcome). on_accept (uncounted o) row (look_symbols r)) e);

@@ -1,31 +1,29 @@
 -- Restoring a card up to a longest reach n and counting its slots. Assumes nothing.
+use Rattle.std.proofs.Common.{Ok, Err, Result}
+use Rattle.std.specs.Result.{result_and, result_unwrap_or}
 use Rattle.field.proofs.Base.{◌≡◌, refl, sym, ap, ap₂, ◌∙◌, subst, Bool, true, false, cond, List, [], ◌++◌, ℕ, zero, suc, ◌+◌, ◌-◌, ◌*◌, ◌≤◌, ◌<◌}
-use Rattle.field.proofs.Base.{min, arith, length, take, drop, length-drop, length-take, drop_of_length-le}
-use native.Mathlib.Nat.{zero-add}
-use Rattle.field.specs.Question.{Outcome, accepted, refused}
+use Rattle.field.proofs.Base.{min, dec_lt, arith, length, take, drop, length-drop, length-take, drop_of_length-le}
+use Rattle.field.specs.Question.{Verdict, Outcome, accepted, refused}
 use Rattle.field.specs.declared.Question.{Question}
-use Rattle.field.specs.declared.Verdict.{Verdict}
-use Rattle.field.specs.declared.Verdict.TheVariants.{Passed, Refused}
-use Rattle.code.specs.Call.{repair, done, written}
-use Rattle.code.specs.declared.Repair.{Repair}
+use Rattle.code.specs.Call.{done, written}
 use Rattle.card.specs.declared.Progress.{Progress}
-use Rattle.card.specs.Record.{erasure_bytes, record_size, most_changes, record_of, record_up_to, record_written_up_to, RestoresRecordUpTo}
+use Rattle.card.specs.Record.{erasure_bytes, record_size, most_changes, record_of, record_up_to, record_written_up_to}
 use Rattle.card.specs.Slots.{record_count, record_at, is_blank, over_first, over_slots, appended}
 use Rattle.card.specs.Listing.{counted, further_by, progress_up_to, start}
 use Rattle.card.specs.inner.Room.{further, Within}
 use Rattle.card.proofs.Blank.{blank-up-to}
 use Rattle.card.proofs.Bounds.{few-up-to, progress-within}
-use Rattle.card.proofs.Checking.{last-piece, whole-piece}
+use Rattle.card.proofs.Checking.{last-piece}
 use Rattle.card.proofs.Folding.{over-one, in_parts}
 use Rattle.card.proofs.Reaches.{up-to-size}
 use Rattle.walk.specs.declared.Walk.{Walk}
 use Rattle.walk.specs.declared.counting.Counted.{Counted}
 use Rattle.walk.specs.Restored.{slots_from}
-use Rattle.walk.specs.Walk.{step_records, walk_at, begun, step_asked, step_count, step_written, Steps}
-use Rattle.walk.specs.inner.Parts.{restored_from_up_to, CountsSlot, CountsFrom, step_written_up_to, progress_after, step_progress, StepsCounting, Sound}
-use Rattle.walk.specs.Counting.{CountsCard, blank_counted, CountsMake, SlotsCounted, SlotsCountedUpTo}
-use Rattle.walk.proofs.Restoring.{from_by, from-size, from-none, from_all, from-rest, from_on, slots-all, slots-more, written-two}
-use Rattle.walk.proofs.Walking.{step-passed, going-length, going-count, state-by}
+use Rattle.walk.specs.Walk.{step_records, walk_at, step_asked, step_count, state_after, step_written, Steps}
+use Rattle.walk.specs.inner.Parts.{restored_from_up_to, CountsSlot, CountsFrom, step_written_up_to, counted_on, StepsCounting, Sound}
+use Rattle.walk.specs.Counting.{blank_counted, CountsMake, SlotsCounted, SlotsCountedUpTo}
+use Rattle.walk.proofs.Restoring.{from_by, from-none, from-rest, from_on, slots-more, written-two}
+use Rattle.walk.proofs.Walking.{going-count, state-by}
 
 -- ---- one slot
 
@@ -35,14 +33,6 @@ module _ (n : ℕ) (s : Progress) (slot : List ℕ) (b : Bool) (e : b ≡ is_bla
 
   pub counts-blank : b ≡ true → CountsSlot n s slot (further s s.totals) slot
   counts-blank t = record { content = sym (blank-up-to slot (sym e ∙ t) n).1; progress = further-by true t }
-
-  pub counts-record : b ≡ false → (x : Repair) (new : List ℕ) → RestoresRecordUpTo n slot x new → (r : Progress)
-      → r ≡ further s (counted s.totals (repair x)) → CountsSlot n s slot r new
-  counts-record t x new R r er =
-      record {
-        content = R.content;
-        progress = er ∙ ap (λ (o : Outcome). further s (counted s.totals o)) R.answer ∙ further-by false t;
-      }
 
 -- slot i of a card, lent as a part of it and put back
 module _ (n : ℕ) (card : List ℕ) (i : ℕ) (s r : Progress) (new : List ℕ) where
@@ -66,22 +56,26 @@ module _ (n : ℕ) (card : List ℕ) (i : ℕ) (s r : Progress) (new : List ℕ)
             ∙ sym (over-one (further_by (record_up_to n)) s (take record_size rest) some most);
       }
 
-  pub counts-last : i < record_count (length card) → length card - i * record_size < record_size
-      → CountsSlot n s (take (length card - i * record_size) (drop (i * record_size) card)) r new
-      → CountsFrom n i 1 s card r (take (i * record_size) card ++ (new ++ drop (length card - i * record_size) (drop (i * record_size) card)))
-  counts-last h l C =
-      let long = length-drop (i * record_size) card in
-      put_back (length card - i * record_size) (omega arith) (last-piece card (i * record_size) l)
-      (drop_of_length-le rest {i = length card - i * record_size} (omega (arith, long))
-      ∙ sym (drop_of_length-le rest {i = record_size} (omega (arith, long)))) C
-
-  pub counts_whole : i < record_count (length card)
-      → CountsSlot n s (take (i * record_size + record_size - i * record_size) (drop (i * record_size) card)) r new
+  pub counts-slot : (m : ℕ) → m ≡ min record_size (length card - i * record_size) → i < record_count (length card)
+      → CountsSlot n s (take (i * record_size + m - i * record_size) (drop (i * record_size) card)) r new
       → CountsFrom n i 1 s card r
-      (take (i * record_size) card ++ (new ++ drop (i * record_size + record_size - i * record_size) (drop (i * record_size) card)))
-  counts_whole h C =
-      let back : i * record_size + record_size - i * record_size ≡ record_size = omega arith in
-      put_back (i * record_size + record_size - i * record_size) (omega arith) (whole-piece card (i * record_size)) (ap (λ (m : ℕ). drop m rest) back) C
+      (take (i * record_size) card ++ (new ++ drop (i * record_size + m - i * record_size) (drop (i * record_size) card)))
+  counts-slot m e h C = go (dec_lt (length card - i * record_size) record_size)
+    where
+      size : ℕ
+      size = i * record_size + m - i * record_size
+
+      go : Dec (length card - i * record_size < record_size)
+          → CountsFrom n i 1 s card r (take (i * record_size) card ++ (new ++ drop size (drop (i * record_size) card)))
+      go (yes l) =
+          let last : size ≡ length card - i * record_size = omega arith in
+          let long = length-drop (i * record_size) card in
+          put_back size (omega arith) (ap (λ (k : ℕ). take k rest) last ∙ last-piece card (i * record_size) l)
+          (drop_of_length-le rest {i = size} (omega (arith, long))
+          ∙ sym (drop_of_length-le rest {i = record_size} (omega (arith, long)))) C
+      go (no n) =
+          let whole : size ≡ record_size = omega arith in
+          put_back size (omega arith) (ap (λ (k : ℕ). take k rest) whole) (ap (λ (k : ℕ). drop k rest) whole) C
 
 -- ---- slots one behind the other
 
@@ -117,9 +111,6 @@ module _ (n f i : ℕ) (s p : Progress) (old card : List ℕ) (C : CountsFrom n 
       → CountsFrom n (f + i) 1 p card r new → CountsFrom n f (i + 1) s old r new
   counts-on count h l D = counts-more (omega arith) 1 D
 
-  pub counts_end : (count : ℕ) → i ≤ count → count ≤ i → CountsFrom n f count s old p card
-  counts_end count a b = let all : i ≡ count = omega arith in rw all at C
-
 -- ---- one step
 
 -- by the verdict of its questions
@@ -128,107 +119,70 @@ module _ (n : ℕ) (w : Walk) (s : Progress) (card : List ℕ) (v : Verdict) (e 
   unfolding step_written_up_to
   card-by = ap (λ (u : Verdict). written u card (restored_from_up_to n (w.next - 1) (step_count w (length card)) card)) e
 
-  progress-by : progress_after v s (progress_up_to n s (slots_from (w.next - 1) (step_count w (length card)) card)) ≡ step_progress n w s card
-  unfolding step_progress
-  progress-by = ap (λ (u : Verdict). progress_after u s (progress_up_to n s (slots_from (w.next - 1) (step_count w (length card)) card))) e
-
 module _ (n : ℕ) (w : Walk) (s : Progress) (card : List ℕ) (v : Verdict) (e : v ≡ step_asked w (length card)) where
-  pub counting-refused : (q : Question) → v ≡ Refused q
-      → StepsCounting n w s card (record { step = record { verdict = Refused q; state = w }; progress = s }) card
-  counting-refused q p =
-      let a = sym p ∙ e in
+  answer-by : result_and v (Ok (counted_on n w s card)) ≡ result_and (step_asked w (length card)) (Ok (counted_on n w s card))
+  answer-by = ap (λ (u : Verdict). result_and u (Ok (counted_on n w s card))) e
+
+  pub counting-refused : (q : Question) → v ≡ Err q → (r : Result Counted Question) → r ≡ Err q → StepsCounting n w s card r card
+  counting-refused q p r g =
       record {
-        answer = ap done a;
-        state = state-by w card (Refused q) a;
-        content = card-by n w s card (Refused q) a;
-        progress = progress-by n w s card (Refused q) a;
+        answer = g ∙ ap (λ (u : Verdict). result_and u (Ok (counted_on n w s card))) (sym p) ∙ answer-by;
+        content = card-by n w s card (Err q) (sym p ∙ e);
       }
 
-  pub counting-passed : v ≡ Passed → (r : ℕ) → r ≡ record_count (length card) → (count : ℕ) → count ≡ min step_records (r - (w.next - 1))
+  pub counting-passed : v ≡ (Ok tt) → (r : ℕ) → r ≡ record_count (length card) → (count : ℕ) → count ≡ min step_records (r - (w.next - 1))
       → {p : Progress} {new : List ℕ} → CountsFrom n (w.next - 1) count s card p new
-      → StepsCounting n w s card
-      (record { step = record { verdict = Passed; state = walk_at (length card) (w.next + count) }; progress = p }) new
+      → StepsCounting n w s card (Ok (record { walk = walk_at w.length (w.next + count); progress = p })) new
   counting-passed t r er count ec {p} {new} C =
-      let a = sym t ∙ e in
       let c = going-count w (length card) v e t r er count ec in
       record {
-        answer = ap done a;
-        state = ap₂ (λ (m k : ℕ). walk_at m (w.next + k)) (going-length w (length card) v e t) c ∙ state-by w card Passed a;
-        content = C.content ∙ ap (λ (k : ℕ). restored_from_up_to n (w.next - 1) k card) c ∙ card-by n w s card Passed a;
-        progress = C.progress ∙ ap (λ (k : ℕ). progress_up_to n s (slots_from (w.next - 1) k card)) c ∙ progress-by n w s card Passed a;
+        answer = ap Ok
+            (ap₂ (λ (k : ℕ) (u : Progress). record { walk = walk_at w.length (w.next + k); progress = u }) c
+            (C.progress ∙ ap (λ (k : ℕ). progress_up_to n s (slots_from (w.next - 1) k card)) c))
+            ∙ ap (λ (u : Verdict). result_and u (Ok (counted_on n w s card))) (sym t)
+            ∙ answer-by;
+        content = C.content ∙ ap (λ (k : ℕ). restored_from_up_to n (w.next - 1) k card) c ∙ card-by n w s card (Ok tt) (sym t ∙ e);
       }
 
 -- up to two it is a step
-pub steps-two : (w : Walk) (s : Progress) (card : List ℕ) (r : Counted) (new : List ℕ) → StepsCounting most_changes w s card r new
-    → Steps w card r.step new
-unfolding step_written_up_to step_written
-steps-two w s card r new S =
-    record {
-      answer = S.answer;
-      state = S.state;
-      content = S.content
-          ∙ ap (λ (f : List ℕ → List ℕ). written (step_asked w (length card)) card (from_by f (w.next - 1) (step_count w (length card)) card))
-          written-two;
-    }
+module _ (w : Walk) (s : Progress) (card : List ℕ) where
+  abbrev walk_of : Result Counted Question → Result Walk Question
+  walk_of (Ok x) = Ok x.walk
+  walk_of (Err q) = Err q
 
--- ---- the whole walk
-
--- the walk has come to its next record, and every slot before it is restored and counted
-pub record Walked (n : ℕ) (s : Progress) (card : List ℕ) (w : Walk) (p : Progress) (now : List ℕ) : Type 0 where
-  pub low : 1 ≤ w.next
-  pub high : w.next ≤ record_count (length card) + 1
-  pub size : w.length ≡ length card
-  pub counts : CountsFrom n 0 (w.next - 1) s card p now
-
-pub walked_start : (n : ℕ) (s : Progress) (card : List ℕ) → Walked n s card (begun (length card)) s card
-walked_start n s card = record { low = omega arith; high = omega arith; size = refl; counts = counts-none n 0 s card }
-
-module _ {n : ℕ} {s : Progress} {card : List ℕ} {w : Walk} {p : Progress} {now : List ℕ} (W : Walked n s card w p now) where
-  pub walked-long : length now ≡ length card
-  walked-long = ap length W.counts.content ∙ from-size (record_written_up_to n) (up-to-size n) 0 (w.next - 1) card
-
-  pub walked-within : (b c : ℕ) → Within b s → b + record_count (length card) * 2 ≤ c → Within c p
-  walked-within b c few h = counts-within n 0 (w.next - 1) s p card now W.counts b c few (omega (arith, W.high))
-
-  -- one step more
-  module _ {r : Counted} {new : List ℕ} (S : StepsCounting n w p now r new) (l : w.next ≤ record_count (length card)) where
-    asked : Passed ≡ step_asked w (length now)
-    asked = step-passed w (length now) (walked-long ∙ sym W.size) W.low (omega (arith, walked-long))
-
-    state : r.step.state ≡ walk_at w.length (w.next + step_count w (length now))
-    state = S.state ∙ sym (state-by w now Passed asked)
-
-    next : r.step.state.next ≡ w.next + step_count w (length now)
-    next = ap (λ (u : Walk). u.next) state
-
-    counts_step : CountsFrom n (w.next - 1) (step_count w (length now)) p now r.progress new
-    counts_step =
-        record {
-          content = S.content ∙ sym (card-by n w p now Passed asked);
-          progress = S.progress ∙ sym (progress-by n w p now Passed asked);
-        }
-
-    pub walked_further : w.next < r.step.state.next
-    walked_further = omega (arith, next, walked-long)
-
-    pub walked_on : Walked n s card r.step.state r.progress new
-    walked_on =
-        let more = step_count w (length now) in
-        let behind : w.next - 1 + more ≡ r.step.state.next - 1 = omega (arith, next, W.low) in
-        record {
-          low = omega (arith, next, W.low);
-          high = omega (arith, next, walked-long);
-          size = ap (λ (u : Walk). u.length) state ∙ W.size;
-          counts = subst (λ (m : ℕ). CountsFrom n 0 m s card r.progress new) behind
-              (counts-more n 0 (w.next - 1) s p card now W.counts (omega (arith, W.low)) more (rw (zero-add (w.next - 1)) counts_step));
-        }
-
-  pub walked_end : record_count (length card) < w.next → CountsCard n s card p now
-  walked_end h =
+  counts-step : (r : Result Counted Question) (new : List ℕ) → StepsCounting most_changes w s card r new → Steps w card (walk_of r) new
+  unfolding step_written_up_to step_written
+  counts-step r new S =
       record {
-        content = W.counts.content ∙ from_all (record_written_up_to n) (w.next - 1) card (omega arith);
-        progress = W.counts.progress ∙ ap (progress_up_to n s) (slots-all (w.next - 1) card (omega arith));
+        answer = ap (λ (x : Result Counted Question). done (result_and (walk_of x) (Ok tt))) S.answer ∙ told asked;
+        state = ap (λ (x : Result Counted Question). result_unwrap_or (walk_of x) w) S.answer ∙ gone asked ∙ state-by w card asked refl;
+        content = S.content
+            ∙ ap (λ (f : List ℕ → List ℕ). written asked card (from_by f (w.next - 1) (step_count w (length card)) card))
+            written-two;
       }
+    where
+      asked : Verdict
+      asked = step_asked w (length card)
+
+      on : Counted
+      on = counted_on most_changes w s card
+
+      told : (v : Verdict) → done (result_and (walk_of (result_and v (Ok on))) (Ok tt)) ≡ done v
+      told (Ok tt) = refl
+      told (Err q) = refl
+
+      gone : (v : Verdict) → result_unwrap_or (walk_of (result_and v (Ok on))) w ≡ state_after v w on.walk
+      gone (Ok tt) = refl
+      gone (Err q) = refl
+
+  pub steps-two : (r : Result Counted Question) (new : List ℕ) → StepsCounting most_changes w s card r new
+      → (x : Counted) → r ≡ Ok x → Steps w card (Ok x.walk) new
+  steps-two r new S x e = subst (λ (y : Result Walk Question). Steps w card y new) (ap walk_of e) (counts-step r new S)
+
+  pub steps-two-refused : (r : Result Counted Question) (new : List ℕ) → StepsCounting most_changes w s card r new
+      → (q : Question) → r ≡ Err q → (v : Result Walk Question) → v ≡ Err q → Steps w card v new
+  steps-two-refused r new S q e v f =
+      subst (λ (y : Result Walk Question). Steps w card y new) (ap walk_of e ∙ sym f) (counts-step r new S)
 
 -- ---- what the counts say, where f tells what restoring a record answers, at whatever reach
 

@@ -1,11 +1,10 @@
 -- The steps of a walk: the questions of one, its answer, and steps one after the other. Assumes nothing.
-use Rattle.field.proofs.Base.{eq-eqb, ne_eqb, eqb-true, ◌≡◌, refl, sym, ap, ap₂, ◌∙◌, Bool, true, false, List, ℕ, zero, suc, ◌+◌, ◌-◌, ◌*◌, ◌≤◌, ◌<◌}
+use Rattle.std.proofs.Common.{Ok, Err}
+use Rattle.field.proofs.Base.{eq-eqb, ne_eqb, ◌≡◌, refl, sym, ap, ap₂, ◌∙◌, Bool, true, false, List, ℕ, zero, suc, ◌+◌, ◌-◌, ◌*◌, ◌≤◌, ◌<◌}
 use Rattle.field.proofs.Base.{min, dec_lt, arith, eqb, length}
 use native.Mathlib.Nat.{zero-add}
-use Rattle.field.specs.Question.{accepted, refused}
+use Rattle.field.specs.Question.{Verdict, accepted, refused}
 use Rattle.field.specs.declared.Question.TheVariants.{Length, RecordNumber}
-use Rattle.field.specs.declared.Verdict.{Verdict}
-use Rattle.field.specs.declared.Verdict.TheVariants.{Passed, Refused}
 use Rattle.field.proofs.Ask.{ask-yes, ask-next}
 use Rattle.code.specs.Call.{done, written}
 use Rattle.card.specs.Record.{record_size, record_written}
@@ -23,7 +22,7 @@ use Rattle.walk.proofs.Restoring.{from-size, from-none, from_all, from_on}
 -- ---- the questions
 
 module _ (w : Walk) (n : ℕ) where
-  pub asked-length : (n ≡ w.length → ⊥) → Refused Length ≡ step_asked w n
+  pub asked-length : (n ≡ w.length → ⊥) → Err Length ≡ step_asked w n
   unfolding step_asked
   asked-length h = simp (ne_eqb n w.length h)
 
@@ -32,27 +31,23 @@ module _ (w : Walk) (n : ℕ) where
     same : b ≡ is_number (record_count n + 1) w.next
     same = eb ∙ ap (λ (k : ℕ). is_number (k + 1) w.next) er
 
-    pub asked-passed : b ≡ true → Passed ≡ step_asked w n
+    pub asked-passed : b ≡ true → (Ok tt) ≡ step_asked w n
     unfolding step_asked
     asked-passed t = simp (eq-eqb n w.length e, sym same ∙ t)
 
-    pub asked-number : b ≡ false → Refused RecordNumber ≡ step_asked w n
+    pub asked-number : b ≡ false → Err RecordNumber ≡ step_asked w n
     unfolding step_asked
     asked-number t = simp (eq-eqb n w.length e, sym same ∙ t)
 
-pub step-passed : (w : Walk) (n : ℕ) → n ≡ w.length → 1 ≤ w.next → w.next ≤ record_count n + 1 → Passed ≡ step_asked w n
+pub step-passed : (w : Walk) (n : ℕ) → n ≡ w.length → 1 ≤ w.next → w.next ≤ record_count n + 1 → (Ok tt) ≡ step_asked w n
 step-passed w n e l h = asked-passed w n e (record_count n) refl true (sym (number-yes (record_count n + 1) w.next l h)) refl
 
 -- what they tell where they were answered yes
-module _ (w : Walk) (n : ℕ) (v : Verdict) (e : v ≡ step_asked w n) (p : v ≡ Passed) where
-  pub going-length : n ≡ w.length
-  unfolding step_asked
-  going-length = eqb-true n w.length (ask-yes (eqb n w.length) Length _ (sym e ∙ p))
-
+module _ (w : Walk) (n : ℕ) (v : Verdict) (e : v ≡ step_asked w n) (p : v ≡ (Ok tt)) where
   in-range : is_number (record_count n + 1) w.next ≡ true
   unfolding step_asked
   in-range =
-      ask-yes (is_number (record_count n + 1) w.next) RecordNumber Passed (ask-next (eqb n w.length) Length _ (sym e ∙ p))
+      ask-yes (is_number (record_count n + 1) w.next) RecordNumber (Ok tt) (ask-next (eqb n w.length) Length _ (sym e ∙ p))
 
   pub going-low : 1 ≤ w.next
   going-low = number-low (record_count n + 1) w.next in-range
@@ -87,11 +82,11 @@ pub refused-step : RefusedStep
 refused-step w card n e = go (step_asked w (length card)) refl
   where
     go : (v : Verdict) → v ≡ step_asked w (length card) → Unmoved w card
-    go Passed p =
+    go (Ok tt) p =
         let never : accepted 0 ≡ refused n = ap done p ∙ e in
         let z : ◌≡◌ {A = ℕ} 0 1 = cc in
         absurd (omega arith)
-    go (Refused q) p = record { state = sym (state-by w card (Refused q) p); content = sym (card-by w card (Refused q) p) }
+    go (Err q) p = record { state = sym (state-by w card (Err q) p); content = sym (card-by w card (Err q) p) }
 
 pub after-end : AfterEnd
 after-end w card e n =
@@ -100,8 +95,8 @@ after-end w card e n =
     let same : w.next ≡ w.next + step_count w (length card) = omega arith in (
       sym (ap done p),
       record {
-        state = sym (ap (λ (x : ℕ). walk_at w.length x) same ∙ state-by w card Passed p);
-        content = sym (card-by w card Passed p)
+        state = sym (ap (λ (x : ℕ). walk_at w.length x) same ∙ state-by w card (Ok tt) p);
+        content = sym (card-by w card (Ok tt) p)
             ∙ ap (λ (k : ℕ). restored_from (w.next - 1) k card) none
             ∙ from-none record_written (w.next - 1) card;
       },
@@ -117,11 +112,11 @@ abbrev state_in : ℕ → ℕ → Walk
 state_in k n = walk_at n (reached_in k n + 1)
 
 module _ (k n : ℕ) (card : List ℕ) (size : length card ≡ n) where
-  asked_in_lem : Passed ≡ step_asked (state_in k n) (length card)
+  asked_in_lem : (Ok tt) ≡ step_asked (state_in k n) (length card)
   asked_in_lem = step-passed (state_in k n) (length card) size (omega arith) (omega (arith, size))
 
   state-in : step_state (state_in k n) card ≡ state_in (suc k) n
-  state-in = sym (state-by (state_in k n) card Passed asked_in_lem) ∙ ap (walk_at n) more
+  state-in = sym (state-by (state_in k n) card (Ok tt) asked_in_lem) ∙ ap (walk_at n) more
     where
       more : reached_in k n + 1 + step_count (state_in k n) (length card) ≡ reached_in (suc k) n + 1
       more = omega (arith, size)
@@ -161,7 +156,7 @@ module _ (k : ℕ) (card : List ℕ) where
   size : length (card_at k card) ≡ length card
   size = from-size record_written written-size 0 (reached k card) card
 
-  asked-at : Passed ≡ step_asked (state_at k card) (length (card_at k card))
+  asked-at : (Ok tt) ≡ step_asked (state_at k card) (length (card_at k card))
   asked-at = asked_in_lem k (length card) (card_at k card) size
 
   state-on : step_state (state_at k card) (card_at k card) ≡ state_at (suc k) card
@@ -169,7 +164,7 @@ module _ (k : ℕ) (card : List ℕ) where
 
   card-on : step_written (state_at k card) (card_at k card) ≡ card_at (suc k) card
   card-on =
-      sym (card-by (state_at k card) (card_at k card) Passed asked-at)
+      sym (card-by (state_at k card) (card_at k card) (Ok tt) asked-at)
       ∙ ap (λ (i : ℕ). restored_from i count (card_at k card)) back
       ∙ go (dec_lt (reached k card) (record_count (length card)))
     where

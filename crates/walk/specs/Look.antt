@@ -1,15 +1,14 @@
 -- A look at a record: the symbols that restoring it would give, or the refusal. Assumes nothing.
-use Rattle.std.specs.Prelude.{◌≡◌, List, ◌++◌, ℕ, ◌-◌, eqb, length, replicate}
-use Rattle.field.specs.Question.{Outcome, accepted, refused, ask, after}
+use Rattle.std.specs.Prelude.{Ok, Result, ◌≡◌, List, ◌++◌, ℕ, ◌-◌, eqb, length, replicate}
+use Rattle.std.specs.Result.{result_and, result_unwrap_or}
+use Rattle.field.specs.Question.{Verdict, Outcome, accepted, refused, ask, after}
+use Rattle.field.specs.declared.Question.{Question}
 use Rattle.field.specs.declared.Question.TheVariants.{Length, RecordNumber}
-use Rattle.field.specs.declared.Verdict.{Verdict}
-use Rattle.field.specs.declared.Verdict.TheVariants.{Passed}
 use Rattle.code.specs.Word.{longest}
 use Rattle.code.specs.Call.{done}
 use Rattle.card.specs.Record.{word_of, record_of, on_accept, record_written}
 use Rattle.card.specs.Slots.{record_count}
 use Rattle.card.specs.Card.{is_number, record_numbered}
-use Rattle.walk.specs.declared.View.{View}
 
 -- a row has room for the longest word
 abbrev pub look_size : ℕ
@@ -30,7 +29,7 @@ uncounted (refused n) = refused n
 
 -- the record's number is asked first, 1 to N on a card of n bytes; then the length of the row, which has room for m symbols
 unfoldable pub look_asked : ℕ → ℕ → ℕ → Verdict
-look_asked n number m = ask (is_number (record_count n) number) RecordNumber (ask (eqb m look_size) Length Passed)
+look_asked n number m = ask (is_number (record_count n) number) RecordNumber (ask (eqb m look_size) Length (Ok tt))
 
 -- what a look at the record of that number answers
 unfoldable pub look_of : List ℕ → ℕ → List ℕ → Outcome
@@ -49,5 +48,6 @@ pub record Looks (card : List ℕ) (number : ℕ) (old : List ℕ) (v : Verdict)
 abbrev pub no_symbols : List ℕ
 no_symbols = replicate look_size 0
 
-abbrev pub LooksAt : List ℕ → ℕ → View → Type 0
-LooksAt card number v = Looks card number no_symbols v.verdict v.row
+-- what a look by value answers and gives, or zeros where it is refused
+abbrev pub LooksAt : List ℕ → ℕ → Result (List ℕ) Question → Type 0
+LooksAt card number r = Looks card number no_symbols (result_and r (Ok tt)) (result_unwrap_or r no_symbols)

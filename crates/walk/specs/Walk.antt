@@ -1,14 +1,13 @@
 -- A walk over a card: one step restores up to 16 records, in card order. N is the number of records of the card. Assumes nothing.
-use Rattle.std.specs.Prelude.{◌≡◌, List, [], ◌∷◌, ℕ, zero, suc, ◌+◌, ◌-◌, ◌/◌, min, eqb, length}
-use Rattle.field.specs.Question.{Outcome, ask}
+use Rattle.std.specs.Prelude.{Ok, Err, Result, ◌≡◌, List, [], ◌∷◌, ℕ, zero, suc, ◌+◌, ◌-◌, ◌/◌, min, eqb, length}
+use Rattle.std.specs.Result.{result_and, result_unwrap_or}
+use Rattle.field.specs.Question.{Verdict, Outcome, ask}
+use Rattle.field.specs.declared.Question.{Question}
 use Rattle.field.specs.declared.Question.TheVariants.{Length, RecordNumber}
-use Rattle.field.specs.declared.Verdict.{Verdict}
-use Rattle.field.specs.declared.Verdict.TheVariants.{Passed, Refused}
 use Rattle.code.specs.Call.{done, written}
 use Rattle.card.specs.Slots.{record_count}
 use Rattle.card.specs.Card.{is_number}
 use Rattle.walk.specs.declared.Walk.{Walk}
-use Rattle.walk.specs.declared.Stepped.{Stepped}
 use Rattle.walk.specs.Restored.{restored_from}
 
 -- so many records are treated in a step, fewer only at the end
@@ -25,7 +24,7 @@ begun n = walk_at n 1
 
 -- the card, of n bytes, has the length that the walk began with, and the next record is 1 to N + 1
 unfoldable pub step_asked : Walk → ℕ → Verdict
-step_asked w n = ask (eqb n w.length) Length (ask (is_number (record_count n + 1) w.next) RecordNumber Passed)
+step_asked w n = ask (eqb n w.length) Length (ask (is_number (record_count n + 1) w.next) RecordNumber (Ok tt))
 
 -- what a step answers
 abbrev pub step_of : Walk → List ℕ → Outcome
@@ -35,10 +34,10 @@ step_of w card = done (step_asked w (length card))
 abbrev pub step_count : Walk → ℕ → ℕ
 step_count w n = min step_records (record_count n + 1 - w.next)
 
--- the state that a step returns: as handed in where it is refused
+-- the state for the next step: as handed in where this one is refused
 abbrev pub state_after : Verdict → Walk → Walk → Walk
-state_after Passed old new = new
-state_after (Refused q) old new = old
+state_after (Ok tt) old new = new
+state_after (Err q) old new = old
 
 unfoldable pub step_state : Walk → List ℕ → Walk
 step_state w card = state_after (step_asked w (length card)) w (walk_at w.length (w.next + step_count w (length card)))
@@ -47,10 +46,10 @@ step_state w card = state_after (step_asked w (length card)) w (walk_at w.length
 unfoldable pub step_written : Walk → List ℕ → List ℕ
 step_written w card = written (step_asked w (length card)) card (restored_from (w.next - 1) (step_count w (length card)) card)
 
--- the call's promise: what a step answers and returns, and what it leaves in the card
-pub record Steps (w : Walk) (old : List ℕ) (s : Stepped) (new : List ℕ) : Type 0 where
-  pub answer : done s.verdict ≡ step_of w old
-  pub state : s.state ≡ step_state w old
+-- the call's promise: what a step answers, the state that it gives, or w where it is refused, and what it leaves in the card
+pub record Steps (w : Walk) (old : List ℕ) (r : Result Walk Question) (new : List ℕ) : Type 0 where
+  pub answer : done (result_and r (Ok tt)) ≡ step_of w old
+  pub state : result_unwrap_or r w ≡ step_state w old
   pub content : new ≡ step_written w old
 
 -- ---- steps one after the other, each handed the state that the last returned, all lent the same card

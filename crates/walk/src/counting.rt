@@ -1,25 +1,25 @@
-// Restoring a card by a walk that counts: how far it has come is a listing's progress, as a listing of the card as lent counts its slots.
-// Each record is restored with a reach of at most `most`.
+// Restoring a card, or the records of a step, and counting its slots: how far it has come is a listing's progress, as a listing of the card as lent
+// counts them. Each record is restored with a reach of at most `most`.
 ghost use Rattle.std.specs.Prelude.{[], ◌∷◌, ◌++◌, ◌+◌, ◌*◌, ◌^◌, ◌≤◌, ◌<◌, length};
 ghost use Rattle.card.specs.Slots.{record_count};
 ghost use Rattle.card.specs.Listing.{decimal};
 ghost use Rattle.card.specs.inner.Room.{longest_field, Within};
-ghost use Rattle.walk.specs.Walk.{step_records};
 ghost use Rattle.walk.specs.inner.Parts.{CountsSlot, CountsFrom, StepsCounting, Sound, longest_restored};
 ghost use Rattle.walk.specs.Counting.{CountsCard, restored_line};
-ghost use Rattle.card.specs.Placed.{Writes};
+ghost use Rattle.card.specs.Text.{Appends};
 
-use crate::{Stepped, Walk, ask_step, step_count};
+use crate::{STEP, Walk};
 use card::Progress;
 use card::cards::{is_blank, record_count};
+use card::listing::advance;
 use card::records::{RECORD, restore_record_up_to};
-use card::text::{advance, put_bytes, put_field};
-use field::Verdict;
+use card::text::Text;
+use field::Question;
 
-// What a step answers, the state for the next one, and how far the counting has come.
+// The state for the next step, and how far the counting has come.
 #[derive(Clone, Copy)]
 pub struct Counted {
-    pub step: Stepped,
+    pub walk: Walk,
     pub progress: Progress,
 }
 
@@ -29,10 +29,9 @@ fn count_slot(slot: &mut [u8], most: u8, s: Progress) -> Progress
     ensures { CountsSlot most s slot.old result slot.new }
 {
     if is_blank(slot) {
-        let totals = s.totals;
         return Progress {
             next: s.next + 1,
-            totals,
+            ..s
         };
     }
     advance(s, restore_record_up_to(slot, most))
@@ -44,101 +43,74 @@ fn count_at(card: &mut [u8], i: usize, most: u8, s: Progress) -> Progress
     ensures { CountsFrom most i 1 s card.old result card.new }
 {
     let start = i * RECORD;
-    if card.len() - start < RECORD {
-        count_slot(&mut card[start..], most, s)
-    } else {
-        let end = start + RECORD;
-        count_slot(&mut card[start..end], most, s)
-    }
+    let end = start + RECORD.min(card.len() - start);
+    count_slot(&mut card[start..end], most, s)
 }
 
-// The `count` slots behind the first ones, no more than a step treats.
+// The `count` slots behind the first ones.
 fn count_from(card: &mut [u8], first: usize, count: usize, most: u8, s: Progress) -> Progress
-    requires { (first + count ≤ record_count (length card.old)) × (count ≤ step_records) × Within (3 * 2 ^ 61) s }
+    requires { (first + count ≤ record_count (length card.old)) × Within (3 * 2 ^ 61) s }
     ensures { CountsFrom most first count s card.old result card.new }
 {
     let mut progress = s;
-    let mut i = 0;
-    while i < count {
+    for i in 0..count {
         progress = count_at(card, first + i, most, progress);
-        i += 1;
     }
     progress
 }
 
 impl Walk {
     // One step that counts. No entry point: it requires counts that do not overflow.
-    pub fn step_counting(self, card: &mut [u8], most: u8, s: Progress) -> Counted
+    pub fn step_counting(self, card: &mut [u8], most: u8, s: Progress) -> Result<Counted, Question>
         requires { Within (3 * 2 ^ 61) s }
         ensures { StepsCounting most self s card.old result card.new }
     {
         let n = card.len();
-        match ask_step(self, n) {
-            Verdict::Passed => {
-                let first = self.next - 1;
-                let count = step_count(record_count(n) - first);
-                let progress = count_from(card, first, count, most, s);
-                Counted {
-                    step: Stepped {
-                        verdict: Verdict::Passed,
-                        state: Walk {
-                            length: n,
-                            next: self.next + count,
-                        },
-                    },
-                    progress,
-                }
-            }
-            Verdict::Refused(q) => Counted {
-                step: Stepped {
-                    verdict: Verdict::Refused(q),
-                    state: self,
-                },
-                progress: s,
+        self.ask(n)?;
+        let first = self.next - 1;
+        let count = STEP.min(record_count(n) - first);
+        let progress = count_from(card, first, count, most, s);
+        Ok(Counted {
+            walk: Walk {
+                next: self.next + count,
+                ..self
             },
-        }
+            progress,
+        })
     }
 }
 
-// A walk from the first record to the last: the card is restored, and its slots are counted. No entry point: it requires counts that do not
-// overflow.
+// The whole card is restored, and its slots are counted. No entry point: it requires counts that do not overflow.
 pub fn restore_counting(card: &mut [u8], most: u8, s: Progress) -> Progress
     requires { Within (2 ^ 62) s }
     ensures { CountsCard most s card.old result card.new }
 {
-    let n = record_count(card.len());
-    let mut walk = Walk::begin(card);
-    let mut progress = s;
-    while walk.next <= n {
-        let counted = walk.step_counting(card, most, progress);
-        let step = counted.step;
-        let state = step.state;
-        walk = state;
-        progress = counted.progress;
-    }
-    progress
+    let count = record_count(card.len());
+    count_from(card, 0, count, most, s)
 }
 
 // Writes a word, a number and the byte that ends both.
-fn put_item(out: &mut [u8], at: usize, word: &[u8], n: u64, end: u8) -> usize
-    requires { at + length word.now + longest_field ≤ length out.old }
-    ensures writes { Writes out.old at (word.now ++ (decimal n ++ end ∷ [])) out.new result }
-    ensures upper_bound { result ≤ at + length word.now + longest_field }
+#[tactic(auto, using(card::proofs::Writing::appending))]
+fn put_item(out: &mut Text, word: &[u8], n: u64, end: u8)
+    requires { length word.now + longest_field ≤ out.old.room }
+    ensures text { Appends out.old (word.now ++ (decimal n ++ end ∷ [])) out.new }
+    ensures upper_bound { out.old.room ≤ length word.now + longest_field + out.new.room }
 {
-    let a = put_bytes(out, at, word);
-    put_field(out, a, n, end)
+    out.put_bytes(word);
+    out.put_field(n, end);
 }
 
 // Writes the line that says what was done: records restored, places changed, records refused, blank slots. No entry point: it requires room
 // for the line, and counts that do not exceed the slots.
-pub fn put_restored(out: &mut [u8], at: usize, s: Progress) -> usize
-    requires { (at + longest_restored ≤ length out.old) × Sound s }
-    ensures { Writes out.old at (restored_line s) out.new result }
+#[tactic(auto, using(card::proofs::Writing::appending))]
+pub fn put_restored(out: &mut Text, s: Progress)
+    requires { (longest_restored ≤ out.old.room) × Sound s }
+    ensures { Appends out.old (restored_line s) out.new }
 {
     let t = s.totals;
     let blank = s.next - 1 - t.accepted - t.refused;
-    let a = put_item(out, at, b"restored ", t.accepted, b',');
-    let b = put_item(out, a, b" changed ", t.changed, b',');
-    let c = put_item(out, b, b" refused ", t.refused, b',');
-    put_item(out, c, b" blank ", blank, b'\n')
+    put_item(out, b"restored ", t.accepted, b',');
+    put_item(out, b" changed ", t.changed, b',');
+    put_item(out, b" refused ", t.refused, b',');
+    put_item(out, b" blank ", blank, b'\n');
 }

@@ -1,9 +1,6 @@
 -- Parts of a record and of a card, for the functions that read and restore them. Assumes nothing.
-use Rattle.std.specs.Prelude.{◌≡◌, List, ℕ, take, drop, replicate}
+use Rattle.std.specs.Prelude.{◌≡◌, List, ℕ, take, drop}
 use Rattle.std.specs.Borrow.{Bor}
-use Rattle.field.specs.declared.Question.{Question}
-use Rattle.code.specs.declared.Repair.TheVariants.{Refused}
-use Rattle.card.specs.declared.RestoredCopy.{RestoredCopy}
 use Rattle.card.specs.Record.{header_of, unused_in, tail_in, erasure_bytes, record_size}
 use Rattle.card.specs.Card.{LiesAt}
 
@@ -16,10 +13,6 @@ unused_of r = unused_in erasure_bytes r
 
 abbrev pub tail_of : List ℕ → List ℕ
 tail_of r = tail_in erasure_bytes r
-
--- the answer and the copy of a record that is refused
-abbrev pub no_copy : Question → RestoredCopy
-no_copy q = record { answer = Refused q; bytes = replicate record_size 0 }
 
 -- the slot of today's edition that begins at byte a of the lent card: its bytes, where they lie
 pub record SlotFrom (card : Bor (List ℕ)) (a : ℕ) (r : Bor (List ℕ)) : Type 0 where

@@ -1,13 +1,13 @@
 -- What the questions before question 8 tell of a word and its erasures, what the question about the syndromes tells, that data passes the
 -- encoder's questions and a codeword the reader's. Assumes nothing.
+use Rattle.std.proofs.Common.{Ok, Err}
+use Rattle.field.specs.Question.{Verdict}
 use Rattle.field.proofs.Base.{◌≡◌, refl, sym, ap, ◌∙◌, Bool, true, List, ℕ, ◌≤◌, ◌<◌, le_refl, arith, leb-true, le-leb, lt-leb, eqb-true, eq-eqb, eqb}
 use Rattle.field.proofs.Base.{leb, length}
 use Rattle.field.specs.Field.{order}
 use Rattle.field.specs.Question.{ask, is_width, all_below}
 use Rattle.field.specs.declared.Question.{Question}
 use Rattle.field.specs.declared.Question.TheVariants.{Width, Length, ErasureCount, ErasurePlace, ErasureDistinct, Symbol, Reach}
-use Rattle.field.specs.declared.Verdict.{Verdict}
-use Rattle.field.specs.declared.Verdict.TheVariants.{Passed, Refused}
 use Rattle.field.proofs.Ask.{ask-yes, ask-next}
 use Rattle.field.proofs.Evaluation.{five-at}
 use Rattle.field.proofs.Below.{all_below-means, all_below-holds}
@@ -40,7 +40,7 @@ module _ (m : ℕ) (w : List ℕ) where
   zero-syndromes = zero-five (syndrome m (at w))
 
 -- data passes the encoder's questions
-pub encode-passes : (m : ℕ) → is_width m ≡ true → (ds out : List ℕ) → Data m ds → length out ≡ places m → encode_asked m ds (length out) ≡ Passed
+pub encode-passes : (m : ℕ) → is_width m ≡ true → (ds out : List ℕ) → Data m ds → length out ≡ places m → encode_asked m ds (length out) ≡ (Ok tt)
 unfolding encode_asked
 encode-passes m h ds out D e = rw (
   h,
@@ -50,7 +50,7 @@ encode-passes m h ds out D e = rw (
 )
 
 -- a codeword passes the reader's questions
-pub read-passes : (m : ℕ) → is_width m ≡ true → (w out : List ℕ) → Codeword m w → length out ≡ items m → read_data_asked m w (length out) ≡ Passed
+pub read-passes : (m : ℕ) → is_width m ≡ true → (w out : List ℕ) → Codeword m w → length out ≡ items m → read_data_asked m w (length out) ≡ (Ok tt)
 unfolding read_data_asked
 read-passes m h w out C e = rw (
   h,
@@ -61,7 +61,7 @@ read-passes m h w out C e = rw (
 )
 
 -- a word that passes the test's questions and has zero syndromes is a codeword
-pub test-codeword : (m : ℕ) (w : List ℕ) → is_codeword_asked m w ≡ Passed → zero_syndromes m w ≡ true → Codeword m w
+pub test-codeword : (m : ℕ) (w : List ℕ) → is_codeword_asked m w ≡ (Ok tt) → zero_syndromes m w ≡ true → Codeword m w
 unfolding is_codeword_asked
 test-codeword m w p1 z =
     let p2 = ask-next (is_width m) Width _ p1 in
@@ -69,7 +69,7 @@ test-codeword m w p1 z =
     let size : length w ≡ places m = eqb-true _ _ (ask-yes (eqb (length w) (places m)) Length _ p2) in
     record {
       size = size;
-      symbols = λ p h. all_below-means (order m) w (ask-yes (all_below (order m) w) Symbol Passed p3) p (omega arith);
+      symbols = λ p h. all_below-means (order m) w (ask-yes (all_below (order m) w) Symbol (Ok tt) p3) p (omega arith);
       zero-syndromes = syndromes-zero m w z;
     }
 
@@ -94,7 +94,7 @@ given m w es p1 =
       few = leb-true _ _ (ask-yes (leb (length es) (max_erasures m)) ErasureCount _ p3);
       lent = record {
         size = size;
-        symbols = λ p h o. symbols-means (order m) es w (ask-yes (symbols_from (order m) es 0 w) Symbol Passed p6) p (omega arith) o;
+        symbols = λ p h o. symbols-means (order m) es w (ask-yes (symbols_from (order m) es 0 w) Symbol (Ok tt) p6) p (omega arith) o;
         distinct = ask-yes (distinct es) ErasureDistinct _ p5;
         below = ask-yes (all_below (places m) es) ErasurePlace _ p4;
       };
@@ -104,29 +104,29 @@ given m w es p1 =
 
 module _ (m : ℕ) (w es : List ℕ) (reach : ℕ) where
   abbrev pub asks_reach : Verdict
-  asks_reach = ask (leb reach (radius m (length es))) Reach Passed
+  asks_reach = ask (leb reach (radius m (length es))) Reach (Ok tt)
 
   pub within_on : Passes m w es → within_asked m w es reach ≡ asks_reach
   unfolding within_asked
   within_on p = ap (λ (v : Verdict). followed v asks_reach) p
 
-  pub within-stop : (q : Question) → restore_asked m w es ≡ Refused q → within_asked m w es reach ≡ Refused q
+  pub within-stop : (q : Question) → restore_asked m w es ≡ Err q → within_asked m w es reach ≡ Err q
   unfolding within_asked
   within-stop q e = ap (λ (v : Verdict). followed v asks_reach) e
 
   pub passes-within : Passes m w es → reach ≤ radius m (length es) → PassesWithin m w es reach
-  passes-within p h = within_on p ∙ ap (λ (b : Bool). ask b Reach Passed) (le-leb reach (radius m (length es)) h)
+  passes-within p h = within_on p ∙ ap (λ (b : Bool). ask b Reach (Ok tt)) (le-leb reach (radius m (length es)) h)
 
-  pub longer-refused : Passes m w es → radius m (length es) < reach → within_asked m w es reach ≡ Refused Reach
-  longer-refused p h = within_on p ∙ ap (λ (b : Bool). ask b Reach Passed) (lt-leb reach (radius m (length es)) h)
+  pub longer-refused : Passes m w es → radius m (length es) < reach → within_asked m w es reach ≡ Err Reach
+  longer-refused p h = within_on p ∙ ap (λ (b : Bool). ask b Reach (Ok tt)) (lt-leb reach (radius m (length es)) h)
 
   pub within-passes : PassesWithin m w es reach → Passes m w es × (reach ≤ radius m (length es))
   unfolding within_asked
   within-passes e = go (restore_asked m w es) refl e
     where
-      go : (v : Verdict) → restore_asked m w es ≡ v → followed v asks_reach ≡ Passed → Passes m w es × (reach ≤ radius m (length es))
-      go Passed f e = (f, leb-true reach (radius m (length es)) (ask-yes (leb reach (radius m (length es))) Reach Passed e))
-      go (Refused q) f e = let z : ◌≡◌ {A = ℕ} 0 1 = cc in absurd (omega arith)
+      go : (v : Verdict) → restore_asked m w es ≡ v → followed v asks_reach ≡ (Ok tt) → Passes m w es × (reach ≤ radius m (length es))
+      go (Ok tt) f e = (f, leb-true reach (radius m (length es)) (ask-yes (leb reach (radius m (length es))) Reach (Ok tt) e))
+      go (Err q) f e = let z : ◌≡◌ {A = ℕ} 0 1 = cc in absurd (omega arith)
 
 -- who names no reach is asked nothing more
 pub passes-radius : (m : ℕ) (w es : List ℕ) → within_asked m w es (radius m (length es)) ≡ restore_asked m w es
@@ -134,5 +134,5 @@ unfolding within_asked
 passes-radius m w es = go (restore_asked m w es)
   where
     go : (v : Verdict) → followed v (asks_reach m w es (radius m (length es))) ≡ v
-    go Passed = ap (λ (b : Bool). ask b Reach Passed) (le-leb (radius m (length es)) (radius m (length es)) (le_refl (radius m (length es))))
-    go (Refused q) = refl
+    go (Ok tt) = ap (λ (b : Bool). ask b Reach (Ok tt)) (le-leb (radius m (length es)) (radius m (length es)) (le_refl (radius m (length es))))
+    go (Err q) = refl

@@ -112,6 +112,7 @@ module _ {m : ℕ} {w : List ℕ} {t : Trial} (R : Ready m w t) (none : places_o
     unfolding zs
     adds-corrects n h c A =
         record {
+          room = omega (arith, A.count);
           below = subst (λ (xs : List ℕ). all_below (places m) xs ≡ true) (sym A.places) bs;
           distinct = subst (λ (xs : List ℕ). distinct xs ≡ true) (sym A.places) ds;
           codeword = word;

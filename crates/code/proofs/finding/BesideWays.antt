@@ -1,4 +1,5 @@
 -- The search beside erasures: the ways out of `try_root`, of `try_data` and of what it calls. Assumes nothing.
+use Rattle.std.proofs.Common.{Option, Some, None as NoRoot}
 use Rattle.field.proofs.Base.{◌≡◌, refl, sym, ap, ap₂, ◌∙◌, subst, ◌≢◌, true, false, List, [], ◌∷◌, ℕ, ◌+◌, ◌-◌, ◌*◌, ◌≤◌, ◌<◌, le_refl, ℕ_discrete}
 use Rattle.field.proofs.Base.{arith, ne_eqb, length, get_or, set}
 use Rattle.field.specs.Polynomial.{add}
@@ -19,29 +20,35 @@ use Rattle.code.proofs.distance.DistanceLaw.{Distance}
 use Rattle.code.proofs.finding.Cubes.{cubes-five}
 use Rattle.code.proofs.restoring.Extra.{within-agrees}
 use Rattle.code.proofs.restoring.Trying.{searched-none, searched-last}
+use Rattle.code.specs.declared.solver.Solutions.{Solutions}
 use Rattle.code.specs.declared.solver.Solutions.TheVariants.{None}
-use Rattle.code.specs.declared.roots.Scan.{Scan}
+use Rattle.field.specs.declared.Exponent.{Exponent}
 use Rattle.code.specs.declared.beside.Span.{Span}
-use Rattle.code.specs.inner.Scan.{value_at, Carried, Scanned}
+use Rattle.code.specs.inner.Scan.{value_at, Carried, FirstRoot}
 use Rattle.code.specs.inner.Locate.{point}
 use Rattle.code.specs.inner.Beside.{Injective, eliminate, Step, Arranged, same, Rows, OneRoot, NoneRoot, NoneData, Only, Between, Apart, Eliminated}
 use Rattle.code.proofs.finding.Finding.{least-root, carried-start, linear-value}
 
 -- ---- one root
 
-module _ (m : ℕ) (wd : is_width m ≡ true) (w es : List ℕ) (u v c : ℕ) (x : Correction) (n : ℕ) (en : n ≡ items m) (r : Scan)
-    (S : (a b : ℕ) → is_width m ≡ true → Carried m a b 0 u v → Scanned m a b c 0 n r) where
-  root-at : (b : ℕ) → checks ≤ b → b < places m → OneRoot m u v c b → r.at.0 ≡ b - checks
-  root-at b hb lb O =
-      least-root m u v c 0 n r (S u v wd (carried-start (field_of m wd) u v O.small.0 O.small.1)) (omega arith) (b - checks)
-      (omega arith) (omega arith) O.root (λ t h l. O.only t (omega arith) (λ e. omega arith))
+module _ (m : ℕ) (wd : is_width m ≡ true) (w es : List ℕ) (u v c : ℕ) (n : ℕ) (en : n ≡ items m) where
+  abbrev Rooted : Option Exponent → Type 0
+  Rooted r = (a b : ℕ) → is_width m ≡ true → Carried m a b 0 u v → FirstRoot m a b c 0 n r
 
-  pub root-out : x.found ≡ None → n ≤ r.at.0 → Searched m w es 1 (NoneRoot m w es u v c) x
-  root-out g h = searched-none g (λ b hb lb o O. absurd (omega (arith, root-at b hb lb O)))
+  start : (b : ℕ) → OneRoot m u v c b → Carried m u v 0 u v
+  start b O = carried-start (field_of m wd) u v O.small.0 O.small.1
 
-  pub root-place : (p : ℕ) → p ≡ r.at.0 + 5 → Searched m w es 1 (NoneBeside m w p es) x → Searched m w es 1 (NoneRoot m w es u v c) x
-  root-place p ep T = searched-last (le_refl 1) (λ none b hb lb o O.
-      (let e : p ≡ b = omega (arith, root-at b hb lb O) in
+  pub root-out : Rooted NoRoot → Searched m w es 1 (NoneRoot m w es u v c) None
+  root-out S = searched-none (λ b hb lb o O. absurd (S u v wd (start b O) (b - checks) (omega arith) (omega arith) O.root))
+
+  root-at : (e : Exponent) → Rooted (Some e) → (b : ℕ) → checks ≤ b → b < places m → OneRoot m u v c b → e.0 ≡ b - checks
+  root-at e S b hb lb O =
+      least-root m u v c 0 e.0 (S u v wd (start b O)) (omega arith) (b - checks) (omega arith) O.root
+      (λ t h l. O.only t (omega arith) (λ e. omega arith))
+
+  pub root-place : (r : Exponent) → Rooted (Some r) → (x : Solutions Correction) (p : ℕ) → p ≡ r.0 + 5 → Searched m w es 1 (NoneBeside m w p es) x → Searched m w es 1 (NoneRoot m w es u v c) x
+  root-place r S x p ep T = searched-last (le_refl 1) (λ none b hb lb o O.
+      (let e : p ≡ b = omega (arith, root-at r S b hb lb O) in
       subst (λ (j : ℕ). NoneAt m w (j ∷ es)) e (none (omega arith) (subst (λ (j : ℕ). member j es ≡ false) (sym e) o)))) T
 
 -- ---- rows that are not erased
@@ -88,7 +95,7 @@ module _ {m : ℕ} (F : IsField m) where
 
 -- ---- beside check places
 
-module _ (m : ℕ) (wd : is_width m ≡ true) (w es ss : List ℕ) (x : Correction) where
+module _ (m : ℕ) (wd : is_width m ≡ true) (w es ss : List ℕ) (x : Solutions Correction) where
   F : IsField m
   F = field_of m wd
 
@@ -226,11 +233,11 @@ below_two p q h l = below-cons p (q ∷ []) checks h (below_one q l)
 pub cubes-beside : (m : ℕ) → is_width m ≡ true → Distance m (distance m) → 1 ≤ radius m 2 → Injective m 3
 cubes-beside m w D h = let e : distance m ≡ 5 = omega arith in cubes-five (field_of m w) (subst (Distance m) e D)
 
-pub near_same : (m : ℕ) (w es : List ℕ) (r r' : ℕ) (x : Correction) → r' ≡ r → Searched m w es r (NoneWithin m w es r) x
+pub near_same : (m : ℕ) (w es : List ℕ) (r r' : ℕ) (x : Solutions Correction) → r' ≡ r → Searched m w es r (NoneWithin m w es r) x
     → Searched m w es r' (NoneWithin m w es r') x
 near_same m w es r r' x e S = subst (λ (n : ℕ). Searched m w es n (NoneWithin m w es n) x) (sym e) S
 
-pub near-zero : (m : ℕ) (w es : List ℕ) (r : ℕ) (x : Correction) → Lent m w es → r ≡ 0 → Searched m w es 0 (NoneAt m w es) x
+pub near-zero : (m : ℕ) (w es : List ℕ) (r : ℕ) (x : Solutions Correction) → Lent m w es → r ≡ 0 → Searched m w es 0 (NoneAt m w es) x
     → Searched m w es r (NoneWithin m w es r) x
 near-zero m w es r x W e S = near_same m w es 0 r x e
     (searched-last (le_refl 0) (λ n c N. n c N.codeword (within-agrees W c N refl)) S)

@@ -1,6 +1,6 @@
 -- One wrong check place beside erasures: where it is none of the n rows from k on, those rows come from the erased places alone, so what is
 -- left of them without these is 0. Assumes nothing.
-use Rattle.field.proofs.Base.{◌≡◌, sym, ap, ap₂, ◌∙◌, subst, ◌≢◌, true, false, List, [], ◌∷◌, ◌++◌, map, ℕ, ◌+◌, ◌≤◌, ◌<◌, le_refl, dec_lt, ℕ_discrete}
+use Rattle.field.proofs.Base.{◌≡◌, sym, ap, ap₂, ◌∙◌, subst, ◌≢◌, true, List, [], ◌∷◌, ◌++◌, map, ℕ, ◌+◌, ◌≤◌, ◌<◌, le_refl, dec_lt, ℕ_discrete}
 use Rattle.field.proofs.Base.{arith, ne_eqb, length, set, get_or-set_same, get_or-set_other}
 use lib.ListN.{get_or-eq_default}
 use Rattle.field.specs.Polynomial.{add}
@@ -13,9 +13,9 @@ use Rattle.field.proofs.Evaluation.{five-at, five-cong}
 use Rattle.code.specs.declared.erasures.Trial.{Trial}
 use Rattle.code.specs.Word.{checks, five, places, at}
 use Rattle.code.specs.inner.Place.{column}
-use Rattle.code.specs.Erasure.{member, masked_syndrome}
+use Rattle.code.specs.Erasure.{masked_syndrome}
 use Rattle.code.specs.inner.Matrix.{Operands, row_add}
-use Rattle.code.specs.inner.Correction.{Lent, places_of, Ready, NoneAt, NoneBeside}
+use Rattle.code.specs.inner.Correction.{Lent, places_of, Ready, NoneBeside}
 use Rattle.code.specs.inner.Locate.{point}
 use Rattle.code.specs.inner.Beside.{eliminate, NoneCheck, NoneOutside, Tell}
 use Rattle.code.proofs.Loops.{Sought}
@@ -40,11 +40,6 @@ range-tried m w es low high p out h sought b hb = go (dec_lt b low) (dec_lt b hi
     go (yes l) d = out b hb (λ l' u. omega arith)
     go (no n) (yes u) = sought b (omega arith) (omega arith)
     go (no n) (no n') = out b hb (λ l u. n' u)
-
--- a check place outside it that is not erased: then no codeword agrees outside the erasures alone
-pub none-alone : (m : ℕ) (w es : List ℕ) (low high b : ℕ) → NoneOutside m w es low high → b < checks → (low ≤ b → b < high → ⊥) → b < places m
-    → member b es ≡ false → NoneAt m w es
-none-alone m w es low high b out hb o l f c C a = out b hb o l f c C (λ p h g. a p h (not-member-tail p b es g))
 
 -- ---- what rows that are not 0 tell
 

@@ -12,9 +12,8 @@ use Rattle.code.proofs.Algebra.{add-of-eq}
 use Rattle.code.proofs.Questions.{not-member-head, not-member-tail}
 use Rattle.code.proofs.restoring.Extra.{Falling, falling-le}
 use Rattle.code.specs.declared.word.Place.{Place}
-use Rattle.code.specs.declared.roots.Scan.{Scan}
 use Rattle.code.specs.declared.errors.FirstTwo.{FirstTwo}
-use Rattle.code.specs.inner.Scan.{value_at, Carried, Scanned, Factored}
+use Rattle.code.specs.inner.Scan.{value_at, Carried, Rootless, Root, Factored}
 use Rattle.code.specs.inner.Locate.{Zeros, point, Ratio, TwoErrors, full, Lists}
 use Rattle.code.proofs.finding.Pattern.{falling-out, falling-at}
 use Rattle.code.proofs.finding.Locator.{leading, middle, constant, TwoPoints, two-points, leading-nonzero, middle-is, constant-is}
@@ -25,16 +24,8 @@ use Rattle.code.proofs.finding.Locating.{column-point, point-distinct}
 pub lists-none : Lists (record { count = 0; first = record { 0 = 0 }; second = record { 0 = 0 } }) []
 lists-none = record { count = refl; first = refl; second = refl }
 
-pub lists-same : (f : FirstTwo) (ls : List ℕ) (k x : ℕ) → x ≡ 0 → Lists f ls → Lists f (cond (eqb x 0) ls (k ∷ ls))
-lists-same f ls k x e L = subst (λ (t : Bool). Lists f (cond t ls (k ∷ ls))) (sym (eq-eqb x 0 e)) L
-
 pub lists-cons : (f : FirstTwo) (ls : List ℕ) (p : Place) → Lists f ls → Lists (record { count = f.count + 1; first = p; second = f.first }) (p.0 ∷ ls)
 lists-cons f ls p L = record { count = omega (arith, L.count); first = refl; second = L.first }
-
-pub lists-more : (f : FirstTwo) (ls : List ℕ) (k x : ℕ) → (x ≡ 0 → ⊥) → Lists f ls
-    → Lists (record { count = f.count + 1; first = record { 0 = k }; second = f.first }) (cond (eqb x 0) ls (k ∷ ls))
-lists-more f ls k x n L =
-    subst (λ (t : Bool). Lists (record { count = f.count + 1; first = record { 0 = k }; second = f.first }) (cond t ls (k ∷ ls))) (sym (ne_eqb x 0 n)) (lists-cons f ls (record { 0 = k }) L)
 
 -- a falling list of the places below n at which s is not 0 is the one that is made
 pub zeros-full : (s : ℕ → ℕ) (n : ℕ) (ls : List ℕ) → Falling n ls → ((k : ℕ) → k < n → member k ls ≡ false → s k ≡ 0)
@@ -105,13 +96,12 @@ zeros-list s n ls fall bs Z = zeros-full s checks ls (falling-checks n ls fall b
 
 -- ---- the least root
 
-pub least-root : (m a b c from n : ℕ) (r : Scan) → Scanned m a b c from n r → from ≤ r.at.0 → (q : ℕ) → from ≤ q → q < n → value_at m a b c q ≡ 0
-    → ((t : ℕ) → from ≤ t → t < q → value_at m a b c t ≢ 0) → r.at.0 ≡ q
-least-root m a b c from n r S h q hq lq z none = go (dec_lt q r.at.0) (dec_lt r.at.0 q)
+pub least-root : (m a b c from i : ℕ) → Root m a b c from i → from ≤ i → (q : ℕ) → from ≤ q → value_at m a b c q ≡ 0 → Rootless m a b c from q → i ≡ q
+least-root m a b c from i S h q hq z none = go (dec_lt q i) (dec_lt i q)
   where
-    go : Dec (q < r.at.0) → Dec (r.at.0 < q) → r.at.0 ≡ q
+    go : Dec (q < i) → Dec (i < q) → i ≡ q
     go (yes l) d = absurd (S.before q hq l z)
-    go (no l) (yes k) = absurd (none r.at.0 h k (S.root (omega arith)))
+    go (no l) (yes k) = absurd (none i h k S.root)
     go (no l) (no k) = omega arith
 
 module _ {m : ℕ} (F : IsField m) where

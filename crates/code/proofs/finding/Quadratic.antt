@@ -9,8 +9,7 @@ use Rattle.field.proofs.Laws.{IsField}
 use Rattle.field.proofs.Widths.{field_of}
 use Rattle.field.proofs.Bytes.{multiplied-product, inverted-inverse}
 use Rattle.field.proofs.HalfTrace.{half-trace-root}
-use Rattle.code.specs.declared.roots.Scan.{Scan}
-use Rattle.code.specs.inner.Scan.{value_at, Scanned, Factored}
+use Rattle.code.specs.inner.Scan.{value_at, Rootless, Root, Factored}
 use Rattle.code.proofs.Algebra.{add-cancel, square, power-times}
 use Rattle.code.proofs.finding.Finding.{least-root}
 
@@ -49,15 +48,20 @@ module _ {m : ℕ} (F : IsField m) {a b c i j : ℕ} (Q : Factored m a b c i j) 
       (λ f. dj (F.α-distinct t j lt h (F.eq-of-add _ _ f))) (F.add-lt _ _ (F.power-lt α t) (F.power-lt α j)))
       (F.product_lt _ _) (sym (value-is t) ∙ e)
 
-  pub scan-low : (n : ℕ) (r : Scan) → j < n → n ≤ order m - 1 → Scanned m a b c 0 n r → r.at.0 ≡ i
-  scan-low n r lj ln S =
-      least-root m a b c 0 n r S (omega arith) i (omega arith) (omega arith) first-zero
-      (λ t z lt. no_other t (omega arith) (λ e. omega arith) (λ e. omega arith))
+  pub low-root : (k : ℕ) → Root m a b c 0 k → k ≡ i
+  low-root k S =
+      least-root m a b c 0 k S (omega arith) i (omega arith) first-zero (λ t z lt. no_other t (omega arith) (λ e. omega arith) (λ e. omega arith))
 
-  pub scan-high : (n k : ℕ) (r : Scan) → j < n → n ≤ order m - 1 → k ≡ i → Scanned m a b c (k + 1) n r → k + 1 ≤ r.at.0 → r.at.0 ≡ j
-  scan-high n k r lj ln ek S from =
-      least-root m a b c (k + 1) n r S from j (omega arith) lj second-zero
-      (λ t z lt. no_other t (omega arith) (λ e. omega arith) (λ e. omega arith))
+  pub high-root : (k r : ℕ) → k ≡ i → Root m a b c (k + 1) r → k + 1 ≤ r → r ≡ j
+  high-root k r ek S from =
+      least-root m a b c (k + 1) r S from j (omega arith) second-zero (λ t z lt. no_other t (omega arith) (λ e. omega arith) (λ e. omega arith))
+
+  -- there are roots to be found
+  pub low-there : (n : ℕ) → j < n → Rootless m a b c 0 n → ⊥
+  low-there n lj N = N i (omega arith) (omega arith) first-zero
+
+  pub high-there : (n k : ℕ) → j < n → k ≡ i → Rootless m a b c (k + 1) n → ⊥
+  high-there n k lj ek N = N j (omega arith) lj second-zero
 
   -- ---- the half-trace
 

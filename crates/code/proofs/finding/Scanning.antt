@@ -1,4 +1,5 @@
 -- The search for roots: what holds before each turn, and a law for each way on and out. Assumes nothing.
+use Rattle.std.proofs.Common.{Some, None}
 use Rattle.field.proofs.Base.{◌≡◌, refl, sym, ap, ap₂, ◌∙◌, subst, ◌≢◌, true, ℕ, ◌+◌, ◌-◌, ◌*◌, ◌%◌, ◌≤◌, ◌<◌, mod-eq_of_lt, ℕ_discrete, arith}
 use Rattle.field.specs.Polynomial.{add}
 use Rattle.field.specs.Field.{order, product, power, α}
@@ -9,14 +10,11 @@ use Rattle.field.proofs.Laws.{IsField}
 use Rattle.field.proofs.Widths.{field_of}
 use Rattle.field.proofs.Bytes.{shifted_product}
 use Rattle.code.proofs.Algebra.{add-of-eq}
-use Rattle.code.specs.inner.Scan.{value_at, Carried, Scanned, LinearRatio}
+use Rattle.code.specs.inner.Scan.{value_at, Carried, Root, Scanned, LinearRatio}
 
 pub record Scanning (m a b c from at d e : ℕ) : Type 0 where
   pub carried : Carried m a b at d e
   pub before : (t : ℕ) → from ≤ t → t < at → value_at m a b c t ≢ 0
-
-pub scanning-start : {m a b c i d e : ℕ} → Carried m a b i d e → Scanning m a b c i i d e
-scanning-start C = record { carried = C; before = λ t h l. absurd (omega arith) }
 
 module _ (m : ℕ) (w : is_width m ≡ true) where
   F : IsField m
@@ -61,12 +59,11 @@ module _ (m : ℕ) (w : is_width m ≡ true) where
       go t h l (no d) = S.before t h (omega arith)
 
   pub scanning-found : {a b c from i d e : ℕ} (n : ℕ) → Scanning m a b c from i d e → add d e ≡ c
-      → Scanned m a b c from n (record { at = record { 0 = i }; square = d; linear = e })
-  scanning-found n S z = record { carried = S.carried; before = S.before; root = λ l. test-root S.carried z }
+      → Scanned m a b c from n (Some (record { at = record { 0 = i }; square = d; linear = e }))
+  scanning-found n S z = (S.carried, record { before = S.before; root = test-root S.carried z })
 
-  pub scanning-end : {a b c from i d e : ℕ} (n : ℕ) → Scanning m a b c from i d e → n ≤ i
-      → Scanned m a b c from n (record { at = record { 0 = i }; square = d; linear = e })
-  scanning-end n S h = record { carried = S.carried; before = S.before; root = λ l. absurd (omega arith) }
+  pub scanning-end : {a b c from i d e : ℕ} (n : ℕ) → n ≤ i → Scanning m a b c from i d e → Scanned m a b c from n None
+  scanning-end n h S t from l = S.before t from (omega arith)
 
   -- the terms of a linear function at each exponent
   linear-at : {a b x : ℕ} → Carried m a b 0 0 x → (t : ℕ) → Carried m a b t 0 (product m (power m α t) x)
@@ -81,11 +78,10 @@ module _ (m : ℕ) (w : is_width m ≡ true) where
 
   -- it has one root, for no two powers of α are the same
   pub linear-root : {a b x c e : ℕ} → Carried m a b 0 0 x → x ≢ 0 → e < order m - 1 → product m (power m α e) x ≡ c
-      → Scanned m a b c 0 (order m - 1) (record { at = record { 0 = e }; square = 0; linear = c })
+      → Root m a b c 0 e
   linear-root {a} {b} {x} {c} {e} C n h r = record {
-    carried = E;
     before = λ t z l. test-none (linear-at C t) (λ f. other t l (sym (F.zero-add _) ∙ f));
-    root = λ l. test-root E (F.zero-add c);
+    root = test-root E (F.zero-add c);
   }
     where
       E : Carried m a b e 0 c
@@ -99,12 +95,9 @@ module _ (m : ℕ) (w : is_width m ≡ true) where
           in
           omega arith
 
-pub ratio-scanned : {m a b d x c n e : ℕ} → LinearRatio m d x c n → e < 127 → (x % 128 ≢ 0 → c % 128 ≢ 0 → product 7 (power 7 α e) (x % 128) ≡ c % 128)
-    → Carried m a b 0 d x → Scanned m a b c 0 n (record { at = record { 0 = e }; square = 0; linear = c })
-ratio-scanned {m} {a} {b} {d} {x} {c} {n} {e} R h r C =
-    subst (λ (k : ℕ). Scanned k a b c 0 n (record { at = record { 0 = e }; square = 0; linear = c })) (sym R.width)
-    (subst (λ (k : ℕ). Scanned 7 a b c 0 k (record { at = record { 0 = e }; square = 0; linear = c })) (sym R.all)
-    (linear-root 7 refl C7 R.factor h ratio))
+pub ratio-root : {m a b d x c n e : ℕ} → LinearRatio m d x c n → e < 127 → (x % 128 ≢ 0 → c % 128 ≢ 0 → product 7 (power 7 α e) (x % 128) ≡ c % 128)
+    → Carried m a b 0 d x → Root m a b c 0 e
+ratio-root {m} {a} {b} {d} {x} {c} {n} {e} R h r C = subst (λ (k : ℕ). Root k a b c 0 e) (sym R.width) (linear-root 7 refl C7 R.factor h ratio)
   where
     C7 : Carried 7 a b 0 0 x
     C7 = subst (λ (k : ℕ). Carried k a b 0 0 x) R.width (subst (λ (k : ℕ). Carried m a b 0 k x) R.plain C)

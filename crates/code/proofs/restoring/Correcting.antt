@@ -12,6 +12,7 @@ use Rattle.field.proofs.Laws.{IsField}
 use Rattle.field.proofs.Widths.{field_of}
 use Rattle.field.proofs.Evaluation.{five-at, five-cong}
 use Rattle.code.specs.declared.erasures.Trial.{Trial}
+use Rattle.code.specs.declared.erasures.Correction.{Correction}
 use Rattle.code.specs.declared.solver.Solutions.{Solutions}
 use Rattle.code.specs.declared.solver.Solutions.TheVariants.{None, One, Several}
 use Rattle.code.specs.Word.{at, five}
@@ -23,6 +24,7 @@ use Rattle.code.proofs.Sums.{parity-lt}
 use Rattle.code.proofs.Columns.{combine, column-lt}
 use Rattle.code.proofs.restoring.Filling.{Each, Solution, fill-agrees, masked-lt, solution-values, solution-codeword, codeword-solution}
 use Rattle.code.proofs.restoring.Filling.{codeword-fill}
+use Rattle.code.proofs.restoring.Trying.{searched-none, searched-one, searched-several}
 use Rattle.code.proofs.solving.LinearSystem.{System, Meets, meets-solves, system-none, system-solved, system-several}
 
 -- ---- five symbols as a row of the solver
@@ -181,9 +183,9 @@ get_d-columns m k (l ∷ ls) (suc j) h = get_d-columns m k ls j (le_of_suc-le-su
 
 -- ---- the system of a trial and the solver's answers
 
--- the matrix a is that of the trial t of the word w; vs are the values that the solver gave
+-- the matrix a is that of the trial t of the word w
 module _ (m : ℕ) (t : Trial) (few : t.count ≤ unknowns) (a : List (List ℕ)) (A : SystemMatrix m (numbers t.places) t.count t.sums a)
-    (vs w : List ℕ) (R : Ready m w t) where
+    (w : List ℕ) (R : Ready m w t) where
   F : IsField m
   F = field_of m R.width
 
@@ -250,14 +252,14 @@ module _ (m : ℕ) (t : Trial) (few : t.count ≤ unknowns) (a : List (List ℕ)
   meets-solution zs D S = record { values = values-small zs D; rows = λ k h. combine-dot m (places_of t) zs k ∙ S k h }
 
   -- no solution: no codeword agrees outside the places
-  trial-none : Means m None a t.count vs → NoneAt m w (places_of t)
+  trial-none : Means m None a t.count → NoneAt m w (places_of t)
   trial-none N c C G =
       let S = solution-meets (map (at c) (places_of t)) (codeword-solution F R.lent C G) in
-      system-none m F a t.count (masked_syndrome m (places_of t) w) columns_of system vs N (map (at c) (places_of t)) S.0 S.1
+      system-none m F a t.count (masked_syndrome m (places_of t) w) columns_of system N (map (at c) (places_of t)) S.0 S.1
 
   -- one solution: the word filled with it is the one codeword that agrees outside the places
-  trial-one : Means m One a t.count vs → OneAt m w (places_of t) (take t.count vs)
-  trial-one O = record {
+  trial-one : (vs : List ℕ) → Means m (One vs) a t.count → OneAt m w (places_of t) (take t.count vs)
+  trial-one vs O = record {
     codeword = solution-codeword F R.lent
         (meets-solution zs O.values (system-solved m F a t.count (masked_syndrome m (places_of t) w) columns_of system vs O));
     agrees = fill-agrees m w (places_of t) zs;
@@ -271,7 +273,7 @@ module _ (m : ℕ) (t : Trial) (few : t.count ≤ unknowns) (a : List (List ℕ)
       zs = take t.count vs
 
   -- several solutions: the word filled with two of them is two codewords
-  trial-several : Means m Several a t.count vs → SeveralAt m w (places_of t)
+  trial-several : Means m Several a t.count → SeveralAt m w (places_of t)
   trial-several T = record {
     first = fill w (places_of t) T.first;
     second = fill w (places_of t) T.second;
@@ -285,26 +287,29 @@ module _ (m : ℕ) (t : Trial) (few : t.count ≤ unknowns) (a : List (List ℕ)
     where
       both : Solution m w (places_of t) T.first × Solution m w (places_of t) T.second
       both =
-          let S = system-several m F a t.count (masked_syndrome m (places_of t) w) columns_of system vs T in
+          let S = system-several m F a t.count (masked_syndrome m (places_of t) w) columns_of system T in
           (meets-solution T.first T.first-values S.0, meets-solution T.second T.second-values S.1)
 
-  -- the solver's answer f, as a search with no extra places
-  pub trial-solved : (f : Solutions) → (is_width m ≡ true → Matrix m a → Means m f a t.count vs)
-      → Searched m w (places_of t) 0 (NoneAt m w (places_of t)) (record { found = f; count = t.count; places = t.places; values = vs })
-  trial-solved f S = record {
-    none = λ e. trial-none (means e);
-    one = λ e. (let O = trial-one (means e) in
-        record {
-          below = R.lent.below;
-          distinct = R.lent.distinct;
-          codeword = O.codeword;
-          extra = [];
-          few = le_refl 0;
-          agrees = O.agrees;
-          only = O.only;
-        });
-    several = λ e. record { extra = []; few = le_refl 0; two = trial-several (means e) };
-  }
-    where
-      means : {g : Solutions} → f ≡ g → Means m g a t.count vs
-      means e = subst (λ (h : Solutions). Means m h a t.count vs) e (S R.width matrix)
+  -- the solver's answers, as those of a search with no extra places
+  abbrev Solved : Solutions (List ℕ) → Solutions Correction → Type 0
+  Solved x y = (is_width m ≡ true → Matrix m a → Means m x a t.count) → Searched m w (places_of t) 0 (NoneAt m w (places_of t)) y
+
+  pub solved-none : Solved None None
+  solved-none S = searched-none (trial-none (S R.width matrix))
+
+  pub solved-one : (vs : List ℕ) → Solved (One vs) (One (record { count = t.count; places = t.places; values = vs }))
+  solved-one vs S =
+      let O = trial-one vs (S R.width matrix) in
+      searched-one (record {
+        room = few;
+        below = R.lent.below;
+        distinct = R.lent.distinct;
+        codeword = O.codeword;
+        extra = [];
+        few = le_refl 0;
+        agrees = O.agrees;
+        only = O.only;
+      })
+
+  pub solved-several : Solved Several Several
+  solved-several S = searched-several (record { extra = []; few = le_refl 0; two = trial-several (S R.width matrix) })

@@ -1,5 +1,7 @@
 -- The demands on the restorer: there are never two near codewords, what it accepts and refuses, that a refused word stays, and that neither
 -- the symbols at the erasures nor the order of the erasures matter. Assumes nothing.
+use Rattle.std.proofs.Common.{Ok, Err}
+use Rattle.field.specs.Question.{Verdict}
 use Rattle.field.proofs.Base.{◌≡◌, refl, sym, ap, ap₂, ◌∙◌, subst, ◌≢◌, ◌⊎◌, inl, inr, Bool, true, false, cond, List, [], ◌∷◌, ℕ, ◌+◌, ◌%◌, ◌≤◌, ◌<◌}
 use Rattle.field.proofs.Base.{le_refl, dec_lt, arith, le-leb, eqb, leb, length}
 use mathlib.Core.Logic.{◌↔◌}
@@ -9,8 +11,6 @@ use Rattle.field.specs.Field.{order}
 use Rattle.field.specs.Question.{Outcome, accepted, refused, refusal, ask, after, is_width, all_below}
 use Rattle.field.specs.declared.Question.{Question}
 use Rattle.field.specs.declared.Question.TheVariants.{Width, Length, ErasureCount, ErasurePlace, ErasureDistinct, Symbol, Reach}
-use Rattle.field.specs.declared.Verdict.{Verdict}
-use Rattle.field.specs.declared.Verdict.TheVariants.{Passed, Refused}
 use Rattle.field.proofs.Laws.{IsField}
 use Rattle.field.proofs.Widths.{field_of}
 use Rattle.field.proofs.Below.{all_below-means, all_below-holds}
@@ -35,17 +35,17 @@ use Rattle.code.proofs.restoring.Codewords.{restoration-several, restoration-two
 
 module _ (m : ℕ) (w es : List ℕ) where
   accepted-means : (v : Verdict) (r : Restoration) (k : ℕ) → after v (decided m w es r) ≡ accepted k
-      → (v ≡ Passed) × (c : List ℕ) × (r ≡ one c) × (k ≡ changes m es w c)
-  accepted-means Passed none k e = let z : ◌≡◌ {A = ℕ} 0 1 = cc in absurd (omega arith)
-  accepted-means Passed (one c) k e = (refl, c, refl, cc)
-  accepted-means Passed several k e = let z : ◌≡◌ {A = ℕ} 0 1 = cc in absurd (omega arith)
-  accepted-means (Refused q) r k e = let z : ◌≡◌ {A = ℕ} 0 1 = cc in absurd (omega arith)
+      → (v ≡ (Ok tt)) × (c : List ℕ) × (r ≡ one c) × (k ≡ changes m es w c)
+  accepted-means (Ok tt) none k e = let z : ◌≡◌ {A = ℕ} 0 1 = cc in absurd (omega arith)
+  accepted-means (Ok tt) (one c) k e = (refl, c, refl, cc)
+  accepted-means (Ok tt) several k e = let z : ◌≡◌ {A = ℕ} 0 1 = cc in absurd (omega arith)
+  accepted-means (Err q) r k e = let z : ◌≡◌ {A = ℕ} 0 1 = cc in absurd (omega arith)
 
   refused-means : (v : Verdict) (r : Restoration) (n : ℕ) → after v (decided m w es r) ≡ refused n → written v w (restored w r) ≡ w
-  refused-means Passed none n e = refl
-  refused-means Passed (one c) n e = let z : ◌≡◌ {A = ℕ} 0 1 = cc in absurd (omega arith)
-  refused-means Passed several n e = refl
-  refused-means (Refused q) r n e = refl
+  refused-means (Ok tt) none n e = refl
+  refused-means (Ok tt) (one c) n e = let z : ◌≡◌ {A = ℕ} 0 1 = cc in absurd (omega arith)
+  refused-means (Ok tt) several n e = refl
+  refused-means (Err q) r n e = refl
 
   written_one : (reach : ℕ) (c : List ℕ) → PassesWithin m w es reach → restoration m es w reach ≡ one c → within_written m w es reach ≡ c
   written_one reach c p f = simp (p, f)
@@ -64,8 +64,8 @@ record Late (n : ℕ) : Type 0 where
   symbol : refusal Symbol ≢ n
   reach : refusal Reach ≢ n
 
-late-step : (n : ℕ) (b : Bool) (q : Question) (v : Verdict) (o : Outcome) → refusal q ≢ n → (after v o ≡ refused n → v ≡ Passed)
-    → after (ask b q v) o ≡ refused n → ask b q v ≡ Passed
+late-step : (n : ℕ) (b : Bool) (q : Question) (v : Verdict) (o : Outcome) → refusal q ≢ n → (after v o ≡ refused n → v ≡ (Ok tt))
+    → after (ask b q v) o ≡ refused n → ask b q v ≡ (Ok tt)
 late-step n true q v o d h e = h e
 late-step n false q v o d h e = absurd (d (cc))
 
@@ -78,7 +78,7 @@ late-passed n L m w es o =
     (late-step n (leb (length es) (max_erasures m)) ErasureCount _ o L.count
     (late-step n (all_below (places m) es) ErasurePlace _ o L.place
     (late-step n (distinct es) ErasureDistinct _ o L.distinct
-    (late-step n (symbols_from (order m) es 0 w) Symbol Passed o L.symbol (λ e. refl))))))
+    (late-step n (symbols_from (order m) es 0 w) Symbol (Ok tt) o L.symbol (λ e. refl))))))
 
 late-within : (n : ℕ) → Late n → (m : ℕ) (w es : List ℕ) (reach : ℕ) (o : Outcome) → after (within_asked m w es reach) o ≡ refused n
     → PassesWithin m w es reach
@@ -86,9 +86,9 @@ unfolding within_asked
 late-within n L m w es reach o e = go (restore_asked m w es) refl e
   where
     go : (v : Verdict) → restore_asked m w es ≡ v → after (followed v (asks_reach m w es reach)) o ≡ refused n
-        → followed v (asks_reach m w es reach) ≡ Passed
-    go Passed f e = late-step n (leb reach (radius m (length es))) Reach Passed o L.reach (λ e. refl) e
-    go (Refused q) f e =
+        → followed v (asks_reach m w es reach) ≡ (Ok tt)
+    go (Ok tt) f e = late-step n (leb reach (radius m (length es))) Reach (Ok tt) o L.reach (λ e. refl) e
+    go (Err q) f e =
         let p = late-passed n L m w es o (ap (λ (v : Verdict). after v o) f ∙ e) in
         let z : ◌≡◌ {A = ℕ} 0 1 = cc in absurd (omega arith)
 
@@ -207,16 +207,16 @@ module _ (m : ℕ) (w es : List ℕ) (odd : m % 2 ≡ 1) (h : length es ≤ 4) w
       count = λ b.
           word_asked m (length w)
           (ask b ErasureCount
-          (ask (all_below (places m) es) ErasurePlace (ask (distinct es) ErasureDistinct (ask (symbols_from (order m) es 0 w) Symbol Passed))))
+          (ask (all_below (places m) es) ErasurePlace (ask (distinct es) ErasureDistinct (ask (symbols_from (order m) es 0 w) Symbol (Ok tt)))))
 
   -- by the verdict and the near codewords, of which there are no two
   earlier-by : (v : Verdict) (cs : List (List ℕ)) → within_asked m w es (radius m (length es)) ≡ v → nearby m es w (radius m (length es)) ≡ cs
       → (after v (decided m w es (found cs)) ≡ after v (earlier_decided m w es cs)) × (written v w (restored w (found cs)) ≡ written v w (earlier_restored w cs))
   unfolding restoration
-  earlier-by (Refused q) cs e f = (refl, refl)
-  earlier-by Passed [] e f = (refl, refl)
-  earlier-by Passed (c ∷ []) e f = (refl, refl)
-  earlier-by Passed (c ∷ d ∷ cs) e f =
+  earlier-by (Err q) cs e f = (refl, refl)
+  earlier-by (Ok tt) [] e f = (refl, refl)
+  earlier-by (Ok tt) (c ∷ []) e f = (refl, refl)
+  earlier-by (Ok tt) (c ∷ d ∷ cs) e f =
       absurd ((few-erasures m w es (radius m (length es)) (omega arith)).1
       (ap₂ (λ (v : Verdict) (xs : List (List ℕ)). after v (decided m w es (found xs))) e f))
 
@@ -336,7 +336,7 @@ same_asked {w} {w'} {es} {es'} a m =
 same-within : {w w' es es' : List ℕ} → Alike w w' es es' → (m reach : ℕ) → within_asked m w es reach ≡ within_asked m w' es' reach
 unfolding within_asked
 same-within {w} {w'} {es} {es'} a m reach =
-    ap₂ (λ (v : Verdict) (n : ℕ). followed v (ask (leb reach (radius m n)) Reach Passed)) (same_asked a m) (same_length es es' a.erasures)
+    ap₂ (λ (v : Verdict) (n : ℕ). followed v (ask (leb reach (radius m n)) Reach (Ok tt))) (same_asked a m) (same_length es es' a.erasures)
 
 -- words that agree outside the same erasures get the same answers at the same reach and, if accepted, end equal
 pub same-restored : SameRestored
@@ -379,5 +379,5 @@ same-given m w w' es es' l same agree =
     asked = same_asked a m
 
     go : (v : Verdict) → restore_asked m w' es' ≡ v → shown v (syndromes_without m es w) ≡ shown v (syndromes_without m es' w')
-    go Passed e = same-syndromes a m (given m w' es' e).width
-    go (Refused q) e = refl
+    go (Ok tt) e = same-syndromes a m (given m w' es' e).width
+    go (Err q) e = refl

@@ -1,12 +1,12 @@
 -- A codeword without erasures stays, and the numbers with which restoring a word is refused. Assumes nothing.
+use Rattle.std.proofs.Common.{Ok, Err}
+use Rattle.field.specs.Question.{Verdict}
 use Rattle.field.proofs.Base.{◌≡◌, refl, subst, Bool, true, false, List, [], ◌∷◌, ℕ, ◌≤◌, arith, eq-eqb, eqb, leb, length}
 use lib.Dec.{leb-zero}
 use Rattle.field.specs.Field.{order}
 use Rattle.field.specs.Question.{Outcome, accepted, refused, refusal, ask, after, is_width, all_below}
 use Rattle.field.specs.declared.Question.{Question}
 use Rattle.field.specs.declared.Question.TheVariants.{Width, Length, ErasureCount, ErasurePlace, ErasureDistinct, Symbol, Reach}
-use Rattle.field.specs.declared.Verdict.{Verdict}
-use Rattle.field.specs.declared.Verdict.TheVariants.{Passed, Refused}
 use Rattle.code.specs.Word.{places, Codeword}
 use Rattle.code.specs.Erasure.{member, distinct, symbols_from, changes}
 use Rattle.code.specs.Near.{radius, Near, Restoration, none, one, several, restoration}
@@ -76,8 +76,8 @@ told-accepted : (k : ℕ) → Told (accepted k)
 told-accepted k n e = let z : ◌≡◌ {A = ℕ} 0 1 = cc in absurd (omega arith)
 
 told-followed : (v next : Verdict) (o : Outcome) → Told (after v (accepted 0)) → Told (after next o) → Told (after (followed v next) o)
-told-followed Passed next o h l = l
-told-followed (Refused q) next o h l = h
+told-followed (Ok tt) next o h l = l
+told-followed (Err q) next o h l = h
 
 told-decided : (m : ℕ) (w es : List ℕ) (x : Restoration) → Told (decided m w es x)
 told-decided m w es none = told-number 7 (record { low = omega arith; high = omega arith; among = refl })
@@ -92,13 +92,13 @@ told-asked m w es =
     (told-ask (leb (length es) (max_erasures m)) ErasureCount _ _ (record { low = omega arith; high = omega arith; among = refl })
     (told-ask (all_below (places m) es) ErasurePlace _ _ (record { low = omega arith; high = omega arith; among = refl })
     (told-ask (distinct es) ErasureDistinct _ _ (record { low = omega arith; high = omega arith; among = refl })
-    (told-ask (symbols_from (order m) es 0 w) Symbol Passed _ (record { low = omega arith; high = omega arith; among = refl }) (told-accepted 0))))))
+    (told-ask (symbols_from (order m) es 0 w) Symbol (Ok tt) _ (record { low = omega arith; high = omega arith; among = refl }) (told-accepted 0))))))
 
 told-within : (m : ℕ) (w es : List ℕ) (reach : ℕ) → Told (within_of m w es reach)
 unfolding within_asked
 told-within m w es reach =
     told-followed (restore_asked m w es) _ (decided m w es (restoration m es w reach)) (told-asked m w es)
-    (told-ask (leb reach (radius m (length es))) Reach Passed _ (record { low = omega arith; high = omega arith; among = refl })
+    (told-ask (leb reach (radius m (length es))) Reach (Ok tt) _ (record { low = omega arith; high = omega arith; among = refl })
     (told-decided m w es (restoration m es w reach)))
 
 pub refusal-numbers : RefusalNumbers

@@ -16,7 +16,8 @@ use Rattle.code.specs.Word.{checks, five, places, at, Codeword}
 use Rattle.code.specs.inner.Place.{column}
 use Rattle.code.specs.Erasure.{member, distinct, masked_syndrome}
 use Rattle.code.specs.inner.Correction.{Agrees, Lent, places_of, Ready, corrected}
-use Rattle.code.specs.inner.Correction.{NoneAt, SeveralAt, NoneFrom, is_solved, Corrects, Searched, NoneWithin}
+use Rattle.code.specs.inner.Matrix.{is_solved, OrElse}
+use Rattle.code.specs.inner.Correction.{NoneAt, SeveralAt, NoneFrom, Corrects, Ambiguous, Searched, NoneWithin}
 use Rattle.code.specs.declared.solver.Solutions.{Solutions}
 use Rattle.code.specs.declared.solver.Solutions.TheVariants.{None, One, Several}
 use Rattle.code.proofs.Sums.{parity-lt}
@@ -68,42 +69,36 @@ module _ (m : ℕ) (w : List ℕ) (t u : Trial) (p x : ℕ) (R : Ready m w t) (h
 
 -- ---- searches
 
--- the answer is none, or there are solutions
-solved-none : (f : Solutions) → is_solved f ≡ false → f ≡ None
-solved-none None e = refl
-solved-none One e = absurd (true≢false e)
-solved-none Several e = absurd (true≢false e)
-
-solved-not : (f : Solutions) → is_solved f ≡ true → f ≡ None → ⊥
-solved-not f e n = true≢false (sym e ∙ ap is_solved n)
-
 -- nothing is found
-pub searched-nothing : (c : Correction) (b : Bool) → b ≡ is_solved c.found → b ≡ false → c.found ≡ None
-searched-nothing c b e f = solved-none c.found (sym e ∙ f)
+pub searched-nothing : (x : Solutions Correction) (b : Bool) → b ≡ is_solved x → b ≡ false → x ≡ None
+searched-nothing None b e f = refl
+searched-nothing (One c) b e f = absurd (true≢false (sym e ∙ f))
+searched-nothing Several b e f = absurd (true≢false (sym e ∙ f))
 
 -- and nothing is there
-pub searched-none : {m : ℕ} {w ls : List ℕ} {n : ℕ} {Far : Type 0} {c : Correction} → c.found ≡ None → Far → Searched m w ls n Far c
-searched-none e x = record {
-  none = λ g. x;
-  one = λ g. (let z : ◌≡◌ {A = ℕ} 0 1 = cc in absurd (omega arith));
-  several = λ g. (let z : ◌≡◌ {A = ℕ} 0 1 = cc in absurd (omega arith));
-}
+pub searched-none : {m : ℕ} {w ls : List ℕ} {n : ℕ} {Far : Type 0} → Far → Searched m w ls n Far None
+searched-none far = record { none = λ g. far; one = λ c g. absurd (cc); several = λ g. absurd (cc) }
 
 -- one codeword was found
-pub searched-one : {m : ℕ} {w ls : List ℕ} {n : ℕ} {Far : Type 0} {c : Correction} → c.found ≡ One → Corrects m w ls n c → Searched m w ls n Far c
-searched-one e C = record {
-  none = λ g. (let z : ◌≡◌ {A = ℕ} 0 1 = cc in absurd (omega arith));
-  one = λ g. C;
-  several = λ g. (let z : ◌≡◌ {A = ℕ} 0 1 = cc in absurd (omega arith));
+pub searched-one : {m : ℕ} {w ls : List ℕ} {n : ℕ} {Far : Type 0} {c : Correction} → Corrects m w ls n c → Searched m w ls n Far (One c)
+searched-one {m} {w} {ls} {n} {c = c} C = record {
+  none = λ g. absurd (cc);
+  one = λ d g. let e : c ≡ d = cc in subst (Corrects m w ls n) e C;
+  several = λ g. absurd (cc);
 }
 
+-- two codewords were found
+pub searched-several : {m : ℕ} {w ls : List ℕ} {n : ℕ} {Far : Type 0} → Ambiguous m w ls n → Searched m w ls n Far Several
+searched-several A = record { none = λ g. absurd (cc); one = λ c g. absurd (cc); several = λ g. A }
+
 -- a search is the last of a wider one
-pub searched-last : {m : ℕ} {w ls : List ℕ} {n r : ℕ} {Far Other : Type 0} {c : Correction} → n ≤ r → (Far → Other) → Searched m w ls n Far c
-    → Searched m w ls r Other c
+pub searched-last : {m : ℕ} {w ls : List ℕ} {n r : ℕ} {Far Other : Type 0} {x : Solutions Correction} → n ≤ r → (Far → Other)
+    → Searched m w ls n Far x → Searched m w ls r Other x
 searched-last h o S = record {
   none = λ g. o (S.none g);
-  one = λ g. let C = S.one g in
+  one = λ c g. let C = S.one c g in
       record {
+        room = C.room;
         below = C.below;
         distinct = C.distinct;
         codeword = C.codeword;
@@ -116,20 +111,31 @@ searched-last h o S = record {
 }
 
 -- something was found
-pub searched-found : {m : ℕ} {w ls : List ℕ} {n r : ℕ} {Far Other : Type 0} {c : Correction} → n ≤ r → (b : Bool) → b ≡ is_solved c.found
-    → b ≡ true → Searched m w ls n Far c → Searched m w ls r Other c
-searched-found {c = c} h b e f S =
-    let T : Searched _ _ _ _ ⊥ c = searched-last h (λ x. x) (record { none = λ g. solved-not c.found (sym e ∙ f) g; one = S.one; several = S.several }) in
-    record { none = λ g. absurd (T.none g); one = T.one; several = T.several }
+pub searched-found : {m : ℕ} {w ls : List ℕ} {n r : ℕ} {Far Other : Type 0} {x : Solutions Correction} → n ≤ r → (b : Bool) → b ≡ is_solved x
+    → b ≡ true → Searched m w ls n Far x → Searched m w ls r Other x
+searched-found h b e f S =
+    let T = searched-last h (λ far. far) S in
+    record { none = λ g. absurd (true≢false (sym f ∙ e ∙ ap is_solved g)); one = T.one; several = T.several }
+
+-- what is sought next, where nothing was found
+pub searched-else : {m : ℕ} {w ls : List ℕ} {n r : ℕ} {Far : Type 0} (Further : Type 0) (x : Solutions Correction)
+    (Next : Solutions Correction → Type 0) (y : Solutions Correction) → n ≤ r → Searched m w ls n Far x → OrElse x Next y
+    → (Next y → Searched m w ls r Further y) → Searched m w ls r (Far × Further) y
+searched-else Further None Next y h S E f = searched-last (le_refl _) (λ further. (S.none refl, further)) (f E)
+searched-else {m} {w} {ls} {r = r} {Far} Further (One c) Next y h S E f =
+    subst (Searched m w ls r (Far × Further)) (sym E) (searched-found h true refl refl S)
+searched-else {m} {w} {ls} {r = r} {Far} Further Several Next y h S E f =
+    subst (Searched m w ls r (Far × Further)) (sym E) (searched-found h true refl refl S)
 
 -- a search with the trial u, which has the place p beside those of t, is one from t with one extra place more
-pub searched-place : (m : ℕ) (w : List ℕ) (t u : Trial) (n : ℕ) (Far : List ℕ → Type 0) (c : Correction) (p : ℕ)
-    → (places_of u ≡ p ∷ places_of t) × Ready m w u → (Ready m w u → Searched m w (places_of u) n (Far (places_of u)) c)
-    → Searched m w (places_of t) (suc n) (member p (places_of t) ≡ false → Far (p ∷ places_of t)) c
-searched-place m w t u n Far c p E S = record {
+pub searched-place : (m : ℕ) (w : List ℕ) (t u : Trial) (n : ℕ) (Far : List ℕ → Type 0) (x : Solutions Correction) (p : ℕ)
+    → (places_of u ≡ p ∷ places_of t) × Ready m w u → (Ready m w u → Searched m w (places_of u) n (Far (places_of u)) x)
+    → Searched m w (places_of t) (suc n) (member p (places_of t) ≡ false → Far (p ∷ places_of t)) x
+searched-place m w t u n Far x p E S = record {
   none = λ g o. T.none g;
-  one = λ g. (let C = T.one g in
+  one = λ c g. (let C = T.one c g in
       record {
+        room = C.room;
         below = C.below;
         distinct = C.distinct;
         codeword = C.codeword;
@@ -142,8 +148,8 @@ searched-place m w t u n Far c p E S = record {
       record { extra = A.extra ++ (p ∷ []); few = more A.extra A.few; two = subst (SeveralAt m w) (moved A.extra) A.two });
 }
   where
-    T : Searched m w (p ∷ places_of t) n (Far (p ∷ places_of t)) c
-    T = subst (λ (ls : List ℕ). Searched m w ls n (Far ls) c) E.0 (S E.1)
+    T : Searched m w (p ∷ places_of t) n (Far (p ∷ places_of t)) x
+    T = subst (λ (ls : List ℕ). Searched m w ls n (Far ls) x) E.0 (S E.1)
 
     more : (xs : List ℕ) → length xs ≤ n → length (xs ++ (p ∷ [])) ≤ suc n
     more xs h = simp length-append (omega arith)
@@ -152,13 +158,13 @@ searched-place m w t u n Far c p E S = record {
     moved xs = sym (append_assoc xs (p ∷ []) (places_of t))
 
 -- nothing is to be found with a place outside the word, nor with one that is tried already
-pub searched-outside : {m : ℕ} {w ls : List ℕ} {n : ℕ} {Far : Type 0} {c : Correction} (p : ℕ) → c.found ≡ None → places m ≤ p
-    → Searched m w ls n (p < places m → member p ls ≡ false → Far) c
-searched-outside p e h = searched-none e (λ l o. absurd (omega arith))
+pub searched-outside : {m : ℕ} {w ls : List ℕ} {n : ℕ} {Far : Type 0} (p : ℕ) → places m ≤ p
+    → Searched m w ls n (p < places m → member p ls ≡ false → Far) None
+searched-outside p h = searched-none (λ l o. absurd (omega arith))
 
-pub searched-listed : {m : ℕ} {w ls : List ℕ} {n : ℕ} {Far : Type 0} {c : Correction} (p : ℕ) → c.found ≡ None
-    → (b : Bool) → b ≡ member p ls → b ≡ true → Searched m w ls n (p < places m → member p ls ≡ false → Far) c
-searched-listed p e b f t = searched-none e (λ l o. absurd (both_ways (sym f ∙ t) o))
+pub searched-listed : {m : ℕ} {w ls : List ℕ} {n : ℕ} {Far : Type 0} (p : ℕ) → (b : Bool) → b ≡ member p ls → b ≡ true
+    → Searched m w ls n (p < places m → member p ls ≡ false → Far) None
+searched-listed p b f t = searched-none (λ l o. absurd (both_ways (sym f ∙ t) o))
 
 -- ---- no more than n extra places
 

@@ -60,12 +60,6 @@ written_start c ps vs es w l = record {
   changed = changes-same (length w) es w;
 }
 
-pub written-end : {c : ℕ} {ps vs es w u : List ℕ} {k i : ℕ} → Written c ps vs es w u k i → i ≡ 0
-    → (u ≡ fill w (take c ps) (take c vs)) × (k ≡ changes_below (length w) es w (fill w (take c ps) (take c vs)))
-written-end {c} {ps} {vs} {es} {w} {u} {k} {i} W z =
-    let e : u ≡ fill w (take c ps) (take c vs) = W.word ∙ ap (λ (j : ℕ). fill w (drop j (take c ps)) (drop j (take c vs))) z in
-    (e, W.changed ∙ ap (changes_below (length w) es w) e)
-
 pub written-size : {c : ℕ} {ps vs es w u : List ℕ} {k i : ℕ} → Written c ps vs es w u k i → length u ≡ length w
 written-size W = ap length W.word ∙ length-fill _ _ _
 

@@ -189,19 +189,6 @@ pub record Reduced (m : ℕ) (a₀ a : List (List ℕ)) (c r : ℕ) : Type 0 whe
   pub owns : (k : ℕ) → k < r → Owns a c r free k
   pub rest : (i j : ℕ) → r ≤ i → i < rows → j < c → entry a i (suc j) ≡ 0
 
-pub reduced-start : (m : ℕ) (a : List (List ℕ)) → Matrix m a → Reduced m a a 0 0
-reduced-start m a M =
-    record {
-      matrix = M;
-      there = λ ws S. S;
-      back = λ ws S. S;
-      few = omega arith;
-      free = 0;
-      free-below = λ l. absurd (omega arith);
-      owns = λ k l. absurd (omega arith);
-      rest = λ i j l h b. absurd (omega arith);
-    }
-
 -- a step with no pivot: the unknown of the column is free
 pub reduced-missing : (m : ℕ) (a₀ a : List (List ℕ)) (c r : ℕ) → Reduced m a₀ a c r → Pivot a (c + 1) r rows → Reduced m a₀ a (c + 1) r
 reduced-missing m a₀ a c r R P =
@@ -326,8 +313,8 @@ module _ (m : ℕ) (F : IsField m) (a₀ a : List (List ℕ)) (s r : ℕ) (R : R
   solves-back : (ys : List ℕ) → Solves m a ys → Solves m a₀ ys
   solves-back ys S = annuls-solves m F a₀ M₀ ys (R.back (1 ∷ ys) (solves-annuls m F a R.matrix ys S))
 
-  pub means-none : (p : ℕ) → Pivot a 0 r p → p < rows → (zs : List ℕ) → Means m None a₀ s zs
-  means-none p P l zs ys D S = P.nonzero l (sym (solves-there ys S p l) ∙ no_value ys D p P.from l)
+  pub means-none : (p : ℕ) → Pivot a 0 r p → p < rows → Means m None a₀ s
+  means-none p P l ys D S = P.nonzero l (sym (solves-there ys S p l) ∙ no_value ys D p P.from l)
 
   -- no pivot was missing: row k has the value of unknown k
   module _ (P : Pivot a 0 r rows) (full : r ≡ s) (zs : List ℕ) (e : zs ≡ take unknowns (column_of a 0)) where
@@ -362,7 +349,7 @@ module _ (m : ℕ) (F : IsField m) (a₀ a : List (List ℕ)) (s r : ℕ) (R : R
         go (yes l) = own_value (take s zs) values i l ∙ value-at i l
         go (no n) = no_value (take s zs) values i (omega arith) h ∙ sym (P.before i (omega arith) h)
 
-    pub means-one : Means m One a₀ s zs
+    pub means-one : Means m (One zs) a₀ s
     means-one =
         record {
           values = values;
@@ -456,8 +443,8 @@ module _ (m : ℕ) (F : IsField m) (a₀ a : List (List ℕ)) (s r : ℕ) (R : R
           go i h (no n) =
               no_value solved.list solved.values i (omega arith) h ∙ sym (P.before i (omega arith) h)
 
-    pub means-several : (zs : List ℕ) → Means m Several a₀ s zs
-    means-several zs =
+    pub means-several : Means m Several a₀ s
+    means-several =
         record {
           first = one.list;
           second = other.list;

@@ -26,12 +26,11 @@ module _ (m : ℕ) (F : IsField m) (a : List (List ℕ)) (s : ℕ) (b : ℕ → 
   solves-meets : (zs : List ℕ) → Values m s zs → Solves m a zs → Meets m b cs zs
   solves-meets zs D S i h = sym (row-dot zs D i h) ∙ S i h ∙ Y.right i h
 
-  module _ (vs : List ℕ) where
-    pub system-none : Means m None a s vs → (ys : List ℕ) → Values m s ys → Meets m b cs ys → ⊥
-    system-none N ys D S = N ys D (meets-solves ys D S)
+  pub system-none : Means m None a s → (ys : List ℕ) → Values m s ys → Meets m b cs ys → ⊥
+  system-none N ys D S = N ys D (meets-solves ys D S)
 
-    pub system-solved : Means m One a s vs → Meets m b cs (take s vs)
-    system-solved O = solves-meets (take s vs) O.values O.solves
+  pub system-solved : (vs : List ℕ) → Means m (One vs) a s → Meets m b cs (take s vs)
+  system-solved vs O = solves-meets (take s vs) O.values O.solves
 
-    pub system-several : (T : Means m Several a s vs) → Meets m b cs T.first × Meets m b cs T.second
-    system-several T = (solves-meets T.first T.first-values T.first-solves, solves-meets T.second T.second-values T.second-solves)
+  pub system-several : (T : Means m Several a s) → Meets m b cs T.first × Meets m b cs T.second
+  system-several T = (solves-meets T.first T.first-values T.first-solves, solves-meets T.second T.second-values T.second-solves)

@@ -7,7 +7,7 @@ use Rattle.field.specs.Field.{order, product}
 use Rattle.field.specs.inner.Operand.{Operand}
 use Rattle.field.proofs.Laws.{IsField}
 use Rattle.field.specs.inner.Lanes.{eight}
-use Rattle.code.specs.Word.{five, at}
+use Rattle.code.specs.Word.{at}
 use Rattle.code.specs.inner.Matrix.{rows, columns, entry, column_of, row_add, scale, dot}
 
 pub length-row_add : (m : ℕ) (xs : List ℕ) (k : ℕ) (ys : List ℕ) → length (row_add m xs k ys) ≡ length xs
@@ -69,16 +69,6 @@ length-column a j n tall h = length-take-le n (column_of a j) (simp length-map (
 
 pub get_d-column : (a : List (List ℕ)) (j n i : ℕ) → i < n → get_or (take n (column_of a j)) i 0 ≡ entry a i j
 get_d-column a j n i h = get_or-take n (column_of a j) i 0 h ∙ get_or-map (λ (row : List ℕ). get_or row j 0) a i []
-
--- column j entry by entry
-pub column-entries : (a : List (List ℕ)) (j : ℕ) → length a ≡ rows → five (λ i. entry a i j) ≡ column_of a j
-column-entries [] j e = absurd (omega arith)
-column-entries (p ∷ []) j e = absurd (omega arith)
-column-entries (p ∷ q ∷ []) j e = absurd (omega arith)
-column-entries (p ∷ q ∷ r ∷ []) j e = absurd (omega arith)
-column-entries (p ∷ q ∷ r ∷ s ∷ []) j e = absurd (omega arith)
-column-entries (p ∷ q ∷ r ∷ s ∷ t ∷ []) j e = refl
-column-entries (p ∷ q ∷ r ∷ s ∷ t ∷ u ∷ a) j e = absurd (omega arith)
 
 -- the values with v added to the value at place j
 abbrev pub raised : List ℕ → ℕ → ℕ → List ℕ

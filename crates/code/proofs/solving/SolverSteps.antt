@@ -1,18 +1,19 @@
 -- The loops of the solver: what holds before each turn, and a law for each way on and out. Assumes nothing.
-use Rattle.field.proofs.Base.{◌≡◌, ◌∙◌, ap, subst, ◌≢◌, true, List, [], ℕ, ◌+◌, ◌≤◌, ◌<◌, arith, get_or, set, take, length-set, get_or-set_same}
+use Rattle.field.proofs.Base.{◌≡◌, ◌∙◌, ap, subst, true, false, List, [], ℕ, ◌+◌, ◌≤◌, ◌<◌, arith, get_or, set, take, length-set, get_or-set_same}
 use Rattle.field.proofs.Base.{get_or-set_other}
+use Rattle.std.proofs.Common.{Option, Some, None, is_some, MatchOption}
 use Rattle.field.specs.Field.{inverse}
 use Rattle.field.specs.Question.{is_width}
 use Rattle.field.specs.inner.Operand.{Operand}
 use Rattle.field.specs.inner.Bytes.{inverted}
 use Rattle.field.proofs.Widths.{field_of}
 use Rattle.field.proofs.Bytes.{inverted-inverse}
-use Rattle.code.specs.declared.solver.Solutions.TheVariants.{None, One, Several}
+use Rattle.code.specs.declared.solver.Solutions.TheVariants.{None as NoSolution, One, Several}
 use Rattle.code.specs.inner.Matrix.{rows, unknowns, columns, entry, Matrix, Operands, row_add, scale}
 use Rattle.code.specs.inner.Matrix.{unit_row, Cleared, swapped, Pivot, column_of, Means}
-use Rattle.code.proofs.Loops.{Filled, filled_on, Sought, sought-start, sought-on}
+use Rattle.code.proofs.Loops.{Filled, filled_on, Sought}
 use Rattle.code.proofs.solving.RowLaws.{get_d-scale}
-use Rattle.code.proofs.solving.Elimination.{Reduced, Swaps, swaps, reduced-start, reduced-missing, reduced-step, means-none, means-one}
+use Rattle.code.proofs.solving.Elimination.{Reduced, Swaps, swaps, reduced-missing, reduced-step, means-none, means-one}
 use Rattle.code.proofs.solving.Elimination.{means-several}
 
 -- the search for a pivot: column c is 0 in rows r to i-1
@@ -21,29 +22,18 @@ pub record Seeking (a : List (List ℕ)) (c r i : ℕ) : Type 0 where
   pub upto : i ≤ rows
   pub before : Sought (λ k. entry a k c ≡ 0) r i
 
-pub seeking-start : (a : List (List ℕ)) (c r : ℕ) → r ≤ rows → Seeking a c r r
-seeking-start a c r h = record { from = omega arith; upto = h; before = sought-start _ r }
+-- the row that the search finds, if there is one
+abbrev pub Found : List (List ℕ) → ℕ → ℕ → Option ℕ → Type 0
+Found a c r o = MatchOption o (Pivot a c r rows) (λ p. (p < rows) × Pivot a c r p)
 
-module _ (a : List (List ℕ)) (c r i : ℕ) (g : Seeking a c r i) where
-  pub seeking-on : i < rows → entry a i c ≡ 0 → Seeking a c r (i + 1)
-  seeking-on h e =
-      record {
-        from = omega (arith, g.from);
-        upto = omega arith;
-        before = sought-on _ r i g.before e;
-      }
+module _ {a : List (List ℕ)} {c r : ℕ} where
+  found-row : (o : Option ℕ) → Found a c r o → is_some o ≡ true → (p : ℕ) × (p < rows) × Pivot a c r p
+  found-row None f e = absurd (cc)
+  found-row (Some p) f e = (p, f.0, f.1)
 
-  pub seeking-found : i < rows → entry a i c ≢ 0 → Pivot a c r i
-  seeking-found h n = record { from = g.from; upto = g.upto; before = g.before; nonzero = λ l. n }
-
-  pub seeking-end : rows ≤ i → Pivot a c r rows
-  seeking-end h =
-      record {
-        from = omega (arith, g.from, g.upto);
-        upto = omega arith;
-        before = λ k l b. g.before k l (omega arith);
-        nonzero = λ l. absurd (omega arith);
-      }
+  found-none : (o : Option ℕ) → Found a c r o → is_some o ≡ false → Pivot a c r rows
+  found-none None f e = f
+  found-none (Some p) f e = absurd (cc)
 
 -- the clearing of column c by row p: so far, each row has been cleared
 abbrev pub Clearing : ℕ → List (List ℕ) → ℕ → ℕ → List (List ℕ) → ℕ → Type 0
@@ -93,9 +83,6 @@ pub record Solving (m : ℕ) (a₀ a : List (List ℕ)) (s r c : ℕ) : Type 0 w
   pub few : r ≤ c
   pub state : is_width m ≡ true → Matrix m a₀ → Reduced m a₀ a c r
 
-pub solving-start : (m : ℕ) (a : List (List ℕ)) (s : ℕ) → Solving m a a s 0 0
-solving-start m a s = record { below = omega arith; few = omega arith; state = λ w. reduced-start m a }
-
 module _ (m : ℕ) (a₀ a : List (List ℕ)) (s r c : ℕ) (S : Solving m a₀ a s r c) (hs : s ≤ unknowns) where
   module _ (h : c < s) (p : ℕ) (P : Pivot a (c + 1) r p) where
     pub solving-on : p < rows → (u b : List (List ℕ)) → u ≡ swapped a r p
@@ -110,28 +97,24 @@ module _ (m : ℕ) (a₀ a : List (List ℕ)) (s r c : ℕ) (S : Solving m a₀ 
               reduced-step m (field_of m w) a₀ a c r p R (omega arith) hr l P u E b (C w));
         }
 
-    pub solving-past : rows ≤ p → Solving m a₀ a s r (c + 1)
-    solving-past l =
-        record {
-          below = omega arith;
-          few = omega (arith, S.few);
-          state = λ w M. reduced-missing m a₀ a c r (S.state w M) (subst (Pivot a (c + 1) r) (omega (arith, P.upto)) P);
-        }
+  pub solving-past : c < s → Pivot a (c + 1) r rows → Solving m a₀ a s r (c + 1)
+  solving-past h P = record {
+    below = omega arith;
+    few = omega (arith, S.few);
+    state = λ w M. reduced-missing m a₀ a c r (S.state w M) P;
+  }
 
-  module _ (h : s ≤ c) (p : ℕ) (P : Pivot a 0 r p) where
+  module _ (h : s ≤ c) (o : Option ℕ) (f : Found a 0 r o) where
     at-end : is_width m ≡ true → Matrix m a₀ → Reduced m a₀ a s r
     at-end w M = subst (λ (n : ℕ). Reduced m a₀ a n r) (omega (arith, S.below)) (S.state w M)
 
-    pub solved-none : p < rows → (zs : List ℕ) → is_width m ≡ true → Matrix m a₀ → Means m None a₀ s zs
-    solved-none l zs w M = means-none m (field_of m w) a₀ a s r (at-end w M) hs M p P l zs
+    pub solved-none : is_some o ≡ true → is_width m ≡ true → Matrix m a₀ → Means m NoSolution a₀ s
+    solved-none l w M = let p = found-row o f l in means-none m (field_of m w) a₀ a s r (at-end w M) hs M p.0 p.2 p.1
 
-    module _ (l : rows ≤ p) where
-      at_rows : Pivot a 0 r rows
-      at_rows = subst (Pivot a 0 r) (omega (arith, P.upto)) P
+    module _ (l : is_some o ≡ false) where
+      pub solved-several : r < s → is_width m ≡ true → Matrix m a₀ → Means m Several a₀ s
+      solved-several b w M = means-several m (field_of m w) a₀ a s r (at-end w M) hs M (found-none o f l) b
 
-      pub solved-several : r < s → (zs : List ℕ) → is_width m ≡ true → Matrix m a₀ → Means m Several a₀ s zs
-      solved-several b zs w M = means-several m (field_of m w) a₀ a s r (at-end w M) hs M at_rows b zs
-
-      pub solved-one : s ≤ r → (zs : List ℕ) → zs ≡ take unknowns (column_of a 0) → is_width m ≡ true → Matrix m a₀ → Means m One a₀ s zs
+      pub solved-one : s ≤ r → (zs : List ℕ) → zs ≡ take unknowns (column_of a 0) → is_width m ≡ true → Matrix m a₀ → Means m (One zs) a₀ s
       solved-one b zs ez w M =
-          means-one m (field_of m w) a₀ a s r (at-end w M) hs M at_rows (omega (arith, S.few, S.below)) zs ez
+          means-one m (field_of m w) a₀ a s r (at-end w M) hs M (found-none o f l) (omega (arith, S.few, S.below)) zs ez

@@ -1,6 +1,6 @@
 -- What the functions below the restorer work on and give: a trial, which is places taken as erased, and a correction.
 -- Assumes nothing.
-use Rattle.std.specs.Prelude.{◌≡◌, ◌≢◌, Bool, true, false, cond, List, [], ◌∷◌, ◌++◌, ℕ, zero, suc, ◌+◌, ◌-◌, ◌≤◌, ◌<◌, eqb, leb, length, get_or, set, take}
+use Rattle.std.specs.Prelude.{◌≡◌, ◌≢◌, true, false, cond, List, [], ◌∷◌, ◌++◌, ℕ, zero, suc, ◌+◌, ◌-◌, ◌≤◌, ◌<◌, eqb, leb, length, get_or, set, take}
 use Rattle.field.specs.Field.{order}
 use Rattle.field.specs.Question.{is_width, all_below}
 use Rattle.code.specs.declared.erasures.Trial.{Trial}
@@ -95,8 +95,9 @@ pub record SeveralAt (m : ℕ) (w ls : List ℕ) : Type 0 where
 -- ---- a search for a correction
 
 -- the corrected word is the one codeword that agrees with w outside the places ls and certain extra ones, at most n; the places written are
--- distinct
+-- distinct, and there is room for them
 pub record Corrects (m : ℕ) (w ls : List ℕ) (n : ℕ) (c : Correction) : Type 0 where
+  pub room : c.count ≤ unknowns
   pub below : all_below (places m) (corrected_places c) ≡ true
   pub distinct : distinct (corrected_places c) ≡ true
   pub codeword : Codeword m (corrected w c)
@@ -111,17 +112,11 @@ pub record Ambiguous (m : ℕ) (w ls : List ℕ) (n : ℕ) : Type 0 where
   pub few : length extra ≤ n
   pub two : SeveralAt m w (extra ++ ls)
 
--- the answer is that there are solutions, one or several
-abbrev pub is_solved : Solutions → Bool
-is_solved None = false
-is_solved One = true
-is_solved Several = true
-
 -- what a search with at most n extra places has found; where it is nothing, Far holds
-pub record Searched (m : ℕ) (w ls : List ℕ) (n : ℕ) (Far : Type 0) (c : Correction) : Type 0 where
-  pub none : c.found ≡ None → Far
-  pub one : c.found ≡ One → Corrects m w ls n c
-  pub several : c.found ≡ Several → Ambiguous m w ls n
+pub record Searched (m : ℕ) (w ls : List ℕ) (n : ℕ) (Far : Type 0) (x : Solutions Correction) : Type 0 where
+  pub none : x ≡ None → Far
+  pub one : (c : Correction) → x ≡ One c → Corrects m w ls n c
+  pub several : x ≡ Several → Ambiguous m w ls n
 
 -- no codeword agrees with w outside the places ls and one more place p
 abbrev pub NoneBeside : ℕ → List ℕ → ℕ → List ℕ → Type 0

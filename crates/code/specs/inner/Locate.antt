@@ -54,6 +54,10 @@ pub record TwoErrors (m : ℕ) (s : ℕ → ℕ) (p q u v : ℕ) : Type 0 where
 abbrev pub NoPair : ℕ → (ℕ → ℕ) → ℕ → ℕ → Type 0
 NoPair m s p q = (u v : ℕ) → TwoErrors m s p q u v → ⊥
 
+-- nor at any two data places
+abbrev pub NoPairs : ℕ → (ℕ → ℕ) → Type 0
+NoPairs m s = (p q : ℕ) → checks ≤ q → q < p → p < places m → NoPair m s p q
+
 -- r are the only values that come into question
 pub record PairValues (m : ℕ) (s : ℕ → ℕ) (p q : ℕ) (r : Pair) : Type 0 where
   pub small : (r.first < order m) × (r.second < order m)
@@ -74,5 +78,6 @@ pub record Lists (f : FirstTwo) (ls : List ℕ) : Type 0 where
 
 -- c has the places ls, and adds e there
 pub record AddsAt (w ls : List ℕ) (e : ℕ → ℕ) (c : Correction) : Type 0 where
+  pub count : c.count ≡ length ls
   pub places : corrected_places c ≡ ls
   pub values : take c.count c.values ≡ map (λ p. add (at w p) (e p)) ls

@@ -1,6 +1,6 @@
 -- Linear systems over the field as matrices of symbols, the steps of elimination, and what the solver's answers mean. m is the width.
 -- Assumes nothing.
-use Rattle.std.specs.Prelude.{◌≡◌, ◌≢◌, List, [], ◌∷◌, map, ℕ, ◌≤◌, ◌<◌, length, get_or, take, drop, set}
+use Rattle.std.specs.Prelude.{◌≡◌, ◌≢◌, Bool, true, false, List, [], ◌∷◌, map, ℕ, ◌≤◌, ◌<◌, length, get_or, take, drop, set}
 use Rattle.field.specs.Polynomial.{add}
 use Rattle.field.specs.Field.{order, product, inverse}
 use Rattle.field.specs.inner.Operand.{Operand}
@@ -113,8 +113,20 @@ pub record TwoSolutions (m : ℕ) (a : List (List ℕ)) (s : ℕ) : Type 0 where
   pub different : first ≢ second
 
 -- what the answer says of the system a in its first s unknowns. None: nothing solves it. One: the first s of the values do, and nothing
--- else does. Several: there are two different solutions or more, and the values say nothing
-abbrev pub Means : ℕ → Solutions → List (List ℕ) → ℕ → List ℕ → Type 0
-Means m None a s zs = (ys : List ℕ) → Values m s ys → Solves m a ys → ⊥
-Means m One a s zs = OnlySolution m a s (take s zs)
-Means m Several a s zs = TwoSolutions m a s
+-- else does. Several: there are two different solutions or more
+abbrev pub Means : ℕ → Solutions (List ℕ) → List (List ℕ) → ℕ → Type 0
+Means m None a s = (ys : List ℕ) → Values m s ys → Solves m a ys → ⊥
+Means m (One zs) a s = OnlySolution m a s (take s zs)
+Means m Several a s = TwoSolutions m a s
+
+-- the answer is that there are solutions, one or several
+abbrev pub is_solved : {A : Type 0} → Solutions A → Bool
+is_solved None = false
+is_solved (One x) = true
+is_solved Several = true
+
+-- y is x, or Next holds of it where x is none
+abbrev pub OrElse : {A : Type 0} → Solutions A → (Solutions A → Type 0) → Solutions A → Type 0
+OrElse None Next y = Next y
+OrElse (One x) Next y = y ≡ One x
+OrElse Several Next y = y ≡ Several

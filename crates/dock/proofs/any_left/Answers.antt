@@ -3,8 +3,8 @@ use Rattle.field.proofs.Base.{rules}
 use Rattle.dock.proofs.Spending.{own-left, common-left}
 use Rattle.dock.proofs.any_left.Goals as goal
 
-pub returns-then-own-bay-gt0 : goal.returns-then-own-bay-gt0
-returns-then-own-bay-gt0 c = search (rules, own-left)
+pub returns-then-left-bay-gt0 : goal.returns-then-left-bay-gt0
+returns-then-left-bay-gt0 c = search (rules, own-left)
 
-pub returns-else-own-bay-gt0 : goal.returns-else-own-bay-gt0
-returns-else-own-bay-gt0 c = search (rules, common-left)
+pub returns-else-left-bay-gt0 : goal.returns-else-left-bay-gt0
+returns-else-left-bay-gt0 c = search (rules, common-left)

@@ -1,21 +1,17 @@
 -- Restoring at a reach, and what a bay pays for it. Assumes nothing.
-use Rattle.std.specs.Prelude.{◌≡◌, List, ℕ}
-use Rattle.field.specs.Question.{accepted}
+use Rattle.std.specs.Prelude.{Ok, Err, Result, Option, ◌≡◌, cond, List, ℕ}
+use Rattle.field.specs.declared.Question.{Question}
+use Rattle.field.specs.declared.Question.TheVariants.{Rewrite}
 use Rattle.code.specs.Call.{repair}
-use Rattle.code.specs.declared.Repair.{Repair}
-use Rattle.card.specs.Record.{on_accept}
-use Rattle.dock.specs.declared.Reach.{Reach}
 use Rattle.dock.specs.declared.Rewrites.{Rewrites}
-use Rattle.dock.specs.declared.Served.{Served}
-use Rattle.dock.specs.Dock.{answer_at, content_at, allowed, remaining, granted, left_on}
+use Rattle.dock.specs.Dock.{answer_at, content_at, allowed, remaining}
 
 -- what restoring does
-pub record RestoresAt (reach : Reach) (old : List ℕ) (r : Repair) (new : List ℕ) : Type 0 where
+pub record RestoresAt (reach : Option ℕ) (old : List ℕ) (r : Result ℕ Question) (new : List ℕ) : Type 0 where
   pub answer : repair r ≡ answer_at reach old
   pub content : new ≡ content_at reach old
 
--- the same for a bay that passed and a restoring that was accepted with k changes and gives `new`
-pub record Settles (left : Rewrites) (bay k : ℕ) (old new : List ℕ) (s : Served) (final : List ℕ) : Type 0 where
-  pub answer : repair s.answer ≡ granted (accepted k) (allowed left bay old new)
-  pub rest : s.left ≡ left_on (granted (accepted k) (allowed left bay old new)) left (remaining left bay old new)
-  pub content : final ≡ on_accept (granted (accepted k) (allowed left bay old new)) old new
+-- what is left to a bay that passed, of a restoring that was accepted and gives `new`, or the refusal, and the record then
+pub record Settles (left : Rewrites) (bay : ℕ) (old new : List ℕ) (r : Result Rewrites Question) (final : List ℕ) : Type 0 where
+  pub rest : r ≡ cond (allowed left bay old new) (Ok (remaining left bay old new)) (Err Rewrite)
+  pub content : final ≡ cond (allowed left bay old new) new old

@@ -1,6 +1,6 @@
 -- Arithmetic on bytes below the questions: what it gives on every byte, symbol or not. Each byte stands for a width and for a symbol there,
 -- a width and a symbol for themselves (proofs/Bytes.antt). Assumes nothing.
-use Rattle.std.specs.Prelude.{◌≡◌, cond, List, ℕ, ◌+◌, ◌*◌, ◌/◌, ◌%◌, ◌^◌, ◌≤◌, ◌<◌, eqb, length}
+use Rattle.std.specs.Prelude.{cond, List, ℕ, ◌%◌, ◌≤◌, eqb, length}
 use Rattle.field.specs.Field.{order, product, power, inverse, α}
 use Rattle.field.specs.Question.{is_width}
 use Rattle.field.specs.Sum.{at, five, weighted}
@@ -33,10 +33,6 @@ sums_for m xs = five (weighted (width_for m) (length xs) (λ i. symbol_for m (at
 -- the symbol other than 0 that a byte stands for at width 7: its own, and 1 where that is 0
 unfoldable pub unit_for : ℕ → ℕ
 unit_for a = cond (eqb (a % 128) 0) 1 (a % 128)
-
--- the exponents of α, in the bytes of r, at which its powers at width 7 are the units of 8·k and the seven numbers after it
-abbrev pub Logarithms : ℕ → ℕ → Type 0
-Logarithms k r = (i : ℕ) → i < 8 → (r / 2 ^ (i * 8) % 128 < 127) × (power 7 α (r / 2 ^ (i * 8) % 128) ≡ unit_for (8 * k + i))
 
 -- the widths without tables: 3, 4 and 5
 abbrev pub Small : ℕ → Type 0

@@ -19,13 +19,17 @@ unfoldable pub powers : ℕ → List ℕ → ℕ
 powers d [] = 0
 powers d (b ∷ bs) = add (powers d bs) (power 7 α (d * b))
 
--- y^7 = y^3 + 1, where y is α^d
-abbrev pub Seventh : ℕ → Type 0
-Seventh d = power 7 α (d * 7) ≡ powers d (3 ∷ 0 ∷ [])
+-- y^n is the sum of the powers of y at the places of bs, where y is α^d
+abbrev pub Obeys : ℕ → List ℕ → ℕ → Type 0
+Obeys n bs d = power 7 α (d * n) ≡ powers d bs
 
--- y^8 = y^7 + y^4 + 1, where y is α^d
+-- y^7 = y^3 + 1
+abbrev pub Seventh : ℕ → Type 0
+Seventh = Obeys 7 (3 ∷ 0 ∷ [])
+
+-- y^8 = y^7 + y^4 + 1
 abbrev pub Eighth : ℕ → Type 0
-Eighth d = power 7 α (d * 8) ≡ powers d (7 ∷ 4 ∷ 0 ∷ [])
+Eighth = Obeys 8 (7 ∷ 4 ∷ 0 ∷ [])
 
 -- the weighted sum of the values of the first n numbers, the steps by α^d
 abbrev pub value_total : (ℕ → ℕ) → ℕ → ℕ → List ℕ → ℕ
@@ -48,11 +52,11 @@ quad e = half 65536 (2 * e) (pair e)
 abbrev pub octet : ℕ → ℕ → ℕ
 octet e = half 4294967296 (4 * e) (quad e)
 
--- the sixteen numbers ws are folded into the eight us, by a relation
+-- the sixteen numbers ws are folded into the first eight of us, by a relation
 abbrev pub Folded : (ℕ → Type 0) → List ℕ → List ℕ → Type 0
 Folded R ws us = (v : ℕ → ℕ) (d : ℕ) → Additive v → R d → value_total v d 8 us ≡ value_total v d 16 ws
 
--- the eight numbers ws are cut into the sixteen us, at p
+-- the first eight numbers of ws are cut into the sixteen us, at p
 abbrev pub Halved : ℕ → List ℕ → List ℕ → Type 0
 Halved p ws us = (v : ℕ → ℕ) (d : ℕ) → SmallValues v → value_total v d 16 us ≡ value_total (half p d v) (2 * d) 8 ws
 

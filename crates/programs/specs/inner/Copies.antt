@@ -24,25 +24,24 @@ copy_size = copy_slots * record_size
 
 -- every batch so far was full, passed and was written
 pub record Fine (c : Copying) : Type 0 where
-  pub fine : c.fine ≡ true
   pub going : c.input.going ≡ true
   pub well : c.input.failed ≡ false
   pub ok : c.output.ok ≡ true
   pub read_small : c.input.read ≤ 2 ^ 62
   pub written_small : c.output.written ≤ 2 ^ 62
 
--- where a batch is fine, n bytes were read and m written
+-- a batch more: n bytes were read and m written
 pub record CopiesBatch (n m : ℕ) (c r : Copying) : Type 0 where
-  pub going : r.fine ≡ true → r.input.going ≡ true
-  pub well : r.fine ≡ true → r.input.failed ≡ false
-  pub ok : r.fine ≡ true → r.output.ok ≡ true
-  pub read : r.fine ≡ true → r.input.read ≡ c.input.read + n
-  pub written : r.fine ≡ true → r.output.written ≡ c.output.written + m
+  pub going : r.input.going ≡ true
+  pub well : r.input.failed ≡ false
+  pub ok : r.output.ok ≡ true
+  pub read : r.input.read ≡ c.input.read + n
+  pub written : r.output.written ≡ c.output.written + m
 
 -- so many slots were copied, and the input goes on
 pub record CopiesSlots (k slots : ℕ) (c : Copying) : Type 0 where
-  pub going : c.fine ≡ true → c.input.going ≡ true
-  pub well : c.fine ≡ true → c.input.failed ≡ false
-  pub ok : c.fine ≡ true → c.output.ok ≡ true
-  pub read : c.fine ≡ true → c.input.read ≡ slots * size_of k
-  pub written : c.fine ≡ true → c.output.written ≡ slots * size_of (other_edition k)
+  pub going : c.input.going ≡ true
+  pub well : c.input.failed ≡ false
+  pub ok : c.output.ok ≡ true
+  pub read : c.input.read ≡ slots * size_of k
+  pub written : c.output.written ≡ slots * size_of (other_edition k)

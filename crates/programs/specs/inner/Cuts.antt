@@ -1,15 +1,10 @@
 -- A text of day sheets taken part by part. Assumes nothing.
-use Rattle.std.specs.Prelude.{◌≡◌, Bool, true, false, ◌&&◌, List, [], ◌++◌, ℕ, ◌+◌, ◌-◌, ◌≤◌, ltb, length, take, drop}
-use Rattle.card_csv.specs.declared.TextVerdict.TheVariants.{TooLong}
+use Rattle.std.specs.Prelude.{Err, ◌≡◌, Bool, true, false, ◌&&◌, List, [], ◌++◌, ℕ, ◌+◌, ◌≤◌, ltb, length, take}
+use Rattle.card_csv.specs.declared.TextFault.TheVariants.{TooLong}
 use Rattle.card_csv.specs.Making.{text_begun, lines_read, lines_made, lines_from, last_line, is_fine}
 use Rattle.card_csv.specs.inner.Room.{text_size}
 use Rattle.programs.specs.declared.input.Input.{Input}
 use Rattle.programs.specs.declared.intake.Taken.{Taken}
-
--- the bytes from `from` up to `end` stand at the front of the buffer
-pub record MovesFront (old : List ℕ) (from end : ℕ) (new : List ℕ) : Type 0 where
-  pub size : length new ≡ text_size
-  pub moved : take (end - from) new ≡ drop from (take end old)
 
 -- more was read behind so many bytes that were kept
 pub record ReadsOn (i : Input) (kept : ℕ) (old : List ℕ) (r : Input) (new : List ℕ) : Type 0 where
@@ -48,7 +43,7 @@ pub record TakesParts (write : Bool) (most room : ℕ) (t : Taken) (buf : List �
 abbrev pub refused_long : Taken → Taken
 refused_long t =
     record {
-      state = record { full = t.state.full; lines = t.state.lines + 1; verdict = TooLong };
+      state = record { full = t.state.full; lines = t.state.lines + 1; verdict = Err TooLong };
       input = t.input;
       output = t.output;
       kept = t.kept;

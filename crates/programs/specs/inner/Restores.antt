@@ -14,6 +14,6 @@ pub record RestoresPart (most : ℕ) (s : Progress) (o : Output) (old : List ℕ
   pub wrote : Wrote o (length old) r.output
 
 -- some bytes were restored, all that were read: n at most, and just n where the card may go on; as many were written, or a write failed
-pub record RestoresSome (n most : ℕ) (t : Turn) : Type 0 where
-  pub took : TookAll (progress_up_to most) n start t.progress t.input
+pub record RestoresSome (n most : ℕ) (t : Turn Progress) : Type 0 where
+  pub took : TookAll (progress_up_to most) n start t.counts t.input
   pub wrote : t.output.ok ≡ true → t.output.written ≡ length took.came.bytes

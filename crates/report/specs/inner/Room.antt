@@ -1,10 +1,9 @@
 -- How long texts are, and how far the numbers of a report may grow. Assumes nothing.
-use Rattle.std.specs.Prelude.{cond, List, [], ◌∷◌, ◌≡◌, ℕ, ◌+◌, ◌*◌, ◌≤◌, max, eqb, length}
+use Rattle.std.specs.Prelude.{List, [], ◌∷◌, ◌≡◌, ℕ, ◌+◌, ◌*◌, ◌≤◌, length}
 use Rattle.card.specs.inner.Room.{longest_field}
 use Rattle.report.specs.declared.row.Row.{Row}
 use Rattle.report.specs.Window.{pumps, full_count, report_size}
 use Rattle.sheet.specs.Sheet.{quarters}
-use Rattle.report.specs.declared.row.Counts.{Counts}
 
 -- a number, which has at most 20 digits
 abbrev pub longest_number : ℕ
@@ -51,7 +50,3 @@ pub record Most (b : ℕ) (r : Row) : Type 0 where
   pub sheets : r.sheets ≤ b
   pub sum : r.sum ≤ b
   pub full : r.full ≤ b
-
--- with one more count
-abbrev pub counts_with : Counts → ℕ → Counts
-counts_with c x = record { sum = c.sum + x; full = c.full + cond (eqb full_count x) 1 0; highest = max c.highest x }

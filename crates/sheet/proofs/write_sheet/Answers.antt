@@ -1,6 +1,6 @@
 -- `sheet::write_sheet` meets its contract. Assumes nothing.
 use Rattle.field.proofs.Base.{rules}
-use Rattle.sheet.proofs.Calls.{writes, writes-size, writes-refused}
+use Rattle.sheet.proofs.Calls.{writes, writes-size}
 use Rattle.sheet.proofs.write_sheet.Goals as goal
 
 pub padded-message-requires : goal.padded-message-requires
@@ -9,15 +9,9 @@ padded-message-requires c =
     let a = c.args in
     writes-size a.width a.symbols.now a.word.now v.result v.ensures (search rules)
 
-pub returns-in-Passed : goal.returns-in-Passed
-returns-in-Passed c =
+pub returns : goal.returns
+returns c =
     let v = c.ask_write in
     let a = c.args in
     writes a.width a.symbols.now a.word.now v.result v.ensures (search rules) _
     c.padded-message.ensures _ _ c.encode.ensures
-
-pub returns-in-Refused : goal.returns-in-Refused
-returns-in-Refused c =
-    let v = c.ask_write in
-    let a = c.args in
-    writes-refused a.width a.symbols.now a.word.now v.result v.ensures _ (search rules)

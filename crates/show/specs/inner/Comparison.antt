@@ -1,5 +1,5 @@
 -- The room for the text of two sheets side by side, and what it is made from. Assumes nothing.
-use Rattle.std.specs.Prelude.{◌≡◌, true, List, ℕ, ◌+◌, ◌*◌, ◌≤◌, length}
+use Rattle.std.specs.Prelude.{Ok, ◌≡◌, true, List, ℕ, ◌+◌, ◌*◌, ◌≤◌, length}
 use Rattle.card.specs.Card.{is_accepted}
 use Rattle.card.specs.Record.{record_size}
 use Rattle.sheet.specs.Sheet.{quarters}
@@ -37,5 +37,5 @@ longest_comparison = longest_dated + longest_starts + longest_totals + longest_c
 pub record AcceptedSlots (a b : List ℕ) (x : Comparison) : Type 0 where
   pub controller-short : length a ≤ record_size
   pub cupboard-short : length b ≤ record_size
-  pub compares : Compares a 1 b 1 x
+  pub compares : Compares a 1 b 1 (Ok x)
   pub well : is_accepted (slots_outcome a b) ≡ true

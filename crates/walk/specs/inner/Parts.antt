@@ -1,13 +1,14 @@
 -- One slot, or some, or those of a step, restored and counted; a look at one record; how long the last line is. Assumes nothing.
-use Rattle.std.specs.Prelude.{◌≡◌, List, ◌++◌, ℕ, ◌+◌, ◌-◌, ◌*◌, ◌≤◌, length, take, drop}
-use Rattle.field.specs.declared.Verdict.{Verdict}
-use Rattle.field.specs.declared.Verdict.TheVariants.{Passed, Refused}
+use Rattle.std.specs.Prelude.{Ok, Result, ◌≡◌, List, ◌++◌, ℕ, ◌+◌, ◌-◌, ◌*◌, ◌≤◌, length, take, drop}
+use Rattle.std.specs.Result.{result_and}
+use Rattle.field.specs.Question.{Verdict}
+use Rattle.field.specs.declared.Question.{Question}
 use Rattle.card.specs.declared.Progress.{Progress}
 use Rattle.card.specs.Record.{record_size, record_of, on_accept, record_up_to, record_written_up_to}
 use Rattle.card.specs.Listing.{further_by, progress_up_to}
 use Rattle.card.specs.inner.Room.{longest_field}
 use Rattle.walk.specs.Restored.{restored_up_to, slots_from}
-use Rattle.walk.specs.Walk.{step_asked, step_of, step_count, step_state}
+use Rattle.walk.specs.Walk.{walk_at, step_asked, step_count}
 use Rattle.walk.specs.declared.Walk.{Walk}
 use Rattle.walk.specs.declared.counting.Counted.{Counted}
 use Rattle.code.specs.Call.{done, written}
@@ -32,20 +33,16 @@ pub record CountsFrom (n i k : ℕ) (s : Progress) (old : List ℕ) (r : Progres
 unfoldable pub step_written_up_to : ℕ → Walk → List ℕ → List ℕ
 step_written_up_to n w card = written (step_asked w (length card)) card (restored_from_up_to n (w.next - 1) (step_count w (length card)) card)
 
--- how far the counting has come behind it: as it was where the step is refused
-abbrev pub progress_after : Verdict → Progress → Progress → Progress
-progress_after Passed old new = new
-progress_after (Refused q) old new = old
+-- what a step gives that is not refused: the state for the next one, and how far the counting has come behind the slots that it treats
+abbrev pub counted_on : ℕ → Walk → Progress → List ℕ → Counted
+counted_on n w s card =
+    let count = step_count w (length card) in
+    record { walk = walk_at w.length (w.next + count); progress = progress_up_to n s (slots_from (w.next - 1) count card) }
 
-unfoldable pub step_progress : ℕ → Walk → Progress → List ℕ → Progress
-step_progress n w s card = progress_after (step_asked w (length card)) s (progress_up_to n s (slots_from (w.next - 1) (step_count w (length card)) card))
-
--- the step answers and returns what one does that does not count, and counts the slots that it treats
-pub record StepsCounting (n : ℕ) (w : Walk) (s : Progress) (old : List ℕ) (r : Counted) (new : List ℕ) : Type 0 where
-  pub answer : done r.step.verdict ≡ step_of w old
-  pub state : r.step.state ≡ step_state w old
+-- the step is refused as one that does not count, and counts the slots that it treats
+pub record StepsCounting (n : ℕ) (w : Walk) (s : Progress) (old : List ℕ) (r : Result Counted Question) (new : List ℕ) : Type 0 where
+  pub answer : r ≡ result_and (step_asked w (length old)) (Ok (counted_on n w s old))
   pub content : new ≡ step_written_up_to n w old
-  pub progress : r.progress ≡ step_progress n w s old
 
 -- no more records are counted than slots
 abbrev pub Sound : Progress → Type 0

@@ -1,10 +1,7 @@
 -- `card::cards::check` meets its contract. Assumes nothing.
 use Rattle.field.proofs.Base.{ap, not}
-use Rattle.card.proofs.Checking.{walked_start, walked_on, checks-refused, checks-last, checks-end}
+use Rattle.card.proofs.Checking.{checks-refused, checks-last, checks-end}
 use Rattle.card.proofs.cards.check.Goals as goal
-
-pub loop-at-init : goal.loop-at-init
-loop-at-init c = walked_start c.args.card.now
 
 pub returns-then-not-is_fine : goal.returns-then-not-is_fine
 returns-then-not-is_fine c =
@@ -18,12 +15,6 @@ returns-then-card-at-le-RECORD c =
     checks-last c.args.card.now c.loop-at.at c.loop-at.i c.loop-at.invariant called.result _
     called.ensures c.record_from.ensures.bytes c.loop-at-test.true
     c.if-card-at-le-RECORD.true (ap not c.if-not-is_fine.false)
-
-pub loop-at-preserved : goal.loop-at-preserved
-loop-at-preserved c =
-    let called = c.is_fine in
-    walked_on c.args.card.now c.loop-at.at c.loop-at.i c.loop-at.invariant called.result _
-    called.ensures c.record_from.ensures.bytes (ap not c.if-not-is_fine.false)
 
 pub returns : goal.returns
 returns c = checks-end c.args.card.now c.loop-at.at c.loop-at.i c.loop-at.invariant c.loop-at-test.false

@@ -9,21 +9,21 @@ overflow_sub-k c = search (rules, named-low)
 
 pub overflow_mul-k : goal.overflow_mul-k
 overflow_mul-k c =
-    let high : c.in-Refused.k ≤ record_count (length c.args.batch.now) = search (rules, named-high) in
+    let high : c.in-Some.k ≤ record_count (length c.args.batch.now) = search (rules, named-high) in
     omega arith
 
 pub record_from-record-requires : goal.record_from-record-requires
 record_from-record-requires c =
-    let high : c.in-Refused.k ≤ record_count (length c.args.batch.now) = search (rules, named-high) in
+    let high : c.in-Some.k ≤ record_count (length c.args.batch.now) = search (rules, named-high) in
     omega arith
 
 pub overflow_add-before : goal.overflow_add-before
 overflow_add-before c =
-    let high : c.in-Refused.k ≤ record_count (length c.args.batch.now) = search (rules, named-high) in
+    let high : c.in-Some.k ≤ record_count (length c.args.batch.now) = search (rules, named-high) in
     omega arith
 
-pub returns-in-AllAccepted : goal.returns-in-AllAccepted
-returns-in-AllAccepted c = search (rules, finds-none)
+pub returns-in-None : goal.returns-in-None
+returns-in-None c = search (rules, finds-none)
 
-pub returns-in-Refused : goal.returns-in-Refused
-returns-in-Refused c = search (rules, finds-some)
+pub returns-in-Some : goal.returns-in-Some
+returns-in-Some c = search (rules, finds-some)

@@ -1,13 +1,7 @@
 -- `card::conversion::are_slots` meets its contract. Assumes nothing.
 use Rattle.field.proofs.Base.{ap, ◌∙◌, ℕ, ◌*◌, arith, eqb}
-use Rattle.card.proofs.Slots.{slots-left, slots-other}
+use Rattle.card.proofs.Slots.{slots-other}
 use Rattle.card.proofs.conversion.are_slots.Goals as goal
-
-pub returns-then-m-size : goal.returns-then-m-size
-returns-then-m-size c =
-    let x = c.size_of-size in
-    let a = c.args in
-    slots-left a.m x.result a.n c.if-m-size.true ∙ ap (λ (s : ℕ). eqb a.m (a.n * s)) x.ensures
 
 pub returns-else-m-size : goal.returns-else-m-size
 returns-else-m-size c =

@@ -1,23 +1,8 @@
 -- `card::conversion::convert_slot` meets its contract. Assumes nothing.
-use Rattle.field.proofs.Base.{rules, ◌≡◌, sym, ◌∙◌, ◌+◌, arith, length, take, drop, length-take-le}
+use Rattle.field.proofs.Base.{rules, ◌≡◌, ◌∙◌, ◌+◌, arith, length, take, drop, length-take-le}
 use Rattle.code.proofs.Loops.{part-drop, two-parts}
 use Rattle.card.proofs.Converted.{header-part}
 use Rattle.card.proofs.conversion.convert_slot.Goals as goal
-
-pub slice_bounds-copy-end-2 : goal.slice_bounds-copy-end-2
-slice_bounds-copy-end-2 c = sym (length-take-le (2 + c.args.j) c.args.to.now (omega arith))
-
-pub slice_bounds-copy-end-3 : goal.slice_bounds-copy-end-3
-slice_bounds-copy-end-3 c =
-    let header = c.new_header-header.result in
-    let l : 7 ≡ length header = search rules in
-    sym (length-take-le (2 + c.args.j) header (omega arith))
-
-pub copy-requires : goal.copy-requires
-copy-requires c =
-    let header = c.new_header-header.result in
-    let l : 7 ≡ length header = search rules in
-    length-take-le (2 + c.args.j) c.args.to.now (omega arith) ∙ sym (length-take-le (2 + c.args.j) header (omega arith))
 
 pub returns : goal.returns
 returns c =

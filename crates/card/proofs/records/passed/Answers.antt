@@ -1,8 +1,6 @@
 -- `card::records::passed` meets its contract. Assumes nothing.
-use Rattle.field.proofs.Base.{ap, not, arith}
-use Rattle.code.proofs.Lengths.{length_most}
-use Rattle.card.specs.Record.{width_of}
-use Rattle.card.proofs.Layouts.{record-fits, count_fits, passes_none, passes-one, passes-two, passes-three, passes-four}
+use Rattle.field.proofs.Base.{ap, not}
+use Rattle.card.proofs.Layouts.{passes_none, passes-one, passes-two, passes-three, passes-four}
 use Rattle.card.proofs.records.passed.Goals as goal
 
 pub returns-then-n-eq0 : goal.returns-then-n-eq0
@@ -11,31 +9,12 @@ returns-then-n-eq0 c =
     let a = c.args in
     passes_none a.k a.most a.bytes.now m.result m.ensures c.if-n-eq0.true
 
-pub overflow_cast-count : goal.overflow_cast-count
-overflow_cast-count c = omega (arith, c.shared_slice_known-3-1.given 1)
-
 pub returns-then-allowed-count : goal.returns-then-allowed-count
 returns-then-allowed-count c =
     let m = c.word_length-n in
     let a = c.args in
     let q = c.allowed in
     passes-one a.k a.most a.bytes.now m.result m.ensures c.if-n-eq0.false q.result q.ensures c.if-allowed-count.true
-
-pub overflow_add-k-2 : goal.overflow_add-k-2
-overflow_add-k-2 c =
-    let m = c.word_length-n in
-    omega (arith, length_most (width_of c.args.bytes.now) m.result m.ensures)
-
-pub padded-requires : goal.padded-requires
-padded-requires c =
-    let m = c.word_length-n in
-    let a = c.args in
-    let q = c.allowed in (
-      c.requires.0,
-      c.requires.1,
-      count_fits a.k a.most a.bytes.now m.result m.ensures c.if-n-eq0.false q.result q.ensures c.if-allowed-count.false,
-      record-fits a.k a.most a.bytes.now m.result m.ensures c.if-n-eq0.false,
-    )
 
 pub returns-then-not-padded : goal.returns-then-not-padded
 returns-then-not-padded c =

@@ -1,7 +1,7 @@
 -- `card::records::restore_asked` meets its contract. Assumes nothing.
+use Rattle.std.proofs.Common.{Err}
 use Rattle.field.proofs.Base.{rules, ◌≡◌, sym, arith, length, length-take-le}
-use Rattle.code.proofs.Lengths.{length_most}
-use Rattle.card.specs.Record.{erasure_bytes, width_of, count_of}
+use Rattle.card.specs.Record.{erasure_bytes, count_of}
 use Rattle.card.proofs.Layouts.{asked, word_fits, word-long}
 use Rattle.card.proofs.Recording.{restores-parts, word-refused, word-restored}
 use Rattle.card.proofs.records.restore_asked.Goals as goal
@@ -12,14 +12,8 @@ bounds-bytes-0 c = omega (arith, (asked c.args.bytes.now c.requires).size)
 pub bounds-bytes-1 : goal.bounds-bytes-1
 bounds-bytes-1 c = omega (arith, (asked c.args.bytes.now c.requires).size)
 
-pub overflow_cast-count : goal.overflow_cast-count
-overflow_cast-count c = omega (arith, c.slice_known-3-1.given 1)
-
 pub erasure_row-erasures-requires : goal.erasure_row-erasures-requires
 erasure_row-erasures-requires c = omega (arith, (asked c.args.bytes.now c.requires).size)
-
-pub overflow_add-end : goal.overflow_add-end
-overflow_add-end c = omega (arith, length_most (width_of c.args.bytes.now) c.word_length-end.result c.word_length-end.ensures)
 
 pub slice_bounds-restore_within-end : goal.slice_bounds-restore_within-end
 slice_bounds-restore_within-end c =
@@ -37,11 +31,8 @@ slice_bounds-restore_within-end-2 c =
     let l : erasure_bytes ≡ length e = search rules in
     sym (length-take-le (count_of c.args.bytes.now) e (omega (arith, (asked c.args.bytes.now c.requires).few)))
 
-pub clear_header-requires : goal.clear_header-requires
-clear_header-requires c = omega (arith, (asked c.args.bytes.now c.requires).size)
-
-pub returns-in-Restored : goal.returns-in-Restored
-returns-in-Restored c =
+pub returns : goal.returns
+returns c =
     let r = c.args.bytes.now in
     let a = asked r c.requires in
     let e = c.erasure_row-erasures in
@@ -52,8 +43,8 @@ returns-in-Restored c =
     word-restored r c.requires reach x.result _ R _ (word-long r a n.result n.ensures) _ (search rules) _
     c.clear_header.ensures
 
-pub returns-in-Refused : goal.returns-in-Refused
-returns-in-Refused c =
+pub returns-in_err-changed : goal.returns-in_err-changed
+returns-in_err-changed c =
     let r = c.args.bytes.now in
     let a = asked r c.requires in
     let e = c.erasure_row-erasures in
@@ -61,4 +52,5 @@ returns-in-Refused c =
     let x = c.restore_within in
     let reach = c.args.reach in
     let R = restores-parts r a n.result n.ensures e.result e.ensures reach x.result _ x.ensures in
-    word-refused r c.requires reach x.result _ R _ (word-long r a n.result n.ensures) _ (search rules)
+    let p : c.from_residual.result ≡ Err c.in_err-changed.field-0.0 = search rules in
+    word-refused r c.requires reach x.result _ R _ (word-long r a n.result n.ensures) _ (search rules) _ p

@@ -1,14 +1,11 @@
 -- `card::records::restore_record_within` meets its contract. Assumes nothing.
-use Rattle.field.proofs.Base.{rules, ◌≡◌, refl, sym, ◌∙◌}
-use Rattle.field.specs.declared.Verdict.TheVariants.{Passed}
+use Rattle.std.proofs.Common.{Err}
+use Rattle.field.proofs.Base.{rules, ◌≡◌, refl}
 use Rattle.card.proofs.Recording.{restores-refused}
 use Rattle.card.proofs.records.restore_record_within.Goals as goal
 
-pub restore_asked-requires : goal.restore_asked-requires
-restore_asked-requires c =
-    let v = c.ask_record in let p : v.result ≡ Passed = search rules in sym v.ensures ∙ p
-
-pub returns-in-Refused : goal.returns-in-Refused
-returns-in-Refused c =
+pub returns-in_err-ask_record : goal.returns-in_err-ask_record
+returns-in_err-ask_record c =
     let v = c.ask_record in
-    restores-refused c.args.bytes.now _ v.result _ v.ensures (search rules) _ refl
+    let r : c.from_residual.result ≡ Err c.in_err-ask_record.field-0.0 = search rules in
+    restores-refused c.args.bytes.now _ v.result _ v.ensures (search rules) _ r _ refl

@@ -1,16 +1,10 @@
 -- `card_csv::columns::put_small` meets its contract: one, two or three digits. Assumes nothing.
-use Rattle.field.proofs.Base.{arith}
-use Rattle.card_csv.proofs.Overwriting.{digits-written, digits-room}
+use Rattle.field.proofs.Base.{rules}
+use Rattle.card_csv.proofs.Digits.{digits-written}
 use Rattle.card_csv.proofs.columns.put_small.Goals as goal
 
-pub returns : goal.returns
-returns c =
-    let first = c.put_byte.ensures in
-    let second = c.put_byte-2.ensures in
-    let third = c.put_byte-3.ensures in
-    let hundreds = c.reaches.ensures.value in
-    let tens = c.reaches-2.ensures.value in
-    record {
-      writes = digits-written c.args.n (omega arith) hundreds tens first second third;
-      upper_bound = digits-room c.args.n (omega arith) hundreds tens first second third;
-    }
+pub returns-clause-text : goal.returns-clause-text
+returns-clause-text c =
+    let a = c.put_byte_if.ensures in
+    let b = c.put_byte_if-2.ensures in
+    digits-written c.args.n (search rules) (search rules) (search rules) a.stays a.covered b.stays b.covered c.put_byte.ensures

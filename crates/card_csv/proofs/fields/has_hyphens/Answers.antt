@@ -1,12 +1,12 @@
 -- `card_csv::fields::has_hyphens` meets its contract. Assumes nothing.
-use Rattle.card_csv.proofs.Values.{hyphens-length, hyphens-first, hyphens-second}
+use Rattle.field.proofs.Base.{rules}
+use Rattle.card_csv.specs.Reading.{has_hyphens}
 use Rattle.card_csv.proofs.fields.has_hyphens.Goals as goal
 
-pub returns-then-text-ne10 : goal.returns-then-text-ne10
-returns-then-text-ne10 c = hyphens-length c.args.text.now c.if-text-ne10.true
+pub returns-then-text-eq45 : goal.returns-then-text-eq45
+unfolding has_hyphens
+returns-then-text-eq45 c = search rules
 
-pub returns-then-text-ne45 : goal.returns-then-text-ne45
-returns-then-text-ne45 c = hyphens-first c.args.text.now c.if-text-ne10.false c.if-text-ne45.true
-
-pub returns : goal.returns
-returns c = hyphens-second c.args.text.now c.if-text-ne10.false c.if-text-ne45.false
+pub returns-else-text-eq45 : goal.returns-else-text-eq45
+unfolding has_hyphens
+returns-else-text-eq45 c = search rules

@@ -1,39 +1,33 @@
--- `card_csv::fields::value_of` meets its contract: one, two or three digits. Assumes nothing.
+-- `card_csv::fields::value_of` meets its contract. Before each turn the digits so far stand for the value. Assumes nothing.
 use Rattle.field.proofs.Base.{arith}
-use Rattle.card_csv.proofs.Values.{number-some, number-few, number_at, value-one, value-two, value-three}
+use Rattle.card_csv.proofs.Values.{valued-start, valued-digit, valued-small, valued-on, valued-end}
 use Rattle.card_csv.proofs.fields.value_of.Goals as goal
 
-pub bounds-text-0 : goal.bounds-text-0
-bounds-text-0 c = omega (arith, number-some 3 c.args.text.now c.requires)
+pub loop-digit-init : goal.loop-digit-init
+loop-digit-init c = valued-start c.args.text.now
 
-pub digit-a-requires : goal.digit-a-requires
-digit-a-requires c = number_at 3 c.args.text.now c.requires 0 (omega (arith, number-some 3 c.args.text.now c.requires))
+pub overflow_mul-value : goal.overflow_mul-value
+overflow_mul-value c =
+    let l = c.loop-digit in
+    let small = valued-small c.args.text.now c.requires l.digit-index l.value (omega arith) l.invariant in omega arith
 
-pub returns-then-text-eq1 : goal.returns-then-text-eq1
-returns-then-text-eq1 c = value-one c.args.text.now c.digit-a.result c.if-text-eq1.true c.digit-a.ensures.0
+pub overflow_sub-digit : goal.overflow_sub-digit
+overflow_sub-digit c =
+    let l = c.loop-digit in
+    let digit = valued-digit c.args.text.now c.requires l.digit-index l.value (omega arith) l.invariant in omega arith
 
-pub bounds-text-1 : goal.bounds-text-1
-bounds-text-1 c = omega (arith, number-some 3 c.args.text.now c.requires, c.if-text-eq1.false)
+pub overflow_add-value : goal.overflow_add-value
+overflow_add-value c =
+    let l = c.loop-digit in
+    let small = valued-small c.args.text.now c.requires l.digit-index l.value (omega arith) l.invariant in
+    let digit = valued-digit c.args.text.now c.requires l.digit-index l.value (omega arith) l.invariant in
+    omega (arith, c.from.ensures)
 
-pub digit-b-requires : goal.digit-b-requires
-digit-b-requires c = number_at 3 c.args.text.now c.requires 1 (omega (arith, number-some 3 c.args.text.now c.requires, c.if-text-eq1.false))
-
-pub returns-then-text-eq2 : goal.returns-then-text-eq2
-returns-then-text-eq2 c =
-    value-two c.args.text.now c.digit-a.result c.digit-b.result c.if-text-eq2.true c.digit-a.ensures.0
-    c.digit-b.ensures.0
-
-pub bounds-text-2 : goal.bounds-text-2
-bounds-text-2 c = omega (arith, number-some 3 c.args.text.now c.requires, c.if-text-eq1.false, c.if-text-eq2.false)
-
-pub digit-c-requires : goal.digit-c-requires
-digit-c-requires c =
-    number_at 3 c.args.text.now c.requires 2
-    (omega (arith, number-some 3 c.args.text.now c.requires, c.if-text-eq1.false, c.if-text-eq2.false))
+pub loop-digit-preserved : goal.loop-digit-preserved
+loop-digit-preserved c =
+    let l = c.loop-digit in
+    valued-on c.args.text.now c.requires l.digit-index l.value (omega arith) l.invariant c.from.result c.from.ensures
 
 pub returns : goal.returns
 returns c =
-    let text = c.args.text.now in
-    value-three text c.digit-a.result c.digit-b.result c.digit-c.result
-    (omega (arith, number-some 3 text c.requires, number-few 3 text c.requires, c.if-text-eq1.false, c.if-text-eq2.false))
-    c.digit-a.ensures.0 c.digit-b.ensures.0 c.digit-c.ensures.0
+    let l = c.loop-digit in valued-end c.args.text.now l.digit-index l.value (omega arith) l.invariant

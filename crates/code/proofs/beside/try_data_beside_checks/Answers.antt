@@ -3,18 +3,14 @@ use Rattle.code.specs.inner.Correction.{places_of}
 use Rattle.code.proofs.finding.BesideWays.{between-linear, between-square}
 use Rattle.code.proofs.beside.try_data_beside_checks.Goals as goal
 
-pub returns-then-gap-eq1 : goal.returns-then-gap-eq1
-returns-then-gap-eq1 c =
-    let a = c.args in (
-      c.try_root.ensures.0,
-      λ R bs O. between-linear a.width R.width a.word.now (places_of a.t) a.t.sums _ a.c.0 a.d.0 c.rows_between-s.result
-          c.rows_between-s.ensures bs O c.if-gap-eq1.true (c.try_root.ensures.1 R),
-    )
+pub returns-then-s-eq1 : goal.returns-then-s-eq1
+returns-then-s-eq1 c =
+    let a = c.args in
+    λ R bs O. between-linear a.width R.width a.word.now (places_of a.t) a.t.sums _ a.c.0 a.d.0 c.rows_between-s.result
+    c.rows_between-s.ensures bs O c.if-s-eq1.true (c.try_root.ensures R)
 
-pub returns-else-gap-eq1 : goal.returns-else-gap-eq1
-returns-else-gap-eq1 c =
-    let a = c.args in (
-      c.try_root-else-gap-eq1.ensures.0,
-      λ R bs O. between-square a.width R.width a.word.now (places_of a.t) a.t.sums _ a.c.0 a.d.0 c.rows_between-s.result
-          c.rows_between-s.ensures bs O (λ e. c.if-gap-eq1.false e) (c.try_root-else-gap-eq1.ensures.1 R),
-    )
+pub returns-else-s-eq1 : goal.returns-else-s-eq1
+returns-else-s-eq1 c =
+    let a = c.args in
+    λ R bs O. between-square a.width R.width a.word.now (places_of a.t) a.t.sums _ a.c.0 a.d.0 c.rows_between-s.result
+    c.rows_between-s.ensures bs O (λ e. c.if-s-eq1.false e) (c.try_root-else-s-eq1.ensures R)

@@ -1,5 +1,5 @@
 -- `code::candidates::without_two` meets its contract. Assumes nothing.
-use Rattle.field.proofs.Base.{ap, ◌∙◌, List, ℕ, arith}
+use Rattle.field.proofs.Base.{ap, ◌∙◌, List, ℕ}
 use Rattle.code.specs.Word.{five, at}
 use Rattle.code.specs.inner.Locate.{point}
 use Rattle.code.specs.inner.Beside.{eliminate}
@@ -14,9 +14,3 @@ returns-then-q-ge5 c =
     let first = c.differences.ensures R.width hp (sums_lt R) in
     c.differences-then-q-ge5.ensures R.width hq (first-lt R a.p.0 c.differences.result first)
     ∙ ap (λ (v : List ℕ). five (eliminate a.width 1 (point a.width a.q.0) (at v))) first)
-
-pub returns-else-q-ge5 : goal.returns-else-q-ge5
-returns-else-q-ge5 c w R hp hq = absurd (omega (arith, hp, hq, c.if-q-ge5.false))
-
-pub returns-else-p-ge5 : goal.returns-else-p-ge5
-returns-else-p-ge5 c w R hp hq = absurd (omega (arith, hp, hq, c.if-p-ge5.false))

@@ -1,29 +1,19 @@
--- `code::erasures::masked_sums` meets its contract. Assumes nothing.
-use Rattle.field.proofs.Base.{rules, ◌≡◌, sym, ◌∙◌, List, [], ◌∷◌, ℕ, arith, length, take, length-take-le}
-use Rattle.code.specs.inner.Place.{numbers}
-use Rattle.code.proofs.Places.{numbers-length}
-use Rattle.code.proofs.restoring.Repairing.{filled-word, filled-size, masked-sums, zero-values}
-use Rattle.code.proofs.erasures.masked_sums.Goals.{After-filled-row}
+-- `code::erasures::masked_sums` meets its contract: zeros have taken the place of the symbols at the first erasures. Assumes nothing.
+use Rattle.field.proofs.Base.{refl, length}
+use Rattle.field.proofs.Below.{all_below-means}
+use Rattle.code.proofs.restoring.Repairing.{masking-on, masking-size, masking-end, masked-sums}
 use Rattle.code.proofs.erasures.masked_sums.Goals as goal
 
--- the row is filled: its first bytes are as many as the word's
-size : (s : After-filled-row) → length s.args.word.now ≡ length (take (length s.args.word.now) s.filled-row.result)
-size s = filled-size _ _ _ _ _ s.copied.ensures s.filled-row.ensures
-
-pub slice_bounds-word_syndromes-end : goal.slice_bounds-word_syndromes-end
-slice_bounds-word_syndromes-end c = size (goal.at.slice_bounds-word_syndromes-end c).After-filled-row
-
-pub word_syndromes-requires : goal.word_syndromes-requires
-word_syndromes-requires c = omega (arith, size (goal.at.word_syndromes-requires c).After-filled-row, c.requires)
+pub loop-p-preserved : goal.loop-p-preserved
+loop-p-preserved c =
+    let a = c.args in
+    let l = c.loop-p in
+    masking-on l.invariant c.loop-p-test.true _ refl
+    (all_below-means (length a.word.now) a.erasures.now c.requires.below l.p-index c.loop-p-test.true)
 
 pub returns : goal.returns
 returns c =
     λ v W.
     (let a = c.args in
-    let five : length a.places ≡ 5 = search rules in
-    let ps : List ℕ = numbers a.places in
-    let zs : List ℕ = take a.count (0 ∷ 0 ∷ 0 ∷ 0 ∷ 0 ∷ []) in
-    let same : length zs ≡ length (take a.count ps) = length-take-le a.count (0 ∷ 0 ∷ 0 ∷ 0 ∷ 0 ∷ []) (omega (arith, c.requires))
-    ∙ sym (length-take-le a.count ps (omega (arith, c.requires, numbers-length a.places))) in
-    masked-sums a.width v a.word.now (take a.count ps) zs _ W same (zero-values a.count)
-    (filled-word _ _ _ _ _ c.copied.ensures c.filled-row.ensures) c.word_syndromes.result (c.word_syndromes.ensures v))
+    let M = c.loop-p.invariant in
+    masked-sums a.width v a.word.now a.erasures.now _ W (masking-size M) (masking-end M c.loop-p-test.false) _ (c.word_syndromes.ensures v))

@@ -1,12 +1,13 @@
--- `code::errors::nonzeros` meets its contract. Assumes nothing.
-use Rattle.field.proofs.Base.{arith}
+-- `code::errors::nonzeros` meets its contract: the check places below k are looked at. Assumes nothing.
+use Rattle.field.proofs.Base.{arith, add-one}
 use Rattle.code.specs.inner.Locate.{full}
 use Rattle.code.proofs.finding.Finding.{lists-none}
 use Rattle.code.proofs.errors.nonzeros.Goals as goal
 
-pub returns : goal.returns
+pub loop-k-init : goal.loop-k-init
 unfolding full
-returns c = (
-  omega (arith, c.with_nonzero.ensures.0, c.with_nonzero-f3.ensures.0, c.with_nonzero-f2.ensures.0, c.with_nonzero-f1.ensures.0, c.with_nonzero-f0.ensures.0),
-  c.with_nonzero.ensures.1 _ (c.with_nonzero-f3.ensures.1 _ (c.with_nonzero-f2.ensures.1 _ (c.with_nonzero-f1.ensures.1 _ (c.with_nonzero-f0.ensures.1 _ lists-none)))),
-)
+loop-k-init c = (omega arith, lists-none)
+
+pub loop-k-preserved : goal.loop-k-preserved
+unfolding full
+loop-k-preserved c = (omega (arith, c.with_nonzero-f.ensures.0, c.loop-k.invariant.0), rw add-one (c.with_nonzero-f.ensures.1 _ c.loop-k.invariant.1))

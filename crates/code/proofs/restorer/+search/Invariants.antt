@@ -1,5 +1,5 @@
 -- `code::restorer::search` meets its contract. The measure is the number of extra places left. Assumes nothing.
-use Rattle.field.proofs.Base.{◌≡◌, false, ◌∷◌, ◌+◌, ◌-◌, length}
+use Rattle.field.proofs.Base.{◌≡◌, false, ◌∷◌, ◌+◌, ◌-◌}
 use Rattle.code.specs.Erasure.{member}
 use Rattle.code.specs.inner.Correction.{Ready, places_of, NoneFrom}
 use Rattle.code.proofs.Loops.{Sought}
@@ -12,6 +12,3 @@ abbrev pub invariant-loop-p : goal.invariant-loop-p
 invariant-loop-p l =
     Ready l.width l.word l.t
     → Sought (λ i. member i (places_of l.t) ≡ false → NoneFrom l.width l.word (i ∷ places_of l.t) (i + 1) (l.left - 1)) l.initial.p l.p
-
-abbrev pub decreases-loop-p : goal.decreases-loop-p
-decreases-loop-p l = length l.word - l.p

@@ -6,7 +6,5 @@ use Rattle.code.proofs.restorer.find_correction.Goals as goal
 
 pub returns-in-Trials : goal.returns-in-Trials
 returns-in-Trials c =
-    let a = c.args in (
-      c.search.ensures.0,
-      λ R. searched-last (le_refl a.reach) (none_within a.width a.word.now (places_of a.t) R.lent a.reach) (c.search.ensures.1 R),
-    )
+    let a = c.args in
+    λ R. searched-last (le_refl a.reach) (none_within a.width a.word.now (places_of a.t) R.lent a.reach) (c.search.ensures R)

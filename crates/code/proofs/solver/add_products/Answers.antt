@@ -2,14 +2,8 @@
 use Rattle.field.proofs.Base.{rules, arith, ◌≡◌, sym, ◌∙◌, length}
 use Rattle.code.specs.inner.Matrix.{columns}
 use Rattle.code.proofs.solving.RowLaws.{length-row_add, get_d-row_add}
-use Rattle.code.proofs.Loops.{filled-start, filled_on, filled-end}
+use Rattle.code.proofs.Loops.{filled-end}
 use Rattle.code.proofs.solver.add_products.Goals as goal
-
-pub loop-j-init : goal.loop-j-init
-loop-j-init c = search (rules, filled-start)
-
-pub loop-j-preserved : goal.loop-j-preserved
-loop-j-preserved c = filled_on c.loop-j.invariant (omega arith) (λ h. c.add_product.ensures h.0 (h.1 _ (omega arith)))
 
 pub returns : goal.returns
 returns c =

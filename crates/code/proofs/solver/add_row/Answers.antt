@@ -16,6 +16,3 @@ returns-then-width-eq7 c =
     ∙ multiple-row a.k (at a.by) a.ms (M seven (λ j h. below-order seven (y j h))) a.row (below-order seven k)
     ∙ eight-row_add 7 a.row a.k a.by long wide
     ∙ ap (λ (m : ℕ). row_add m a.row a.k a.by) (sym seven)
-
-pub returns : goal.returns
-returns c k y M = c.add_products.ensures k y

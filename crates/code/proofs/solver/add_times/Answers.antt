@@ -17,6 +17,3 @@ returns-then-width-eq7 c =
     (multiples-own a.by c.multiples.result (λ j h. below-order seven (y j h)) c.multiples.ensures) a.row (below-order seven k)
     ∙ eight-row_add 7 a.row a.k a.by long wide
     ∙ ap (λ (m : ℕ). row_add m a.row a.k a.by) (sym seven)
-
-pub returns : goal.returns
-returns c = c.add_products.ensures

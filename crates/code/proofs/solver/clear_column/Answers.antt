@@ -1,12 +1,8 @@
 -- `code::solver::clear_column` meets its contract. The loop clears row after row, and the row of the pivot is put in last. Assumes nothing.
-use Rattle.field.proofs.Base.{rules, arith}
+use Rattle.field.proofs.Base.{arith}
 use Rattle.field.proofs.Scaling.{multiples-own}
-use Rattle.code.proofs.Loops.{filled-start}
 use Rattle.code.proofs.solving.SolverSteps.{clearing-on, clearing-end}
 use Rattle.code.proofs.solver.clear_column.Goals as goal
-
-pub loop-i-init : goal.loop-i-init
-loop-i-init c = search (rules, filled-start)
 
 pub loop-i-preserved : goal.loop-i-preserved
 loop-i-preserved c =

@@ -1,13 +1,7 @@
 -- `code::validation::all_below` meets its contract: what the blocks have in common with 256 - q is gathered. Assumes nothing.
-use Rattle.field.proofs.Base.{rules, false≢true, eqb-true}
-use Rattle.code.proofs.Blocks.{gathered-start, gathered-on, gathered-end}
+use Rattle.field.proofs.Base.{rules}
+use Rattle.code.proofs.Blocks.{gathered-start, gathered-on}
 use Rattle.code.proofs.validation.all_below.Goals as goal
-
-pub returns-then-n-lt8 : goal.returns-then-n-lt8
-returns-then-n-lt8 c t = absurd (false≢true t)
-
-pub returns-then-q-eq0 : goal.returns-then-q-eq0
-returns-then-q-eq0 c t = absurd (false≢true t)
 
 pub loop-p-init : goal.loop-p-init
 loop-p-init c =
@@ -19,9 +13,3 @@ loop-p-preserved c =
     let a = c.args in
     let b = c.eight-in-loop-p in
     (search rules, search rules, search rules, gathered-on a.xs.now a.q (search rules) c.loop-p.p b.result c.loop-p.found b.ensures c.loop-p.invariant.3)
-
-pub returns : goal.returns
-returns c =
-    λ t.
-    (let a = c.args in
-    gathered-end a.xs.now a.q c.loop-p.p c.loop-p.found c.loop-p.invariant.3 (search rules) (search rules) (eqb-true _ _ t))

@@ -4,10 +4,10 @@ use Rattle.code.specs.Call.{is_codeword_asked}
 use Rattle.code.proofs.calls.Answers.{word-stop, test_on}
 use Rattle.code.proofs.validation.ask_is_codeword.Goals as goal
 
-pub returns-in-Passed : goal.returns-in-Passed
+pub returns : goal.returns
 unfolding is_codeword_asked
-returns-in-Passed c = search (rules, test_on)
+returns c = search (rules, test_on)
 
-pub returns-in-Refused : goal.returns-in-Refused
+pub returns-in_err-ask_word : goal.returns-in_err-ask_word
 unfolding is_codeword_asked
-returns-in-Refused c = search (rules, word-stop)
+returns-in_err-ask_word c = search (rules, word-stop)

@@ -6,9 +6,6 @@ use Rattle.code.specs.inner.Place.{column}
 use Rattle.code.proofs.Columns.{column-power}
 use Rattle.code.proofs.word.point.Goals as goal
 
-pub power_of_alpha-requires : goal.power_of_alpha-requires
-power_of_alpha-requires c = omega (arith, ap (λ (e : Exponent). e.0) c.exponent_of.ensures)
-
 pub returns-then-width-eq7 : goal.returns-then-width-eq7
 returns-then-width-eq7 c =
     λ w.

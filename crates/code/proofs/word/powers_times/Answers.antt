@@ -1,12 +1,9 @@
 -- `code::word::powers_times` meets its contract. Assumes nothing.
-use Rattle.field.proofs.Base.{ap, ◌∙◌, arith}
+use Rattle.field.proofs.Base.{ap, ◌∙◌}
 use Rattle.field.specs.declared.Exponent.{Exponent}
 use Rattle.field.proofs.Bytes.{ratio-own}
 use Rattle.code.proofs.finding.Times.{powers-times}
 use Rattle.code.proofs.word.powers_times.Goals as goal
-
-pub powers_from-requires : goal.powers_from-requires
-powers_from-requires c = (c.ratio_exponent.ensures.0, omega (arith, ap (λ (e : Exponent). e.0) c.exponent_of.ensures))
 
 pub returns : goal.returns
 returns c =

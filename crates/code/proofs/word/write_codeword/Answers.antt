@@ -1,17 +1,9 @@
 -- `code::word::write_codeword` meets its contract. Assumes nothing.
-use Rattle.field.proofs.Base.{rules, ◌≡◌, sym, ap, ◌∙◌, List, ◌++◌, ℕ, arith, length, length-take-le}
+use Rattle.field.proofs.Base.{rules, ◌≡◌, sym, ap, ◌∙◌, List, ◌++◌, ℕ, length}
 use Rattle.field.proofs.Evaluation.{sums-own}
 use Rattle.code.specs.Word.{five, weighted, at}
 use Rattle.code.proofs.Loops.{two-parts}
 use Rattle.code.proofs.word.write_codeword.Goals as goal
-
-pub slice_bounds-copy-end-2 : goal.slice_bounds-copy-end-2
-slice_bounds-copy-end-2 c = sym (length-take-le 5 c.args.word.now (search rules))
-
-pub copy-requires : goal.copy-requires
-copy-requires c =
-    let l : 5 ≡ length c.parities-c.result = search rules in
-    length-take-le 5 c.args.word.now (omega (arith, c.requires)) ∙ l
 
 pub returns : goal.returns
 returns c =

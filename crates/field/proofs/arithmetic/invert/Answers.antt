@@ -7,20 +7,11 @@ use Rattle.field.proofs.Steps.{inverse-exponent, zero-power-ne}
 use Rattle.field.proofs.Widths.{field_at, Width.seven}
 use Rattle.field.proofs.arithmetic.invert.Goals as goal
 
-pub overflow_sub-small_order : goal.overflow_sub-small_order
-overflow_sub-small_order c = omega (arith, c.small_order.ensures.0)
-
 pub returns-then-a-eq0 : goal.returns-then-a-eq0
 unfolding inverse
 returns-then-a-eq0 c =
     sym (inverted-at _ 7 (width-large _ (λ l. l.if-width-lt3-1.true) (λ g. g.if-width-lt6-1.false) c.in_default.branch-raw) _
     ∙ ap (inverse 7) c.if-a-eq0.true ∙ zero-power-ne 7 126 (λ z. omega (arith, z)))
-
-pub overflow_sub-logarithm : goal.overflow_sub-logarithm
-overflow_sub-logarithm c = omega (arith, c.logarithm.ensures.0)
-
-pub power_of_alpha-requires : goal.power_of_alpha-requires
-power_of_alpha-requires c = omega (arith, c.logarithm.ensures.0)
 
 pub returns-in-3-to-5 : goal.returns-in-3-to-5
 unfolding inverse

@@ -13,12 +13,6 @@ use Rattle.field.proofs.Steps.{product-odd, product-even, product-end}
 use Rattle.field.proofs.arithmetic.multiply_by_digits.Goals as goal
 use Rattle.field.proofs.arithmetic.multiply_by_digits.Goals.{then-y-eq1, else-y-eq1}
 
-pub nonzero_rem-x : goal.nonzero_rem-x
-nonzero_rem-x c = omega (arith, c.small_order-q.ensures.0)
-
-pub nonzero_rem-y : goal.nonzero_rem-y
-nonzero_rem-y c = omega (arith, c.small_order-q.ensures.0)
-
 pub loop-y-init : goal.loop-y-init
 loop-y-init c =
     λ small.

@@ -6,9 +6,6 @@ use Rattle.field.specs.inner.Bytes.{Small}
 use Rattle.field.proofs.Bytes.{width-own, width-large, small_width, operand_low, raised_at}
 use Rattle.field.proofs.arithmetic.raise.Goals as goal
 
-pub nonzero_rem-a : goal.nonzero_rem-a
-nonzero_rem-a c = omega (arith, c.small_order.ensures.0)
-
 pub returns-in-3-to-5 : goal.returns-in-3-to-5
 returns-in-3-to-5 c =
     let s = c.args in

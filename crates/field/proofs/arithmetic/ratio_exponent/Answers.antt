@@ -6,8 +6,8 @@ use Rattle.field.proofs.arithmetic.ratio_exponent.Goals as goal
 
 pub returns : goal.returns
 returns c =
-    let i = c.logarithm-i in
-    let j = c.logarithm-j in (
+    let i = c.logarithm-2 in
+    let j = c.logarithm in (
       omega arith,
       ratio-exponents 7 (field_at seven) _ _ i.result.0 j.result.0 (omega (arith, i.ensures.0)) i.ensures.1 j.ensures.1,
     )

@@ -1,26 +1,22 @@
--- `field::folds::words` meets its contract: the first i numbers hold their symbols, and so does the last. Assumes nothing.
-use Rattle.field.proofs.Base.{rules, ◌≡◌, sym, subst, ℕ, ◌*◌, arith, length, get_or-set_other}
+-- `field::folds::words` meets its contract. Assumes nothing.
+use Rattle.field.proofs.Base.{rules, ◌≡◌, ℕ, ◌*◌, ◌/◌, ◌≤◌, ◌<◌, dec_lt, arith, subst, sym}
+use Rattle.field.specs.Sum.{at}
 use Rattle.field.specs.inner.Lanes.{Block}
-use Rattle.field.proofs.Filling.{set_more, last-number, all-sixteen}
+use Rattle.field.proofs.Filling.{last-number}
+use Rattle.field.proofs.Generated.{made}
 use Rattle.field.proofs.folds.words.Goals as goal
-
-pub loop-i-init : goal.loop-i-init
-loop-i-init c = (search rules, search rules, search rules, (λ m h. absurd (omega arith)), last-number c.args.cs.now c.eight.result c.requires c.eight.ensures)
-
-pub loop-i-preserved : goal.loop-i-preserved
-loop-i-preserved c =
-    let cs = c.args.cs.now in
-    let w = c.loop-i.w in
-    let i : ℕ = c.loop-i.i in
-    let size : length w ≡ 16 = c.loop-i.invariant.2 in (
-      search rules,
-      search rules,
-      search rules,
-      set_more (λ m x. Block 8 cs (8 * m) x) i c.eight-in-loop-i.result w (omega (arith, size)) c.eight-in-loop-i.ensures c.loop-i.invariant.3,
-      subst (Block 8 cs (8 * 15)) (sym (get_or-set_other w i 15 _ 0 (λ e. omega arith))) c.loop-i.invariant.4,
-    )
 
 pub returns : goal.returns
 returns c =
     let cs = c.args.cs.now in
-    all-sixteen (λ m x. Block 8 cs (8 * m) x) c.loop-i.w (λ m h. c.loop-i.invariant.3 m (omega arith)) c.loop-i.invariant.4
+    let w = c.from_fn.result in
+    let at-place = made _ _ (λ i r. (i < 15 → Block 8 cs (8 * i) r) × (15 ≤ i → (x : ℕ) × Block 8 cs 119 x × (r ≡ x / 256)))
+    (λ i r q k. search rules) 16 w c.from_fn.ensures.items.each in
+    λ i h.
+    (elim (dec_lt i 15) [
+      | yes l ↦ (at-place i h).0 l
+      | no l ↦
+          let n : i ≡ 15 = omega arith in
+          let t = (at-place 15 (omega arith)).1 (omega arith) in
+          subst (λ (k : ℕ). Block 8 cs (8 * k) (at w k)) (sym n) (subst (Block 8 cs (8 * 15)) (sym t.2) (last-number cs t.0 c.requires t.1))
+    ])

@@ -1,27 +1,22 @@
--- `field::horner::one_by_one` meets its contract: the sums over the symbols from i on, by Horner's rule. Assumes nothing.
-use Rattle.field.proofs.Base.{rules, arith}
+-- `field::horner::one_by_one` meets its contract: the sums over the symbols that the pass has left behind, by Horner's rule. Assumes nothing.
+use Rattle.field.proofs.Base.{ap, ◌∙◌, [], ◌∷◌, ◌++◌, append_assoc, append-nil}
 use Rattle.field.proofs.Evaluation.{pass-start, pass-small, pass_on, pass-end}
 use Rattle.field.proofs.horner.one_by_one.Goals as goal
 
-pub loop-i-init : goal.loop-i-init
-loop-i-init c = (search rules, pass-start c.args.width c.args.symbols.now)
+pub loop-c-init : goal.loop-c-init
+loop-c-init c = ([], rw append-nil (cc), pass-start c.args.width)
 
-pub bounds-symbols-i : goal.bounds-symbols-i
-bounds-symbols-i c = omega (arith, c.loop-i.invariant.0)
-
-pub loop-i-preserved : goal.loop-i-preserved
-loop-i-preserved c =
-    let a = c.args in
-    let m = a.width in
-    let cs = a.symbols.now in
-    let s = c.loop-i.s in
-    let i = c.loop-i.i in (
-      omega (arith, c.loop-i.invariant.0),
-      pass_on m cs s c.step-next.result i c.loop-i.invariant.1 (search rules) c.loop-i.invariant.0
-          (c.step-next.ensures (λ k h. pass-small m cs s i k c.loop-i.invariant.1 h)),
+pub loop-c-preserved : goal.loop-c-preserved
+loop-c-preserved c =
+    let m = c.args.width in
+    let x = c.in-Some.c.now in
+    let (done, split, held) = c.loop-c.invariant in (
+      x ∷ done,
+      split ∙ ap (λ xs. xs ++ done) c.in-Some.ensures.steps ∙ append_assoc c.next.new.self.iter.rest.now (x ∷ []) done,
+      pass_on m c.loop-c.s c.step-next.result done x held (c.step-next.ensures (λ k h. pass-small m c.loop-c.s done k held h)),
     )
 
 pub returns : goal.returns
 returns c =
-    let a = c.args in
-    pass-end a.width a.symbols.now c.loop-i.s c.loop-i.i c.loop-i.invariant.1 (omega arith)
+    let (done, split, held) = c.loop-c.invariant in
+    pass-end c.args.width c.loop-c.s done c.loop-c.c-iterator.iter.rest.now c.args.symbols.now held split c.in-None.ensures.steps.0

@@ -17,7 +17,7 @@ returns c =
     let n : ℕ = width_for m in
     five-of (λ k. add (product n (power n α k) (at a.s k)) (symbol_for m a.c)) _ _ _ _ _
     (xor-add _ _ ∙ ap₂ add (first-shift m _ (h 0 (lit< tt))) x.ensures)
-    (xor-add _ _ ∙ ap₂ add (c.shift-s1.ensures ∙ shifted-symbol m _ 1 (h 1 (lit< tt))) x.ensures)
-    (xor-add _ _ ∙ ap₂ add (c.shift-s2.ensures ∙ shifted-symbol m _ 2 (h 2 (lit< tt))) x.ensures)
-    (xor-add _ _ ∙ ap₂ add (c.shift-s3.ensures ∙ shifted-symbol m _ 3 (h 3 (lit< tt))) x.ensures)
-    (xor-add _ _ ∙ ap₂ add (c.shift-s4.ensures ∙ shifted-symbol m _ 4 (h 4 (lit< tt))) x.ensures))
+    (xor-add _ _ ∙ ap₂ add (c.shift.ensures ∙ shifted-symbol m _ 1 (h 1 (lit< tt))) x.ensures)
+    (xor-add _ _ ∙ ap₂ add (c.shift-2.ensures ∙ shifted-symbol m _ 2 (h 2 (lit< tt))) x.ensures)
+    (xor-add _ _ ∙ ap₂ add (c.shift-3.ensures ∙ shifted-symbol m _ 3 (h 3 (lit< tt))) x.ensures)
+    (xor-add _ _ ∙ ap₂ add (c.shift-4.ensures ∙ shifted-symbol m _ 4 (h 4 (lit< tt))) x.ensures))

@@ -5,9 +5,6 @@ use Rattle.field.proofs.Widths.{field_of}
 use Rattle.field.proofs.Shifts.{product-twice}
 use Rattle.field.proofs.shift.shift_at.Goals as goal
 
-pub returns-then-k-middle : goal.returns-then-k-middle
-returns-then-k-middle c o e = c.wrap.ensures o e c.if-k-middle.true
-
 pub returns-else-k-middle : goal.returns-else-k-middle
 returns-else-k-middle c =
     λ o e.

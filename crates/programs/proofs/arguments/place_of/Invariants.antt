@@ -1,10 +1,7 @@
 -- `programs::arguments::place_of` meets its contract. Assumes nothing.
-use Rattle.field.proofs.Base.{◌-◌, ◌≤◌, ◌≡◌, length, drop}
+use Rattle.field.proofs.Base.{◌≡◌, drop}
 use Rattle.programs.specs.Arguments.{argument_from, argument_at}
 use Rattle.programs.proofs.arguments.place_of.Given as goal
 
 abbrev pub invariant-loop-i : goal.invariant-loop-i
-invariant-loop-i l = (l.i ≤ length l.roles) × (argument_at l.roles l.role l.n ≡ argument_from l.i (drop l.i l.roles) l.role l.left)
-
-abbrev pub decreases-loop-i : goal.decreases-loop-i
-decreases-loop-i l = length l.roles - l.i
+invariant-loop-i l = argument_at l.roles l.role l.n ≡ argument_from l.i (drop l.i l.roles) l.role l.left

@@ -5,4 +5,4 @@ use Rattle.programs.proofs.cardcheck.with_status.Goals as goal
 
 pub returns : goal.returns
 returns c =
-    let s = c.args in ap (λ (x : Status). record { found = s.found; input = s.i; output = s.o; status = x }) c.status_of.ensures
+    let s = c.args in ap (λ (x : Status). record { input = s.i; output = s.o; status = x }) c.status_of.ensures

@@ -2,5 +2,5 @@
 use Rattle.programs.proofs.Converting.{asked-slots}
 use Rattle.programs.proofs.cardconvert.convert_again.Goals as goal
 
-pub copy_card-c-requires : goal.copy_card-c-requires
-copy_card-c-requires c = (c.requires.0, c.requires.1, asked-slots c.requires.2.asks)
+pub copy_card-copied-requires : goal.copy_card-copied-requires
+copy_card-copied-requires c = (c.requires.0, c.requires.1, asked-slots c.requires.2.asks)

@@ -38,4 +38,4 @@ returns c =
     let few : 9 - a.k ≤ 5 = omega (arith, r.1) in
     let f = front a.want x.result a.k a.buf.now r.3 x.ensures r.2 c.requires.buf_len.0 in
     let g = front a.want y.result (9 - a.k) a.other.now r.3 y.ensures few c.requires.buf_len.1 in
-    copies-sized (f ∙ ap (λ (n : ℕ). a.want * n) x.ensures) (g ∙ ap (λ (n : ℕ). a.want * n) y.ensures) c.copy_slots.ensures
+    copies-sized a.c c.copy_slots.result (f ∙ ap (λ (n : ℕ). a.want * n) x.ensures) (g ∙ ap (λ (n : ℕ). a.want * n) y.ensures) c.copy_slots.ensures

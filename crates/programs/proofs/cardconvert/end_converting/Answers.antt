@@ -1,15 +1,16 @@
 -- `programs::cardconvert::end_converting` meets its contract. Assumes nothing.
-use Rattle.field.proofs.Base.{refl, inl, inr}
+use Rattle.field.proofs.Base.{rules, refl, inl, inr, ⊎_elim}
+use Rattle.programs.specs.declared.status.Status.TheVariants.{Done, NotDone}
+use Rattle.programs.specs.Convert.{CopiesCard}
+use Rattle.programs.proofs.Choosing.{either-way}
 use Rattle.programs.proofs.cardconvert.end_converting.Goals as goal
 
 pub publish-requires : goal.publish-requires
-publish-requires c = (c.requires.ended c.if-c.true, c.requires.ok c.if-c.true)
+publish-requires c =
+    let C : CopiesCard c.args.k c.args.slots c.in-Ok.c = rw c.in-Ok.is at c.requires in (C.ended, C.ok)
 
-pub returns-then-publish : goal.returns-then-publish
-returns-then-publish c = inl (c.if-c.true, refl)
+pub returns-in-Ok : goal.returns-in-Ok
+returns-in-Ok c = rw c.done_where.ensures (⊎_elim (λ e. inl (search rules, e)) (λ e. inr e) (either-way c.publish.result Done NotDone))
 
-pub returns-then-c : goal.returns-then-c
-returns-then-c c = inr refl
-
-pub returns : goal.returns
-returns c = inr refl
+pub returns-in-Err : goal.returns-in-Err
+returns-in-Err c = inr refl

@@ -1,6 +1,6 @@
 -- `programs::cardrestore::end_restoring` meets its contract. Assumes nothing.
 use Rattle.field.proofs.Base.{rules, refl, inl, inr}
-use Rattle.programs.proofs.Restoring.{whole, whole-ended, whole-written}
+use Rattle.programs.proofs.Batches.{whole, whole-ended, whole-written}
 use Rattle.programs.proofs.cardrestore.end_restoring.Goals as goal
 
 pub returns-then-not-is_whole : goal.returns-then-not-is_whole

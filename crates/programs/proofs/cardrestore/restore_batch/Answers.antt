@@ -8,16 +8,13 @@ pub read_batch-input-requires : goal.read_batch-input-requires
 read_batch-input-requires c =
     let p = c.requires.input in (p.going, p.well, omega (arith, p.small))
 
-pub slice_bounds-restore_part-end : goal.slice_bounds-restore_part-end
-slice_bounds-restore_part-end c = front-size _ c.count-n.ensures c.read_batch-input.ensures.most
-
 pub restore_part-restored-requires : goal.restore_part-restored-requires
 restore_part-restored-requires c =
     let x = c.read_batch-input in
-    let n = c.count-n in
+    let n = c.count in
     let p = c.requires in
     let l = front-size x.new.buf n.ensures x.ensures.most in
     (p.counts, record { ok = p.output.ok; small = omega (arith, p.output.small, l, n.ensures, x.ensures.most, x.ensures.size) })
 
 pub returns : goal.returns
-returns c = restores-batch c.args.most c.args.t c.read_batch-input.ensures refl c.count-n.ensures c.restore_part-restored.ensures
+returns c = restores-batch c.args.most c.args.t c.read_batch-input.ensures refl c.count.ensures c.restore_part-restored.ensures

@@ -3,8 +3,8 @@ use Rattle.field.proofs.Base.{rules}
 use Rattle.programs.proofs.Restoring.{restored-all, restored-some}
 use Rattle.programs.proofs.cardrestore.status_of.Goals as goal
 
-pub returns-then-totals-eq0 : goal.returns-then-totals-eq0
-returns-then-totals-eq0 c = restored-all c.args.t (search rules)
+pub returns-then-t-eq0 : goal.returns-then-t-eq0
+returns-then-t-eq0 c = restored-all c.args.t (search rules)
 
-pub returns-else-totals-eq0 : goal.returns-else-totals-eq0
-returns-else-totals-eq0 c = restored-some c.args.t (search rules)
+pub returns-else-t-eq0 : goal.returns-else-t-eq0
+returns-else-t-eq0 c = restored-some c.args.t (search rules)

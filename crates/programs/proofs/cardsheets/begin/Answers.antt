@@ -6,12 +6,12 @@ use Rattle.programs.proofs.cardsheets.begin.Goals as goal
 
 pub write_header-requires : goal.write_header-requires
 write_header-requires c =
-    let o = c.output_of.ensures in record { ok = ap (λ (x : Output). x.ok) o; small = omega (arith, ap (λ (x : Output). x.written) o) }
+    let o = c.new-2.ensures in record { ok = ap (λ (x : Output). x.ok) o; small = omega (arith, ap (λ (x : Output). x.written) o) }
 
 pub returns : goal.returns
 returns c =
-    let i = c.input_of.ensures in
-    let o = c.output_of.ensures in
+    let i = c.new.ensures in
+    let o = c.new-2.ensures in
     let w = c.write_header.ensures in
     record {
       counts = refl;

@@ -1,6 +1,5 @@
 -- `programs::cardsheets::tell_batch` meets its contract. Assumes nothing.
-use Rattle.field.proofs.Base.{rules, sym, refl, arith, length-take-le}
-use Rattle.card.proofs.Writing.{writes-fits, writes-length}
+use Rattle.field.proofs.Base.{rules, refl, arith}
 use Rattle.programs.proofs.Batches.{front-size}
 use Rattle.programs.proofs.Telling.{batch-sheets, tells-batch}
 use Rattle.programs.proofs.cardsheets.tell_batch.Goals as goal
@@ -9,31 +8,20 @@ pub read_batch-input-requires : goal.read_batch-input-requires
 read_batch-input-requires c =
     let p = c.requires.input in (p.going, p.well, omega (arith, p.small))
 
-pub slice_bounds-list_sheets-end : goal.slice_bounds-list_sheets-end
-slice_bounds-list_sheets-end c = front-size _ c.count-n.ensures c.read_batch-input.ensures.most
-
-pub list_sheets-listed-requires : goal.list_sheets-listed-requires
-list_sheets-listed-requires c =
+pub list_sheets-counts-requires : goal.list_sheets-counts-requires
+list_sheets-counts-requires c =
     let x = c.read_batch-input in
-    let n = c.count-n in
+    let n = c.count in
     let l = front-size x.new.buf n.ensures x.ensures.most in
     (omega (arith, l, n.ensures, x.ensures.most, x.ensures.size), search rules, c.requires.counts)
 
-pub slice_bounds-write_lines-end : goal.slice_bounds-write_lines-end
-slice_bounds-write_lines-end c =
-    let x = c.list_sheets-listed in sym (length-take-le x.result.used _ (writes-fits x.ensures.text))
-
 pub write_lines-output-requires : goal.write_lines-output-requires
-write_lines-output-requires c =
-    let y = c.list_sheets-listed in
-    let x = c.read_batch-input in
-    let l = length-take-le y.result.used y.new.out (writes-fits y.ensures.text) in (
-      record { ok = c.requires.output.ok; small = omega (arith, c.requires.output.small, l, writes-fits y.ensures.text, writes-length y.ensures.text) },
-      batch-sheets c.args.t x.ensures c.count-n.ensures y.ensures,
-    )
+write_lines-output-requires c = (
+  record { ok = c.requires.output.ok; small = grind (arith, c.requires.output.small) },
+  batch-sheets c.args.t c.read_batch-input.ensures c.count.ensures (search rules),
+)
 
 pub returns : goal.returns
 returns c =
-    let y = c.list_sheets-listed in
-    let x = c.read_batch-input in
-    tells-batch c.args.t x.ensures c.count-n.ensures y.ensures refl refl c.write_lines-output.ensures
+    tells-batch c.args.t c.read_batch-input.ensures c.count.ensures (search rules) refl c.list_sheets-counts.ensures.counts (grind arith)
+    c.write_lines-output.ensures

@@ -8,19 +8,15 @@ pub read_batch-input-requires : goal.read_batch-input-requires
 read_batch-input-requires c =
     let i = c.requires.0 in (i.going, i.well, omega (arith, i.small))
 
-pub slice_bounds-add_part-end : goal.slice_bounds-add_part-end
-slice_bounds-add_part-end c =
-    let y = c.read_batch-input in front-size y.new.buf c.count-n.ensures y.ensures.most
-
 pub add_part-requires : goal.add_part-requires
 add_part-requires c =
     let y = c.read_batch-input in
-    let x = c.count-n in
+    let x = c.count in
     let l = front-size y.new.buf x.ensures y.ensures.most in
     (c.requires.1, omega (arith, l, x.ensures, y.ensures.most, y.ensures.size), c.requires.2)
 
 pub returns : goal.returns
 returns c =
     let y = c.read_batch-input in
-    let x = c.count-n in
+    let x = c.count in
     adds-batch c.args.w c.args.report.now _ y.ensures refl x.ensures c.add_part.ensures

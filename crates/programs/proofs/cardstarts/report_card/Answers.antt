@@ -8,7 +8,7 @@ use Rattle.programs.proofs.cardstarts.report_card.Goals as goal
 pub returns-then-failed : goal.returns-then-failed
 returns-then-failed c =
     let f = c.failed in
-    let o = c.output_of-o in
+    let o = c.new-o in
     let x = c.fill-input in
     let none = ap (λ (p : Output). p.written) o.ensures in
     tables-nothing x.ensures o.result none (asked-yes f.ensures c.if-failed.true) c.status_of.ensures
@@ -16,7 +16,7 @@ returns-then-failed c =
 pub write_table-output-requires : goal.write_table-output-requires
 write_table-output-requires c =
     let f = c.failed in
-    let o = c.output_of-o in
+    let o = c.new-o in
     let x = c.fill-input in (
       record { ok = ap (λ (p : Output). p.ok) o.ensures; small = omega (arith, ap (λ (p : Output). p.written) o.ensures) },
       tabled c.requires x.ensures (asked-no f.ensures c.if-failed.false),
@@ -25,7 +25,7 @@ write_table-output-requires c =
 pub returns : goal.returns
 returns c =
     let f = c.failed in
-    let o = c.output_of-o in
+    let o = c.new-o in
     let x = c.fill-input in
     let none = ap (λ (p : Output). p.written) o.ensures in
     tables-card x.ensures o.result none (asked-no f.ensures c.if-failed.false)

@@ -1,24 +1,7 @@
 -- `programs::cardstarts::write_table` meets its contract. Assumes nothing.
-use Rattle.field.proofs.Base.{arith, length-take-le}
-use Rattle.card.proofs.Writing.{writes-fits}
+use Rattle.field.proofs.Base.{arith}
 use Rattle.programs.proofs.Tabling.{tabled-countable}
 use Rattle.programs.proofs.cardstarts.write_table.Goals as goal
 
-pub put_table-used-requires : goal.put_table-used-requires
-put_table-used-requires c = (omega arith, tabled-countable c.requires.1)
-
-pub slice_bounds-out-end : goal.slice_bounds-out-end
-slice_bounds-out-end c =
-    writes-fits c.put_table-used.ensures
-
-pub write_part-requires : goal.write_part-requires
-write_part-requires c =
-    let x = c.put_table-used in
-    let l = length-take-le x.result x.new.out (writes-fits x.ensures) in
-    (c.requires.0.ok, omega (arith, c.requires.0.small, l, x.ensures.room))
-
-pub returns : goal.returns
-returns c =
-    let x = c.put_table-used in
-    let l = length-take-le x.result x.new.out (writes-fits x.ensures) in
-    λ t. omega (arith, c.write_part.ensures t, l, x.ensures.behind)
+pub put_table-requires : goal.put_table-requires
+put_table-requires c = (grind arith, tabled-countable c.requires.1)

@@ -3,7 +3,7 @@ use Rattle.programs.proofs.Roles.{explained-undone}
 use Rattle.programs.proofs.help.explain.Goals as goal
 
 pub returns-in-Help : goal.returns-in-Help
-returns-in-Help c = rw c.in-Help.is c.print_help.ensures
+returns-in-Help c = rw c.in-Help.is c.print.ensures
 
 pub returns-in-Version : goal.returns-in-Version
 returns-in-Version c = rw c.in-Version.is c.print_version.ensures

@@ -1,31 +1,30 @@
 -- `programs::seek::number_in` meets its contract. Assumes nothing.
-use Rattle.field.proofs.Base.{refl, arith}
-use Rattle.programs.proofs.Seeking.{number-low, number-high, number-large, number-on, number-all}
+use Rattle.field.proofs.Base.{◌∙◌}
+use Rattle.programs.proofs.Seeking.{no-digit, too_many, one_more, number_refused, number-on, number-all, counted_some, counted_none}
+use Rattle.programs.proofs.seek.number_in.Goals.{then-not-is_ascii_digit-via-then-not-is_ascii_digit, then-not-is_ascii_digit-via-else-not-is_ascii_digit+then-v-gt-MOST_BEFORE}
 use Rattle.programs.proofs.seek.number_in.Goals as goal
 
-pub loop-i-init : goal.loop-i-init
-loop-i-init c = (omega arith, omega arith, refl)
+pub returns-then-not-is_ascii_digit : goal.returns-then-not-is_ascii_digit
+returns-then-not-is_ascii_digit c =
+    let turn = c.loop-b in
+    let refused = number_refused c.args.text.now turn.v turn.b-index turn.invariant c.loop-b-test.true in
+    elim c.then-not-is_ascii_digit.branch [
+      | then-not-is_ascii_digit-via-then-not-is_ascii_digit w ↦ refused (no-digit _ _ w.if-not-is_ascii_digit.ensures.value)
+      | then-not-is_ascii_digit-via-else-not-is_ascii_digit+then-v-gt-MOST_BEFORE w ↦ refused (too_many _ _ w.if-v-gt-MOST_BEFORE.true)
+    ]
 
-pub returns-then-b-lt48 : goal.returns-then-b-lt48
-returns-then-b-lt48 c = (number-low c.args.text.now c.loop-i.v c.loop-i.i c.loop-i.invariant.2 c.loop-i-test.true c.if-b-lt48.true, omega arith)
+pub loop-b-preserved : goal.loop-b-preserved
+loop-b-preserved c =
+    let turn = c.loop-b in
+    number-on c.args.text.now turn.v turn.b-index turn.invariant c.loop-b-test.true
+    (one_more _ _ c.if-not-is_ascii_digit.ensures.value c.if-v-gt-MOST_BEFORE.false)
 
-pub returns-then-b-gt57 : goal.returns-then-b-gt57
-returns-then-b-gt57 c = (number-high c.args.text.now c.loop-i.v c.loop-i.i c.loop-i.invariant.2 c.loop-i-test.true c.if-b-gt57.true, omega arith)
+pub returns-then-v-gt0 : goal.returns-then-v-gt0
+returns-then-v-gt0 c =
+    let turn = c.loop-b in
+    counted_some turn.v c.if-v-gt0.true ∙ number-all c.args.text.now turn.v turn.b-index turn.invariant c.loop-b-test.false
 
-pub returns-then-v-gt-MOST_BEFORE : goal.returns-then-v-gt-MOST_BEFORE
-returns-then-v-gt-MOST_BEFORE c = (
-  number-large c.args.text.now c.loop-i.v c.loop-i.i c.loop-i.invariant.2 c.loop-i-test.true (omega arith) (omega arith)
-      c.if-v-gt-MOST_BEFORE.true,
-  omega arith,
-)
-
-pub loop-i-preserved : goal.loop-i-preserved
-loop-i-preserved c = (
-  omega arith,
-  omega arith,
-  number-on c.args.text.now c.loop-i.v c.loop-i.i c.loop-i.invariant.2 c.loop-i-test.true (omega
-      arith) (omega arith) (omega arith),
-)
-
-pub returns : goal.returns
-returns c = (number-all c.args.text.now c.loop-i.v c.loop-i.i c.loop-i.invariant.2 (omega arith), c.loop-i.invariant.1)
+pub returns-else-v-gt0 : goal.returns-else-v-gt0
+returns-else-v-gt0 c =
+    let turn = c.loop-b in
+    counted_none turn.v c.if-v-gt0.false ∙ number-all c.args.text.now turn.v turn.b-index turn.invariant c.loop-b-test.false

@@ -6,8 +6,8 @@ use Rattle.programs.proofs.turn.begin.Goals as goal
 
 pub returns : goal.returns
 returns c =
-    let i = c.input_of.ensures in
-    let o = c.output_of.ensures in
+    let i = c.new.ensures in
+    let o = c.new-2.ensures in
     record {
       progress = refl;
       read = ap (λ (x : Input). x.read) i;

@@ -1,9 +1,8 @@
 -- `report::day::slot` meets its contract. Assumes nothing.
-use Rattle.field.proofs.Base.{◌≡◌, sym, ◌∙◌, Bool, true, false≢true, List, ℕ, ◌≤◌, arith, length}
+use Rattle.field.proofs.Base.{◌≡◌, sym, ◌∙◌, Bool, true, List, ℕ, ◌≤◌, arith, length}
 use Rattle.card.specs.Slots.{record_count}
 use Rattle.card.proofs.Numbering.{number-low, number-high}
 use Rattle.report.specs.Day.{has_record}
-use Rattle.report.proofs.Days.{slot-some, slot-none}
 use Rattle.report.proofs.day.slot.Goals as goal
 
 -- the card has a record of this number
@@ -27,21 +26,3 @@ record_from-requires c =
     let card = c.args.card.now in
     let n = c.args.number in
     omega (arith, first card n _ c.has_record.ensures c.if-has_record.true, most card n _ c.has_record.ensures c.if-has_record.true)
-
-pub returns-then-has_record : goal.returns-then-has_record
-returns-then-has_record c =
-    let a = c.args in
-    record {
-      bytes = c.record_from.ensures.bytes
-          ∙ slot-some a.card.now a.number c.has_record.result c.has_record.ensures c.if-has_record.true;
-      lies = λ h. c.record_from.ensures.lies;
-    }
-
-pub returns-else-has_record : goal.returns-else-has_record
-returns-else-has_record c =
-    let a = c.args in
-    let none = c.has_record.ensures in
-    record {
-      bytes = slot-none a.card.now a.number c.has_record.result none c.if-has_record.false;
-      lies = λ h. absurd (false≢true (sym c.if-has_record.false ∙ none ∙ h));
-    }

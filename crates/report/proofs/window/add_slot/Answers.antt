@@ -6,9 +6,6 @@ use Rattle.report.proofs.window.add_slot.Goals as goal
 pub add_one-requires : goal.add_one-requires
 add_one-requires c = (omega (arith, c.requires.1.size), omega (arith, within-at (2 ^ 63) c.args.report.now 1153 c.requires.1.within))
 
-pub add_record-requires : goal.add_record-requires
-add_record-requires c = (c.requires.0, c.requires.1)
-
 pub returns-then-is_blank : goal.returns-then-is_blank
 returns-then-is_blank c =
     let x = c.is_blank in

@@ -3,8 +3,8 @@ use Rattle.field.proofs.Base.{rules}
 use Rattle.sheet.proofs.Dates.{date-zero, date-some}
 use Rattle.sheet.proofs.calendar.date_exists.Goals as goal
 
-pub returns-then-day-eq0 : goal.returns-then-day-eq0
-returns-then-day-eq0 c = search (rules, date-zero)
+pub returns-then-day-ge1 : goal.returns-then-day-ge1
+returns-then-day-ge1 c = search (rules, date-some)
 
-pub returns : goal.returns
-returns c = search (rules, date-some)
+pub returns-else-day-ge1 : goal.returns-else-day-ge1
+returns-else-day-ge1 c = search (rules, date-zero)

@@ -1,10 +1,7 @@
--- `show::comparison::starts_sum` meets its contract. Assumes nothing.
-use Rattle.field.proofs.Base.{◌-◌, length}
-use Rattle.show.proofs.Comparing.{Summed}
+-- `show::comparison::starts_sum` meets its contract. Before each turn the counts so far are summed. Assumes nothing.
+use Rattle.field.proofs.Base.{◌≡◌, ◌+◌, ◌*◌, ◌≤◌, drop}
+use Rattle.report.specs.Window.{starts_sum}
 use Rattle.show.proofs.comparison.starts_sum.Given as goal
 
-abbrev pub invariant-loop-i : goal.invariant-loop-i
-invariant-loop-i l = Summed l.counts l.sum l.i
-
-abbrev pub decreases-loop-i : goal.decreases-loop-i
-decreases-loop-i l = length l.counts - l.i
+abbrev pub invariant-loop-count : goal.invariant-loop-count
+invariant-loop-count l = (l.sum + starts_sum (drop l.count-index l.counts) ≡ starts_sum l.counts) × (l.sum ≤ l.count-index * 255)

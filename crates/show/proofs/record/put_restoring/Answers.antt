@@ -1,20 +1,12 @@
 -- `show::record::put_restoring` meets its contract. Assumes nothing.
-use Rattle.field.proofs.Base.{append_assoc}
-use Rattle.card.proofs.Writing.{writes-on}
-use Rattle.show.proofs.Looking.{restoring-done, restoring-refused}
+use Rattle.field.proofs.Base.{sym}
+use Rattle.card.proofs.Writing.{appends-on, appends-as}
+use Rattle.show.proofs.Looking.{restoring-done}
 use Rattle.show.proofs.record.put_restoring.Goals as goal
 
-pub returns-in-Restored : goal.returns-in-Restored
-returns-in-Restored c =
-    let x = c.restored_copy-restored in
+pub returns-in-Ok : goal.returns-in-Ok
+returns-in-Ok c =
     let a = c.args in
-    let two = writes-on c.put_labelled-a.ensures.writes c.put_bytes-b.ensures in
-    let three = writes-on two c.put_places-c.ensures.writes in
-    rw (restoring-done a.n a.bytes.now x.result x.ensures _ c.in-Restored.is) (simp append_assoc at (writes-on three
-    c.put_day.ensures.writes))
-
-pub returns-in-Refused : goal.returns-in-Refused
-returns-in-Refused c =
-    let x = c.restored_copy-restored in
-    let a = c.args in
-    rw (restoring-refused a.n a.bytes.now x.result x.ensures _ c.in-Refused.is) c.put_refused.ensures
+    let last = appends-on c.put_places.ensures.text c.put_day.ensures.text in
+    appends-as (sym (restoring-done a.n a.bytes.now c.restored_copy.result c.restored_copy.ensures c.in-Ok.restored c.in-Ok.is))
+    (appends-on c.put_labelled.ensures.text (appends-on c.put_byte.ensures last))

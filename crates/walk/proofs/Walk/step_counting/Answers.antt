@@ -4,17 +4,20 @@ use Rattle.walk.proofs.Walking.{going-low, going-high, going-within}
 use Rattle.walk.proofs.Tallying.{counting-refused, counting-passed}
 use Rattle.walk.proofs.Walk.step_counting.Goals as goal
 
+pub returns-in_err-ask : goal.returns-in_err-ask
+returns-in_err-ask c =
+    let q = c.in_err-ask.field-0.0 in
+    counting-refused _ _ _ _ _ c.ask.ensures q (search rules) _ (search rules)
+
 pub overflow_sub-first : goal.overflow_sub-first
-overflow_sub-first c = search (rules, going-low)
+overflow_sub-first c = going-low _ _ _ c.ask.ensures (search rules)
 
 pub overflow_sub-record_count : goal.overflow_sub-record_count
-overflow_sub-record_count c = search (rules, going-high)
+overflow_sub-record_count c = going-high _ _ _ c.ask.ensures (search rules) _ c.record_count.ensures
 
 pub count_from-progress-requires : goal.count_from-progress-requires
-count_from-progress-requires c = (search (rules, going-within), search rules, search rules)
+count_from-progress-requires c = (going-within _ _ _ c.ask.ensures (search rules) _ c.record_count.ensures _ (search rules), search rules)
 
-pub returns-in-Passed : goal.returns-in-Passed
-returns-in-Passed c = search (rules, counting-passed)
-
-pub returns-in-Refused : goal.returns-in-Refused
-returns-in-Refused c = search (rules, counting-refused)
+pub returns : goal.returns
+returns c =
+    counting-passed _ _ _ _ _ c.ask.ensures (search rules) _ c.record_count.ensures _ (search rules) c.count_from-progress.ensures

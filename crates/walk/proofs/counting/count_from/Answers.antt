@@ -1,21 +1,17 @@
 -- `walk::counting::count_from` meets its contract. Assumes nothing.
 use Rattle.field.proofs.Base.{rules, refl, ◌*◌, ◌^◌, arith}
-use Rattle.walk.proofs.Tallying.{counts-none, counts-within, counts-on, counts_end}
+use Rattle.walk.proofs.Tallying.{counts-none, counts-within, counts-on}
 use Rattle.walk.proofs.counting.count_from.Goals as goal
 
 pub loop-i-init : goal.loop-i-init
-loop-i-init c = (omega arith, refl, counts-none _ _ _ _)
+loop-i-init c = (refl, counts-none _ _ _ _)
 
 pub count_at-progress-requires : goal.count_at-progress-requires
 count_at-progress-requires c =
     let turn = c.loop-i in (
       omega arith,
-      counts-within _ _ turn.i c.args.s turn.progress _ _ turn.invariant.2 (3 * 2 ^ 61) (2 ^ 63) c.requires.2
-          (omega arith),
+      counts-within _ _ turn.i c.args.s turn.progress _ _ turn.invariant.1 (3 * 2 ^ 61) (2 ^ 63) c.requires.1 (omega arith),
     )
 
 pub loop-i-preserved : goal.loop-i-preserved
-loop-i-preserved c = (omega arith, search rules, search (rules, counts-on))
-
-pub returns : goal.returns
-returns c = search (rules, counts_end)
+loop-i-preserved c = (search rules, search (rules, counts-on))

@@ -1,10 +1,10 @@
 -- `walk::counting::put_restored` meets its contract: four items stand one behind the other. Assumes nothing.
 use Rattle.field.proofs.Base.{append_assoc}
-use Rattle.card.proofs.Writing.{writes-on}
+use Rattle.card.proofs.Writing.{appends-on}
 use Rattle.walk.proofs.counting.put_restored.Goals as goal
 
 pub returns : goal.returns
 returns c =
-    let two = writes-on c.put_item-a.ensures.writes c.put_item-b.ensures.writes in
-    let three = writes-on two c.put_item-c.ensures.writes in
-    simp append_assoc at (writes-on three c.put_item.ensures.writes)
+    let two = appends-on c.put_item.ensures.text c.put_item-2.ensures.text in
+    let three = appends-on two c.put_item-3.ensures.text in
+    simp append_assoc at (appends-on three c.put_item-4.ensures.text)

@@ -1,5 +1,0 @@
--- `code::restore_by_trials_within` meets its contract. Assumes nothing.
-use Rattle.code.proofs.restore_by_trials_within.Goals as goal
-
-pub returns : goal.returns
-returns c = c.restore_with.ensures

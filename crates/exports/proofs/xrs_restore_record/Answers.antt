@@ -1,7 +1,0 @@
--- `exports::xrs_restore_record` meets its contract. Assumes nothing.
-use Rattle.field.proofs.Base.{ap, ◌∙◌}
-use Rattle.exports.specs.Packed.{packed}
-use Rattle.exports.proofs.xrs_restore_record.Goals as goal
-
-pub returns : goal.returns
-returns c = record { answer = c.pack_repair.ensures ∙ ap packed c.restore_record.ensures.answer; written = c.restore_record.ensures.content }

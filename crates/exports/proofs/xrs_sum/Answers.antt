@@ -1,7 +1,0 @@
--- `exports::xrs_sum` meets its contract. Assumes nothing.
-use Rattle.field.proofs.Base.{ap, ◌∙◌}
-use Rattle.exports.specs.Packed.{packed}
-use Rattle.exports.proofs.xrs_sum.Goals as goal
-
-pub returns : goal.returns
-returns c = c.pack.ensures ∙ ap packed c.sum.ensures

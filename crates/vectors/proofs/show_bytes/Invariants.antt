@@ -1,9 +1,0 @@
--- `vectors::show_bytes` is safe and ends. Assumes nothing.
-use Rattle.field.proofs.Base.{◌-◌, length}
-use Rattle.vectors.proofs.show_bytes.Given as goal
-
-abbrev pub invariant-loop-i : goal.invariant-loop-i
-invariant-loop-i l = Unit {0}
-
-abbrev pub decreases-loop-i : goal.decreases-loop-i
-decreases-loop-i l = length l.bytes - l.i
