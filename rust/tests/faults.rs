@@ -199,6 +199,19 @@ fn calls_that_are_interrupted() {
     }
 }
 
+/// A write that takes nothing fails: in the words of what interrupted it before, or of no failure.
+#[test]
+fn writes_that_take_nothing() {
+    let folder = folder_with("card", &[]);
+    let writers = CALLS.into_iter().filter(|(name, _)| ["cardlist", "cardcheck", "cardstarts"].contains(name));
+    for (name, operands) in writers {
+        for (fault, why) in [(Fault::error("write", 1, 0), "Success"), (Fault::interrupts("write"), "Interrupted system call")] {
+            let ended = run(&folder, name, operands).fault(fault.most(0)).end();
+            assert_eq!(ended, failed(name, "", "standard output", why));
+        }
+    }
+}
+
 /// A call that would have to wait is not repeated.
 #[test]
 fn calls_that_would_wait() {
@@ -270,5 +283,14 @@ fn slow_pipes() {
 fn a_seek_that_fails() {
     for (word, folder, _) in conversions() {
         each("lseek", 2, EIO, || run(&folder, "cardconvert", &[word]), |_| failed_read("cardconvert", ""));
+    }
+}
+
+/// The system puts the card at another place than the one to which it was to go back.
+#[test]
+fn a_seek_that_misses() {
+    for (word, folder, _) in conversions() {
+        let ended = run(&folder, "cardconvert", &[word]).fault(Fault::misplaces(2)).end();
+        assert_eq!(ended, failed("cardconvert", "", "card", "Success"));
     }
 }

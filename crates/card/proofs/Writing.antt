@@ -5,6 +5,7 @@ use Rattle.field.proofs.Base.{length-drop, take_at, drop_at, drop-drop}
 use Prim.Native.Nat.{suc-le-suc}
 use native.Mathlib.Nat.{pow-suc, div-lt_iff_lt-mul}
 use Rattle.card.specs.Listing.{digits_from, decimal}
+use Rattle.std.specs.Borrow.{GName}
 use Rattle.card.specs.Text.{Written, Appends, Covers}
 
 -- ---- the digits of a number
@@ -95,9 +96,10 @@ module _ (bs xs l : List ℕ) (n : ℕ) (h : n + length xs ≤ length bs) (e : l
   put-long : length l ≡ length bs
   put-long = ap length put-split ∙ length-append (take n bs ++ xs) (drop (n + length xs) bs) ∙ simp length-drop (omega (arith, head-long))
 
-  pub appends-put : (v : Written) → record { bytes = take n bs; room = length bs - n; rest = drop n bs } ≡ v → (m : ℕ) → m ≡ n + length xs
-      → Appends v xs (record { bytes = take m l; room = length l - m; rest = drop m l })
-  appends-put v f m g = record {
+  pub appends-put : (v : Written) (a : GName) → record { bytes = take n bs; room = length bs - n; rest = drop n bs; lent = a } ≡ v → (m : ℕ) → m ≡ n + length xs
+      → Appends v xs (record { bytes = take m l; room = length l - m; rest = drop m l; lent = a })
+  appends-put v a f m g = record {
+    lent = ap (λ (w : Written). w.lent) f;
     bytes = ap (λ (k : ℕ). take k l) g ∙ put-front ∙ ap (λ (w : Written). w.bytes ++ xs) f;
     room = sym (ap (λ (w : Written). w.room) f) ∙ omega (arith, put-long, g, h);
     rest = ap (λ (k : ℕ). drop k l) g ∙ put-rest ∙ ap (λ (w : Written). drop (length xs) w.rest) f;
@@ -105,9 +107,10 @@ module _ (bs xs l : List ℕ) (n : ℕ) (h : n + length xs ≤ length bs) (e : l
 
 -- the byte b put over the one behind the first n
 pub covers-put : (bs l : List ℕ) (b n : ℕ) → n + 1 ≤ length bs → l ≡ take n bs ++ (b ∷ drop (n + 1) bs)
-    → (v : Written) → record { bytes = take n bs; room = length bs - n; rest = drop n bs } ≡ v → (m : ℕ) → m ≡ n
-    → Covers v (record { bytes = take m l; room = length l - m; rest = drop m l })
-covers-put bs l b n h e v f m g = record {
+    → (v : Written) (a : GName) → record { bytes = take n bs; room = length bs - n; rest = drop n bs; lent = a } ≡ v → (m : ℕ) → m ≡ n
+    → Covers v (record { bytes = take m l; room = length l - m; rest = drop m l; lent = a })
+covers-put bs l b n h e v a f m g = record {
+  lent = ap (λ (w : Written). w.lent) f;
   bytes =
       ap (λ (k : ℕ). take k l) g
       ∙ ap (take n) e

@@ -1,5 +1,5 @@
 -- Demand 3 at a record, and what is asked of card check, blank slots and listing, as statements; proofs/Demands.antt proves each under its
--- name in small letters. Where a statement has a `Repair` or a `CardCheck`, it is about every call with that contract. Assumes nothing.
+-- name in small letters. Where a statement has an answer, a `Result` or an `Option`, it is about every call with that contract. Assumes nothing.
 use Rattle.std.specs.Prelude.{None, Option, Some}
 use Rattle.std.specs.Prelude.{Ok, Result}
 use Rattle.field.specs.declared.Question.{Question}

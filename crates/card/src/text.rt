@@ -21,14 +21,14 @@ impl<'a> Model for Text<'a> {
 
     ghost Value = { Written };
 
-    ghost view = { λ t. record { bytes = take t.used t.bytes.now; room = length t.bytes.now - t.used; rest = drop t.used t.bytes.now } };
+    ghost view = { λ t. record { bytes = take t.used t.bytes.now; room = length t.bytes.now - t.used; rest = drop t.used t.bytes.now; lent = t.bytes.ghost_name } };
 
     ghost invariant = { λ t. t.used ≤ length t.bytes.now };
 }
 
 impl<'a> Text<'a> {
     pub fn new(bytes: &'a mut [u8]) -> Self
-        ensures { result ≡ record { bytes = []; room = length bytes.old; rest = bytes.old } }
+        ensures { result ≡ record { bytes = []; room = length bytes.old; rest = bytes.old; lent = bytes.entry.ghost_name } }
     {
         Text { bytes, used: 0 }
     }
@@ -38,6 +38,15 @@ impl<'a> Text<'a> {
         ensures { result.now ≡ self.now.bytes }
     {
         &self.bytes[..self.used]
+    }
+
+    // The lent memory: what is written, and behind it what stood there before.
+    pub fn into_lent(self) -> &'a mut [u8]
+        ensures same_reference { result.ghost_name ≡ self.entry.lent }
+        ensures content { result.now ≡ self.entry.bytes ++ self.entry.rest }
+    {
+        let Text { bytes, .. } = self;
+        bytes
     }
 
     // Writes one byte.

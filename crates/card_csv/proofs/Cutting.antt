@@ -1,13 +1,10 @@
 -- A line without its carriage return, and a text cut into columns. Assumes nothing.
-use Rattle.field.proofs.Base.{◌≡◌, refl, sym, ap, ◌∙◌, Bool, true, false, cond, List, [], ◌∷◌, ℕ, suc, ◌+◌, ◌-◌, ◌≤◌, ◌<◌, add-one, arith, eq-eqb}
-use Rattle.field.proofs.Base.{ne_eqb, eqb, eqb-true, eqb-false, length, get_or, take, drop, length-drop, take_all, not}
-use Rattle.field.proofs.Base.{◌<◌, ltb, ltb-true, ltb-false, drop_of_length-le}
+use Rattle.field.proofs.Base.{◌≡◌, refl, sym, ap, ◌∙◌, Bool, true, false, cond, List, [], ◌∷◌, ℕ, suc, ◌+◌, ◌-◌, ◌≤◌, ◌<◌, add-one, arith, ne_eqb}
+use Rattle.field.proofs.Base.{eqb, length, get_or, take, drop, length-drop, take_all, not, ltb, ltb-true, ltb-false, drop_of_length-le}
 use lib.Pointwise.{pointwise}
 use Rattle.std.proofs.Common.{Some, None, Option, MatchOption, Bor, ◌==◌, ◌&&◌, drop-cons}
 use Rattle.std.specs.Option.{unwrap_or}
-use Rattle.std.specs.List.{count_by, position, position_or_len}
-use Rattle.std.proofs.lemmas.List.Recursion.{is_count_by}
-use Rattle.code.specs.Demands.{occurs}
+use Rattle.std.specs.List.{position, position_or_len}
 use Rattle.card_csv.specs.Text.{separator}
 use Rattle.card_csv.specs.Reading.{carriage_return, trimmed, first_column, other_columns}
 
@@ -139,23 +136,3 @@ cut-none xs e = go (ltb (length (first_column xs)) (length xs)) refl (sym (comma
           sym (take_all (length (first_column xs)) xs long) ∙ first_taken xs,
           sym (drop_of_length-le xs long) ∙ others-none xs long,
         )
-
--- ---- the commas
-
-same_test : (x y : ℕ) → eqb x y ≡ eqb y x
-same_test x y = go (eqb x y) refl
-  where
-    go : (b : Bool) → eqb x y ≡ b → b ≡ eqb y x
-    go true t = sym (eq-eqb y x (sym (eqb-true x y t)))
-    go false t = sym (ne_eqb y x (λ e. eqb-false x y t (sym e)))
-
-pub commas_counted : (xs : List ℕ) → count_by (λ x. eqb x separator) xs ≡ occurs separator xs
-unfolding occurs
-commas_counted xs = sym (is_count_by (occurs separator) (λ x. eqb x separator) refl step xs)
-  where
-    counted : (n : ℕ) (b : Bool) → cond b 1 0 + n ≡ cond b (1 + n) n
-    counted n true = refl
-    counted n false = omega arith
-
-    step : (x : ℕ) (ys : List ℕ) → occurs separator (x ∷ ys) ≡ cond (eqb x separator) (1 + occurs separator ys) (occurs separator ys)
-    step x ys = ap (λ (b : Bool). cond b 1 0 + occurs separator ys) (same_test separator x) ∙ counted (occurs separator ys) (eqb x separator)

@@ -65,10 +65,11 @@ covers-on {a} {b} {c} {x} v w = record {
   bytes = w.bytes ∙ ap (λ (l : List ℕ). l ++ (x ∷ [])) v.bytes;
   room = sym v.room ∙ w.room;
   rest = w.rest ∙ v.rest;
+  lent = w.lent ∙ v.lent;
 }
 
 covers-twice : {a b c : Written} → Covers a b → Covers b c → Covers a c
-covers-twice v w = record { bytes = w.bytes ∙ v.bytes; room = w.room ∙ v.room; rest = w.rest ∙ v.rest }
+covers-twice v w = record { bytes = w.bytes ∙ v.bytes; room = w.room ∙ v.room; rest = w.rest ∙ v.rest; lent = w.lent ∙ v.lent }
 
 -- p and q say whether the first and the second digit stay
 pub digits-written : (n : ℕ) → n < 256 → {a b c d : Written} {p q : Bool} → p ≡ leb 100 n → q ≡ leb 10 n

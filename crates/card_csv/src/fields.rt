@@ -29,7 +29,13 @@ pub(crate) fn trimmed(line: &[u8]) -> &[u8]
 pub(crate) fn commas(text: &[u8]) -> usize
     ensures { result ≡ occurs separator text.now }
 {
-    text.iter().filter(|b| **b == b',').count()
+    let mut n = 0;
+    for b in text {
+        if *b == b',' {
+            n += 1;
+        }
+    }
+    n
 }
 
 // The place of the first such byte.

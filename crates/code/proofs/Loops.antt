@@ -1,10 +1,28 @@
--- Loops over lists, each by what holds before a turn and a law for each way on and out: filling an array, looking at one number after the
--- other. Parts of a list from some place on. Assumes nothing.
-use Rattle.field.proofs.Base.{◌≡◌, sym, ap, ap₂, ◌∙◌, subst, List, ◌++◌, append-nil, ℕ, zero, suc, ◌+◌, ◌-◌, ◌≤◌, ◌<◌}
-use Rattle.field.proofs.Base.{le_refl, add-zero, arith, length, get_or, set, take, drop, length-set, length-drop}
+-- Loops over lists, each by what holds before a turn and a law for each way on and out: copying, filling an array, looking at one number
+-- after the other. Parts of a list from some place on. Assumes nothing.
+use Rattle.field.proofs.Base.{◌≡◌, refl, sym, ap, ap₂, ◌∙◌, subst, List, [], ◌∷◌, ◌++◌, append-nil, ℕ, zero, suc, ◌+◌, ◌-◌, ◌≤◌, ◌<◌}
+use Rattle.field.proofs.Base.{le_refl, le_of_suc-le-suc, not-suc-le-zero, add-zero, add-one, arith, length, get_or, set, take, drop, length-set, length-drop}
 use Rattle.field.proofs.Base.{drop_of_length-le, take_all, take_at, get_or-set_same, get_or-set_other, ext_get_or}
 use borrow.Author.Count.{below_more}
 use Rattle.code.specs.inner.Block.{Run}
+
+-- ---- copying the list s over the list d of the same length: after i turns d is `take i s ++ drop i d`
+
+copy-suc : (d s : List ℕ) (i : ℕ) → i < length s → i < length d → set (take i s ++ drop i d) i (get_or s i 0) ≡ take (suc i) s ++ drop (suc i) d
+copy-suc d [] i h l = absurd (not-suc-le-zero h)
+copy-suc [] (y ∷ s) i h l = absurd (not-suc-le-zero l)
+copy-suc (x ∷ d) (y ∷ s) zero h l = refl
+copy-suc (x ∷ d) (y ∷ s) (suc i) h l = ap (λ (t : List ℕ). y ∷ t) (copy-suc d s i (le_of_suc-le-suc h) (le_of_suc-le-suc l))
+
+module _ (d s t : List ℕ) (i : ℕ) (e : t ≡ take i s ++ drop i d) where
+  pub copy-on : i < length s → length d ≡ length s → set t i (get_or s i 0) ≡ take (i + 1) s ++ drop (i + 1) d
+  copy-on h l =
+      ap (λ (u : List ℕ). set u i (get_or s i 0)) e
+      ∙ subst (λ (k : ℕ). set (take i s ++ drop i d) i (get_or s i 0) ≡ take k s ++ drop k d) (sym (add-one i)) (copy-suc d s i h (omega arith))
+
+  pub copy-end : length s ≤ i → length d ≡ length s → t ≡ s
+  copy-end h l =
+      e ∙ ap (λ (u : List ℕ). take i s ++ u) (drop_of_length-le d {i = i} (omega arith)) ∙ append-nil (take i s) ∙ take_all i s h
 
 -- ---- parts of a list
 

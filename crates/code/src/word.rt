@@ -164,12 +164,15 @@ pub(crate) fn masked(width: u8, sums: [u8; 5], p: Place, x: u8) -> [u8; 5]
     ]
 }
 
-// Copies between lent slices of the same length. No entry point: its callers come here with lengths that agree.
+// Copies between lent slices of the same length. No entry point: its callers come here with lengths that agree. Nothing tells a compiler that
+// slices lent by C lie apart, so that `copy_from_slice` would be a call of memmove, which an archive for C needs for nothing else.
 pub fn copy(to: &mut [u8], from: &[u8])
     requires { length to.old ≡ length from.now }
     ensures { to.new ≡ from.now }
 {
-    to.copy_from_slice(from);
+    for i in 0..from.len() {
+        to[i] = from[i];
+    }
 }
 
 // Writes the codeword of the data: the check symbols, then the data.

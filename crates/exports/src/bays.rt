@@ -23,8 +23,8 @@ pub fn write_counts(left: &mut [u16], counts: Rewrites)
     requires { length left.old ≡ counts_size }
     ensures { left.new ≡ lent_counts counts }
 {
-    left[..4].copy_from_slice(&counts.own);
-    left[4] = counts.common;
+    let [a, b, c, d] = counts.own;
+    left[..COUNTS].copy_from_slice(&[a, b, c, d, counts.common]);
 }
 
 // Is the bay below 4, and are there five counts?

@@ -36,6 +36,9 @@ and-true-right false b e = absurd (false≢true e)
 
 -- ---- questions 1 and 7, put to operands
 
+pub order-none : (m : ℕ) → m ≢ 3 → m ≢ 4 → m ≢ 5 → m ≢ 7 → order_of m ≡ 0
+order-none m a b c d = simp (ne_eqb m 3 a, ne_eqb m 4 b, ne_eqb m 5 c, ne_eqb m 7 d)
+
 -- what `order_of` tells of the width
 pub width-yes : (m q : ℕ) → q ≡ order_of m → q ≢ 0 → is_width m ≡ true
 width-yes m q e n = go (is_width m) e

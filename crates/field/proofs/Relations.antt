@@ -2,8 +2,8 @@
 -- t + a, may be added at each place t + b instead, and the row is one shorter. It holds for every value of the numbers that takes sums to
 -- sums, so for numbers of eight, four, two lanes and one, and for every list: y^7 = y^3 + 1 has two places, y^8 = y^7 + y^4 + 1 three. What
 -- is asked of the relation is that it holds at α^d, where d is the exponent of the sum times the lanes of a number. Assumes nothing.
-use Rattle.field.proofs.Base.{◌≡◌, refl, sym, ap, ap₂, ◌∙◌, List, [], ◌∷◌, ℕ, zero, suc, ◌+◌, ◌*◌, ◌≤◌, ◌<◌, not-suc-le-zero, le_of_suc-le-suc}
-use Rattle.field.proofs.Base.{ℕ_discrete, le_refl, arith, length, set, take, take_all, get_or-set_same, get_or-set_other}
+use Rattle.field.proofs.Base.{◌≡◌, refl, sym, ap, ap₂, ◌∙◌, subst, List, [], ◌∷◌, ℕ, zero, suc, ◌+◌, ◌-◌, ◌*◌, ◌≤◌, ◌<◌, not-suc-le-zero}
+use Rattle.field.proofs.Base.{ℕ_discrete, add-one, arith, length, set, length-set, drop, drop-cons, drop_of_length-le, get_or-set_same, get_or-set_other}
 use Rattle.field.specs.Polynomial.{add}
 use Rattle.field.specs.Field.{product, power, α}
 use Rattle.field.specs.inner.Operand.{arithmetic}
@@ -19,29 +19,45 @@ abbrev pub term : ℕ → ℕ → ℕ → ℕ
 term d p x = product 7 (power 7 α (d * p)) x
 
 -- what a number of value x counts at the places t + b together
-abbrev pub spread : ℕ → ℕ → ℕ → List ℕ → ℕ
+abbrev spread : ℕ → ℕ → ℕ → List ℕ → ℕ
 spread d t x bs = product 7 (power 7 α (d * t)) (product 7 (powers d bs) x)
 
 spread-none : (d t x : ℕ) → spread d t x [] ≡ 0
 unfolding powers
 spread-none d t x = ap (product 7 (power 7 α (d * t))) (F.zero-product x) ∙ F.product-zero _
 
-powers-more : (d j : ℕ) (bs : List ℕ) → j < length bs → powers d (take (suc j) bs) ≡ add (powers d (take j bs)) (power 7 α (d * at bs j))
+spread-more : (d t x b : ℕ) (bs : List ℕ) → add (term d (t + b) x) (spread d t x bs) ≡ spread d t x (b ∷ bs)
 unfolding powers
-powers-more d j [] h = absurd (not-suc-le-zero h)
-powers-more d zero (b ∷ bs) h = refl
-powers-more d (suc j) (b ∷ bs) h =
-    ap (λ (x : ℕ). add x (power 7 α (d * b))) (powers-more d j bs (le_of_suc-le-suc h))
-    ∙ F.add_assoc _ _ _ ∙ ap (add (powers d (take j bs))) (F.add_comm _ _) ∙ sym (F.add_assoc _ _ _)
-
-spread-more : (d t x j : ℕ) (bs : List ℕ) → j < length bs → add (spread d t x (take j bs)) (term d (t + at bs j) x) ≡ spread d t x (take (suc j) bs)
-spread-more d t x j bs h =
-    ap (add (spread d t x (take j bs))) (ap (λ (e : ℕ). product 7 (power 7 α e) x) exponent ∙ power-apply (d * t) (d * at bs j) x)
-    ∙ sym (F.product-add _ _ _)
-    ∙ ap (product 7 (power 7 α (d * t))) (sym (F.add-product _ _ x) ∙ ap (λ (y : ℕ). product 7 y x) (sym (powers-more d j bs h)))
+spread-more d t x b bs =
+    ap (λ (y : ℕ). add y (spread d t x bs)) (ap (λ (e : ℕ). product 7 (power 7 α e) x) exponent ∙ power-apply (d * t) (d * b) x)
+    ∙ F.add_comm _ _
+    ∙ sym (F.product-add _ _ _) ∙ ap (product 7 (power 7 α (d * t))) (sym (F.add-product _ _ x))
   where
-    exponent : d * (t + at bs j) ≡ d * t + d * at bs j
+    exponent : d * (t + b) ≡ d * t + d * b
     exponent = omega arith
+
+-- ---- a number x added to the one at place p, and to those at the places t + b
+
+abbrev pub put : ℕ → ℕ → List ℕ → List ℕ
+put p x ws = set ws p (add (at ws p) x)
+
+pub puts : ℕ → ℕ → List ℕ → List ℕ → List ℕ
+puts t x [] ws = ws
+puts t x (b ∷ bs) ws = puts t x bs (put (t + b) x ws)
+
+-- the places from j on: the one at j, then the rest; past the last none
+pub puts-next : (t x j : ℕ) (bs ws : List ℕ) → j < length bs
+    → puts t x (drop (j + 1) bs) (put (t + at bs j) x ws) ≡ puts t x (drop j bs) ws
+unfolding puts
+puts-next t x j bs ws h = rw (add-one, drop-cons bs j 0 h)
+
+pub puts-none : (t x j : ℕ) (bs ws : List ℕ) → length bs ≤ j → puts t x (drop j bs) ws ≡ ws
+unfolding puts
+puts-none t x j bs ws h = rw (drop_of_length-le bs h)
+
+-- each listed is below n
+abbrev pub Within : ℕ → List ℕ → Type 0
+Within n bs = (i : ℕ) → i < length bs → at bs i < n
 
 -- the numbers from n on are 0
 abbrev pub Cleared : ℕ → List ℕ → Type 0
@@ -84,35 +100,48 @@ module _ (v : ℕ → ℕ) (additive : Additive v) (d : ℕ) where
           ap₂ add (g (omega (arith, e))) (ap (λ (z : ℕ). term d n (v z)) (get_or-set_other ws p n y 0 e))
           ∙ F.add_assoc _ _ _ ∙ ap (add (value_total v d n ws)) (F.add_comm _ _) ∙ sym (F.add_assoc _ _ _)
 
-  -- a number of value x is added at one place more
-  pub fold-place : (n t x s j : ℕ) (bs ws : List ℕ) → j < length bs → t + at bs j < n → n ≤ length ws
-      → value_total v d n ws ≡ add s (spread d t (v x) (take j bs))
-      → value_total v d n (set ws (t + at bs j) (add (at ws (t + at bs j)) x)) ≡ add s (spread d t (v x) (take (j + 1) bs))
-  fold-place n t x s j bs ws h l m e =
-      total-added n (t + at bs j) x ws l (omega arith)
-      ∙ ap (λ (y : ℕ). add y (term d (t + at bs j) (v x))) e
-      ∙ F.add_assoc _ _ _ ∙ ap (add s) (spread-more d t (v x) j bs h ∙ ap (λ (k : ℕ). spread d t (v x) (take k bs)) next)
+  total-puts : (n t x : ℕ) (bs ws : List ℕ) → Within (n - t) bs → n ≤ length ws
+      → value_total v d n (puts t x bs ws) ≡ add (value_total v d n ws) (spread d t (v x) bs)
+  unfolding puts
+  total-puts n t x [] ws h l = sym (ap (add (value_total v d n ws)) (spread-none d t (v x)) ∙ F.add-zero _)
+  total-puts n t x (b ∷ bs) ws h l =
+      total-puts n t x bs (put (t + b) x ws) (λ i k. h (suc i) (omega arith)) (omega (arith, length-set ws (t + b) (add (at ws (t + b)) x)))
+      ∙ ap (λ (y : ℕ). add y (spread d t (v x) bs)) (total-added n (t + b) x ws below (omega (arith, below)))
+      ∙ F.add_assoc _ _ _ ∙ ap (add (value_total v d n ws)) (spread-more d t (v x) b bs)
     where
-      next : suc j ≡ j + 1
-      next = omega arith
+      below : t + b < n
+      below = omega (arith, h 0 (omega arith))
 
-  pub fold-none : (t x s : ℕ) → s ≡ add s (spread d t x [])
-  fold-none t x s = sym (ap (add s) (spread-none d t x) ∙ F.add-zero s)
-
-  -- THE LAW: the last number, at place n, goes to the places of the relation
-  pub fold-top : (a t n j : ℕ) (bs ws us : List ℕ) → Obeys a bs d → t + a ≡ n → j ≡ length bs
-      → value_total v d n us ≡ add (value_total v d n (set ws n 0)) (spread d t (v (at ws n)) (take j bs))
-      → value_total v d n us ≡ value_total v d (suc n) ws
-  fold-top a t n j bs ws us r h q e =
-      e
-      ∙ ap₂ add (total-before n n 0 ws (omega arith))
-      (ap (spread d t (v (at ws n))) (ap (λ (k : ℕ). take k bs) q ∙ take_all (length bs) bs (le_refl (length bs)))
-      ∙ ap (λ (y : ℕ). product 7 (power 7 α (d * t)) (product 7 y (v (at ws n)))) (sym r)
-      ∙ sym (power-apply (d * t) (d * a) (v (at ws n))) ∙ ap (λ (x : ℕ). product 7 (power 7 α x) (v (at ws n))) exponent)
-      ∙ sym (sum-suc n (λ i. term d i (v (at ws i))))
+  -- THE LAW: the last number goes to the places of the relation
+  pub fold-top : (a t : ℕ) (bs ws : List ℕ) → Obeys a bs d → Within a bs → t + a < length ws
+      → value_total v d (t + a) (puts t (at ws (t + a)) bs ws) ≡ value_total v d (suc (t + a)) ws
+  fold-top a t bs ws r h l =
+      total-puts (t + a) t (at ws (t + a)) bs ws (subst (λ (n : ℕ). Within n bs) size h) (omega arith)
+      ∙ ap (add (value_total v d (t + a) ws))
+      (ap (λ (y : ℕ). product 7 (power 7 α (d * t)) (product 7 y (v (at ws (t + a))))) (sym r)
+      ∙ sym (power-apply (d * t) (d * a) (v (at ws (t + a)))) ∙ ap (λ (x : ℕ). product 7 (power 7 α x) (v (at ws (t + a)))) exponent)
+      ∙ sym (sum-suc (t + a) (λ i. term d i (v (at ws i))))
     where
-      exponent : d * t + d * a ≡ d * n
-      exponent = omega (arith, ap (λ (x : ℕ). d * x) h)
+      size : a ≡ t + a - t
+      size = omega arith
+
+      exponent : d * t + d * a ≡ d * (t + a)
+      exponent = omega arith
+
+  -- as the code has it: the last number, at place n, is put to 0 first
+  pub fold-cleared : (a t n : ℕ) (bs ws : List ℕ) → Obeys a bs d → Within a bs → t + a ≡ n → n < length ws
+      → value_total v d n (puts t (at ws n) bs (set ws n 0)) ≡ value_total v d (suc n) ws
+  fold-cleared a t n bs ws r h e l =
+      total-puts n t (at ws n) bs (set ws n 0) within (omega (arith, length-set ws n 0))
+      ∙ ap (λ (y : ℕ). add y (spread d t (v (at ws n)) bs)) (total-before n n 0 ws (omega arith))
+      ∙ sym (total-puts n t (at ws n) bs ws within (omega arith))
+      ∙ subst (λ (m : ℕ). value_total v d m (puts t (at ws m) bs ws) ≡ value_total v d (suc m) ws) e (fold-top a t bs ws r h (omega arith))
+    where
+      size : a ≡ n - t
+      size = omega arith
+
+      within : Within (n - t) bs
+      within = subst (λ (m : ℕ). Within m bs) size h
 
   -- a number that is 0 counts nothing
   zero-value : v 0 ≡ 0

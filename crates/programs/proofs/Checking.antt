@@ -56,7 +56,7 @@ module _ (i : ℕ) (j : Input) (F : Fine i j) (g : j.going ≡ true) where
   searches-none out e h =
       searched-all F.came.bytes (omega (arith, F.read))
       (subst (λ (u : Search). Finds u out false out) F.came.content
-      (record { named = refl; text = record { bytes = sym (append-nil out.bytes); room = omega arith; rest = refl } })) e h
+      (record { named = refl; text = record { bytes = sym (append-nil out.bytes); room = omega arith; rest = refl; lent = refl } })) e h
 
   -- and one more batch
   module _ {old new : Written} {r : Searching} (B : SearchesBatch (i * batch_records) j old r new) where

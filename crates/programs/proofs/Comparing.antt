@@ -10,10 +10,9 @@ use Rattle.code.specs.Call.{repair}
 use Rattle.card.specs.Card.{record_numbered, is_accepted}
 use Rattle.card.specs.Slots.{record_count}
 use Rattle.card.proofs.Numbering.{number-high}
-use Rattle.code.specs.Demands.{occurs}
 use Rattle.sheet.specs.Sheet.{quarters}
 use Rattle.report.specs.Day.{Day, sheet, no_sheet, day_of}
-use Rattle.report.specs.Compare.{choice, sheet_signs, or_zero, symbols_at, compare_total, Compares}
+use Rattle.report.specs.Compare.{choice, symbols_at, compare_total, Compares}
 use Rattle.report.specs.declared.compare.Side.{Side}
 use Rattle.report.specs.inner.Parts.{day_in}
 use Rattle.report.specs.declared.day.Reading.{Reading}
@@ -148,12 +147,7 @@ module _ (a b : List ℕ) where
         → cond o.ok (compared_status (choice x.choice) x.equal) NotDone ≡ compare_status a b i j o
     status-compared i j o p =
         ap₂ (λ (u : Outcome) (k : ℕ). cond o.ok (compared_status u k) NotDone) C.answer C.equal
-        ∙ ap (λ (u : Status). cond o.ok u NotDone) (counted (slots_outcome a b) (occurs 0 (sheet_signs (symbols_at a 1) (symbols_at b 1))))
         ∙ sym (ap (λ (c : Bool). cond (c && o.ok) (compared_status (slots_outcome a b) (compare_total a 1 b 1 0)) NotDone) p)
-      where
-        counted : (u : Outcome) (k : ℕ) → compared_status u k ≡ compared_status u (or_zero u k)
-        counted (accepted w) k = refl
-        counted (refused q) k = refl
 
   -- they were refused
   module _ (q : Question) (C : Compares a 1 b 1 (Err q)) where

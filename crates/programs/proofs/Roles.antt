@@ -9,7 +9,7 @@ use Rattle.card.specs.Listing.{bytes_of}
 use Rattle.code.specs.Call.{same_bytes}
 use Rattle.programs.specs.declared.arguments.Role.{Role}
 use Rattle.programs.specs.declared.arguments.Role.TheVariants.{Name, Operand, Unknown}
-use Rattle.programs.specs.Arguments.{same_role, plain_role, argument_from, argument_at, Explained}
+use Rattle.programs.specs.Arguments.{same_role, plain_role, argument_from, Explained}
 use Rattle.programs.specs.Arguments.{reach_in, is_standard, is_device}
 use Rattle.programs.specs.declared.arguments.Asked.{Asked}
 use Rattle.programs.specs.declared.arguments.Asked.TheVariants.{Run, Help, Version, Wrong, Missing}
@@ -64,26 +64,26 @@ device_named path =
 -- ---- places
 
 -- the place is looked for among the arguments from i on, of which `left` more make n
-module _ (roles : List Role) (role : Role) (n left i : ℕ) (inv : argument_at roles role n ≡ argument_from i (drop i roles) role left) where
+module _ (roles : List Role) (role : Role) (n left i : ℕ) (inv : argument_from 0 roles role n ≡ argument_from i (drop i roles) role left) where
   module _ (h : i < length roles) where
-    step : argument_at roles role n ≡ argument_from i (get_or roles i Name ∷ drop (i + 1) roles) role left
+    step : argument_from 0 roles role n ≡ argument_from i (get_or roles i Name ∷ drop (i + 1) roles) role left
     step = inv ∙ rw (add-one, drop-cons roles i Name)
 
-    pub place_found : true ≡ same_role (get_or roles i Name) role → left ≡ 1 → Some i ≡ argument_at roles role n
+    pub place_found : true ≡ same_role (get_or roles i Name) role → left ≡ 1 → Some i ≡ argument_from 0 roles role n
     unfolding argument_from
     place_found s l = sym (step ∙ rw (sym s, eq-eqb left 1 l))
 
     pub place-counted : true ≡ same_role (get_or roles i Name) role → (left ≡ 1 → ⊥) → (next : ℕ) → next ≡ left - 1
-        → argument_at roles role n ≡ argument_from (i + 1) (drop (i + 1) roles) role next
+        → argument_from 0 roles role n ≡ argument_from (i + 1) (drop (i + 1) roles) role next
     unfolding argument_from
     place-counted s l next d = step ∙ rw (sym s, ne_eqb left 1 l, d)
 
     pub place-passed : false ≡ same_role (get_or roles i Name) role → (next : ℕ) → next ≡ left
-        → argument_at roles role n ≡ argument_from (i + 1) (drop (i + 1) roles) role next
+        → argument_from 0 roles role n ≡ argument_from (i + 1) (drop (i + 1) roles) role next
     unfolding argument_from
     place-passed s next d = step ∙ rw (sym s, d)
 
-  pub place_none : length roles ≤ i → None ≡ argument_at roles role n
+  pub place_none : length roles ≤ i → None ≡ argument_from 0 roles role n
   unfolding argument_from
   place_none h = sym (inv ∙ rw (drop_of_length-le roles h))
 

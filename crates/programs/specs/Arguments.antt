@@ -1,6 +1,6 @@
 -- What a program makes of its arguments: each has a role, by its text and by the role of the one before it, and the roles decide. Assumes
 -- nothing.
-use Rattle.std.specs.Prelude.{◌≡◌, Bool, true, false, cond, ◌&&◌, List, [], ◌∷◌, ℕ, ◌+◌, ◌-◌, eqb, ltb, length, get_or, take}
+use Rattle.std.specs.Prelude.{◌≡◌, Bool, true, false, cond, ◌&&◌, List, [], ◌∷◌, ℕ, zero, suc, ◌+◌, ◌-◌, eqb, ltb, length, get_or, take}
 use Rattle.std.specs.Prelude.{Option, None, Some, is_some, is_none, Result, Ok, Err}
 use Rattle.std.specs.Option.{option_or}
 use denote.Enum.Bare.{sameb}
@@ -55,9 +55,15 @@ argument_from at [] role n = None
 argument_from at (x ∷ xs) role n =
     cond (same_role x role) (cond (eqb n 1) (Some at) (argument_from (at + 1) xs role (n - 1))) (argument_from (at + 1) xs role n)
 
--- among all arguments, of which argument 0 is the program's name
+-- argument 0 is the program's name: whatever role it has, it is none that is looked for
+abbrev pub behind_name : Option ℕ → Option ℕ
+behind_name None = None
+behind_name (Some zero) = None
+behind_name (Some (suc i)) = Some (suc i)
+
+-- among all arguments
 abbrev pub argument_at : List Role → Role → ℕ → Option ℕ
-argument_at roles role n = argument_from 0 roles role n
+argument_at roles role n = behind_name (argument_from 0 roles role n)
 
 -- an option that the program does not take: none takes an unknown one
 abbrev pub untaken : Bool → Role → List Role → Option ℕ
@@ -72,7 +78,7 @@ takes_value role = false
 
 -- an option at the end, whose value is missing
 abbrev pub dangling : List Role → Option ℕ
-dangling roles = cond (takes_value (get_or roles (length roles - 1) Name)) (Some (length roles - 1)) None
+dangling roles = behind_name (cond (takes_value (get_or roles (length roles - 1) Name)) (Some (length roles - 1)) None)
 
 -- the first argument that is wrong: an unknown option, one that the program does not take, an operand too many, an option that stands twice,
 -- an option without its value

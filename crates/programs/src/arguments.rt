@@ -3,7 +3,7 @@ ghost use Rattle.std.specs.Prelude.{◌≡◌, true, false, ◌≤◌, length, I
 ghost use Rattle.card.specs.Record.{erasure_bytes};
 ghost use Rattle.card.specs.Conversion.{old_erasure_bytes};
 ghost use Rattle.report.specs.Window.{is_window};
-ghost use Rattle.programs.specs.Arguments.{own_role, role_of, argument_at, untaken, dangling, wrong_place, too_few, asked_of};
+ghost use Rattle.programs.specs.Arguments.{own_role, role_of, argument_from, argument_at, untaken, dangling, wrong_place, too_few, asked_of};
 ghost use Rattle.programs.specs.Arguments.{edition_of, reach_in, window_chosen, is_standard, is_device};
 
 use crate::files::buffer;
@@ -105,9 +105,19 @@ fn role_of(before: Role, text: &[u8]) -> Role
     }
 }
 
-// Where the n-th argument of the role stands, counted from 1.
+// Where the n-th argument of the role stands, counted from 1; none stands in the place of the program's name.
 pub fn place_of(roles: &[Role], role: Role, n: usize) -> Option<usize>
     ensures { result ≡ argument_at roles.now role n }
+{
+    match place_among(roles, role, n) {
+        Some(0) => None,
+        place => place,
+    }
+}
+
+// The same, the place of the program's name with the others.
+fn place_among(roles: &[Role], role: Role, n: usize) -> Option<usize>
+    ensures { result ≡ argument_from 0 roles.now role n }
 {
     let mut left = n;
     for (i, &found) in roles.iter().enumerate() {
@@ -137,7 +147,7 @@ fn dangling_at(roles: &[Role]) -> Option<usize>
     ensures { result ≡ dangling roles.now }
 {
     match roles {
-        [.., Role::OutOption | Role::ReachOption] => Some(roles.len() - 1),
+        [_, .., Role::OutOption | Role::ReachOption] => Some(roles.len() - 1),
         _ => None,
     }
 }
@@ -195,7 +205,9 @@ pub(crate) fn argument_or<'a>(rt: &HostRuntime, i: usize, buf: &'a mut [u8]) -> 
 }
 
 // The same, and nothing where it is missing or longer than the buffer.
-pub(crate) fn argument<'a>(rt: &HostRuntime, i: usize, buf: &'a mut [u8]) -> &'a [u8] {
+pub(crate) fn argument<'a>(rt: &HostRuntime, i: usize, buf: &'a mut [u8]) -> &'a [u8]
+    ensures { length result.now ≤ length buf.old }
+{
     argument_or(rt, i, buf).unwrap_or(&[])
 }
 

@@ -1,5 +1,5 @@
-// Restores a card: the restored card, of the same length, on standard output or in a file of its own, and one line on standard error. The walk
-// and its counts are the walk crate's; here the card is read, restored and written batch by batch.
+// Restores a card: the restored card, of the same length, on standard output or in a file of its own, and one line on standard error. How
+// a part of it is restored and counted is the walk crate's; here the card is read and written batch by batch.
 ghost use Rattle.std.specs.Prelude.{◌≡◌, true, length, ◌^◌};
 ghost use Rattle.walk.specs.Restored.{restored_up_to};
 ghost use Rattle.programs.specs.Stream.{Wrote};
@@ -38,7 +38,7 @@ pub struct Restored {
     pub output: Output,
 }
 
-// Restores some slots by a walk of their own, and writes them.
+// Restores some slots, goes on with the counts, and writes them.
 fn restore_part(
     rt: &HostRuntime,
     to: &Target,

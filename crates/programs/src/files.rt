@@ -95,7 +95,7 @@ fn put_temporary<'a>(rt: &HostRuntime, buf: &'a mut [u8], name: &[u8]) -> &'a [u
     text.put_byte(b'.');
     text.put_decimal(process_number(rt));
     let n = text.as_bytes().len();
-    &buf[..n]
+    &text.into_lent()[..n]
 }
 
 // The number of this process.

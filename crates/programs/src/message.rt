@@ -47,9 +47,13 @@ pub fn say(rt: &HostRuntime, text: &[u8]) {
 }
 
 // The program's name, which each message begins with.
+#[tactic(auto, using(card::proofs::Writing::appending))]
 pub fn say_name(rt: &HostRuntime, p: Program) {
-    say(rt, p.name());
-    say(rt, b": ");
+    let mut out = [0u8; 13];
+    let mut text = Text::new(&mut out);
+    text.put_bytes(p.name());
+    text.put_bytes(b": ");
+    say(rt, text.as_bytes());
 }
 
 // Says that a call on the file has failed, and why.
@@ -109,9 +113,8 @@ pub(crate) fn say_decimal(rt: &HostRuntime, n: u64) {
 
 // Says how the program is called: the first line of its help.
 pub fn say_usage(rt: &HostRuntime, p: Program) {
-    if let Some((usage, _)) = p.help().split_once('\n') {
+    if let Some(usage) = p.help().split_inclusive('\n').next() {
         say(rt, usage.as_bytes());
-        say(rt, b"\n");
     }
 }
 

@@ -6,7 +6,7 @@ ghost use Rattle.programs.specs.Stream.{unwritten, Wrote, is_well};
 use crate::files::{Target, standard_output};
 use crate::input::Input;
 use crate::message::{Program, say_failure};
-use crate::stream::write_all;
+use crate::stream::{no_cause, write};
 
 // How many bytes were written in all, and whether every write succeeded.
 #[derive(Clone, Copy)]
@@ -39,18 +39,23 @@ pub fn write_part(rt: &HostRuntime, to: &Target, o: Output, part: &[u8]) -> Outp
     requires { (o.ok ≡ true) × (o.written + length part.now < 2 ^ 64) }
     ensures { Wrote o (length part.now) result }
 {
-    match write_all(rt, &to.stream, part) {
-        Ok(()) => Output {
-            written: o.written + part.len() as u64,
-            ok: true,
-        },
-        Err(e) => {
-            say_failure(rt, to.program, to.name, e);
-            Output {
-                written: o.written,
-                ok: false,
+    let mut cause = no_cause();
+    let mut done = 0;
+    while done < part.len() {
+        match write(rt, &to.stream, &part[done..], &mut cause) {
+            Ok(n) => done += n,
+            Err(e) => {
+                say_failure(rt, to.program, to.name, e);
+                return Output {
+                    written: o.written,
+                    ok: false,
+                };
             }
         }
+    }
+    Output {
+        written: o.written + done as u64,
+        ok: true,
     }
 }
 

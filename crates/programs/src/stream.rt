@@ -38,6 +38,11 @@ const OUTPUT: &str = "/proc/self/fd/1";
 
 const ABOUT_INPUT: &str = "/proc/self/fdinfo/0";
 
+// Before the first call that fails.
+pub(crate) fn no_cause() -> io::Error {
+    io::Error::from_raw_os_error(0)
+}
+
 // No such descriptor is open.
 fn not_open() -> io::Error {
     io::Error::from_raw_os_error(EBADF)
@@ -83,13 +88,33 @@ fn read_once(rt: &HostRuntime, from: &Stream, buf: &mut [u8]) -> io::Result<usiz
     }
 }
 
-// Writes all of the part; where a write fails some of it may be written.
-pub(crate) fn write_all(rt: &HostRuntime, to: &Stream, part: &[u8]) -> io::Result<()> {
+// One write, repeated where a signal interrupted it: how many bytes were taken, some at least. One that takes none fails by the cause before it.
+pub(crate) fn write(
+    rt: &HostRuntime,
+    to: &Stream,
+    part: &[u8],
+    cause: &mut io::Error,
+) -> io::Result<usize>
+    ensures { IfOk result (λ n. (1 ≤ n) × (n ≤ length part.now)) }
+{
+    for _ in 0..MOST_TRIES {
+        match write_once(rt, to, part) {
+            Ok(0) => return Err(*cause),
+            Err(e) if e.kind() == io::ErrorKind::Interrupted => *cause = e,
+            answer => return answer,
+        }
+    }
+    Err(io::Error::from_raw_os_error(EINTR))
+}
+
+fn write_once(rt: &HostRuntime, to: &Stream, part: &[u8]) -> io::Result<usize>
+    ensures { IfOk result (λ n. n ≤ length part.now) }
+{
     match to {
-        Stream::StandardOutput => Write::write_all(&mut rt.stdout(), part),
+        Stream::StandardOutput => rt.write_some(part),
         Stream::Named(file) => {
             let mut output = file;
-            output.write_all(part)
+            output.write(part)
         }
         _ => Err(not_open()),
     }
@@ -136,15 +161,18 @@ fn place_said(text: &[u8]) -> Option<u64> {
     line.strip_prefix("pos:")?.trim().parse().ok()
 }
 
-// Goes back to this place. Standard input is opened again for that.
+// Goes back to this place; that the system puts the stream at another has no cause of its own. Standard input is opened again for that.
 pub(crate) fn return_to(rt: &HostRuntime, s: &mut Stream, at: u64) -> io::Result<()> {
     if matches!(s, Stream::StandardInput) {
         *s = Stream::Named(open_again(rt)?);
     }
     match s {
         Stream::Named(file) => {
-            file.seek(SeekFrom::Start(at))?;
-            Ok(())
+            if file.seek(SeekFrom::Start(at))? == at {
+                Ok(())
+            } else {
+                Err(no_cause())
+            }
         }
         _ => Err(not_open()),
     }

@@ -1,7 +1,7 @@
 -- Two day sheets side by side. Assumes nothing.
 use Rattle.std.proofs.Common.{Ok, Err, Result}
-use Rattle.field.proofs.Base.{◌≡◌, refl, sym, ap, ap₂, ◌∙◌, subst, Bool, true, false, cond, ◌&&◌, List, [], ◌∷◌, ℕ, zero, suc, ◌+◌, ◌<◌, add-one}
-use Rattle.field.proofs.Base.{arith, eq-eqb, ne_eqb, eqb-true, eqb-false, eqb, length, get_or, take, drop, drop-cons, get_or-take, length-take-le}
+use Rattle.field.proofs.Base.{◌≡◌, refl, sym, ap, ap₂, ◌∙◌, subst, Bool, true, false, cond, ◌&&◌, List, [], ◌∷◌, ℕ, zero, suc, ◌+◌, ◌<◌, ◌≤◌, add-one}
+use Rattle.field.proofs.Base.{arith, eq-eqb, ne_eqb, eqb-true, eqb-false, eqb, length, get_or, take, drop, drop-cons, drop_of_length-le, get_or-take, length-take-le}
 use Rattle.std.specs.Prelude.{count_by, ◌==◌}
 use Rattle.std.specs.List.{fold}
 use Rattle.std.proofs.Common.{zero-add}
@@ -17,7 +17,7 @@ use Rattle.sheet.specs.Sheet.{quarters, sheet_size}
 use Rattle.sheet.proofs.Asking.{after-accepted}
 use Rattle.report.specs.Day.{has_record, slot_of, Day, sheet, day_of, day_symbols}
 use Rattle.report.specs.inner.Parts.{day_in, PartFrom}
-use Rattle.report.specs.Compare.{sign_of, signs_of, sheet_signs, compared_of, choice, ShowsSheets, Shows}
+use Rattle.report.specs.Compare.{sign_of, signs_of, sheet_signs, compared_of, shown_signs, choice, ShowsSheets, Shows}
 use Rattle.report.specs.Compare.{numbers_asked, symbols_at, compare_of, Compares, part_of, HandsBack, into_asked, into_of, ComparesInto}
 use Rattle.report.specs.declared.day.Reading.{Reading}
 use Rattle.report.specs.declared.compare.Side.{Side}
@@ -82,6 +82,18 @@ module _ (s : ℕ) (xs : List ℕ) (i : ℕ) where
     module _ (h : i < length xs) (n' : ℕ) where
       counted : (b : Bool) → eqb s (get_or xs i 0) ≡ b → n' ≡ n + cond b 1 0 → n' + occurs s (drop (i + 1) xs) ≡ occurs s xs
       counted b t f = omega (arith, e, f, occurs-step h ∙ ap (λ (c : Bool). cond c 1 0 + occurs s (drop (i + 1) xs)) t)
+
+      pub occurs-yes : get_or xs i 0 ≡ s → n' ≡ n + 1 → n' + occurs s (drop (i + 1) xs) ≡ occurs s xs
+      occurs-yes t f = counted true (eq-eqb s (get_or xs i 0) (sym t)) f
+
+      pub occurs-no : (get_or xs i 0 ≡ s → ⊥) → n' ≡ n → n' + occurs s (drop (i + 1) xs) ≡ occurs s xs
+      occurs-no t f = counted false (ne_eqb s (get_or xs i 0) (λ z. t (sym z))) (omega (arith, f))
+
+    pub occurs-end : length xs ≤ i → n ≡ occurs s xs
+    unfolding occurs
+    occurs-end h =
+        let none : occurs s (drop i xs) ≡ 0 = ap (occurs s) (drop_of_length-le xs h) in
+        omega (arith, e, none)
 
 -- ---- two sheets and their outcome
 
@@ -187,10 +199,15 @@ module _ (c : List ℕ) (i : ℕ) (d : List ℕ) (j : ℕ) (old : List ℕ) (v :
         let o : compare_of c i d j ≡ into_of c i d j old = into-is (Ok tt) e in
         record {
           shows = subst (λ (u : Outcome). ShowsSheets u (symbols_at c i) (symbols_at d j) y) o S;
-          written = g ∙ S.signs ∙ accepted-signs y.choice ∙ ap (λ (u : Outcome). on_accept u old (sheet_signs (symbols_at c i) (symbols_at d j))) (S.answer ∙ o);
+          written =
+              g
+              ∙ S.signs
+              ∙ ap (λ (u : Outcome). shown_signs u (symbols_at c i) (symbols_at d j)) (sym S.answer)
+              ∙ accepted-signs y.choice
+              ∙ ap (λ (u : Outcome). on_accept u old (sheet_signs (symbols_at c i) (symbols_at d j))) (S.answer ∙ o);
         }
       where
-        accepted-signs : (w : Side) → sheet_signs (symbols_at c i) (symbols_at d j) ≡ on_accept (choice w) old (sheet_signs (symbols_at c i) (symbols_at d j))
+        accepted-signs : (w : Side) → shown_signs (choice w) (symbols_at c i) (symbols_at d j) ≡ on_accept (choice w) old (sheet_signs (symbols_at c i) (symbols_at d j))
         accepted-signs Controller = refl
         accepted-signs Cupboard = refl
 

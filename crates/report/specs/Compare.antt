@@ -68,13 +68,13 @@ abbrev pub choice : Side → Outcome
 choice Controller = accepted 1
 choice Cupboard = accepted 2
 
--- the comparison of the sheets ss and ts: the choice, the signs, and their totals
+-- the comparison shows this outcome of the sheets ss and ts: the choice, the signs, and their totals
 pub record ShowsSheets (o : Outcome) (ss ts : List ℕ) (x : Comparison) : Type 0 where
   pub answer : choice x.choice ≡ o
-  pub signs : x.signs ≡ sheet_signs ss ts
-  pub equal : x.equal ≡ occurs 0 (sheet_signs ss ts)
-  pub controller : x.controller ≡ occurs 1 (sheet_signs ss ts)
-  pub cupboard : x.cupboard ≡ occurs 2 (sheet_signs ss ts)
+  pub signs : x.signs ≡ shown_signs o ss ts
+  pub equal : x.equal ≡ shown_total o ss ts 0
+  pub controller : x.controller ≡ shown_total o ss ts 1
+  pub cupboard : x.cupboard ≡ shown_total o ss ts 2
 
 -- the answer shows this outcome of the sheets ss and ts
 abbrev pub Shows : Outcome → List ℕ → List ℕ → Result Comparison Question → Type 0
@@ -102,7 +102,7 @@ compare_signs c i d j = shown_signs (compare_of c i d j) (symbols_at c i) (symbo
 abbrev pub compare_total : List ℕ → ℕ → List ℕ → ℕ → ℕ → ℕ
 compare_total c i d j s = shown_total (compare_of c i d j) (symbols_at c i) (symbols_at d j) s
 
--- the promise of compare: the outcome, and of two sheets compare_signs, and compare_total of each sign
+-- the promise of compare: the outcome, compare_signs, and compare_total of each sign
 abbrev pub Compares : List ℕ → ℕ → List ℕ → ℕ → Result Comparison Question → Type 0
 Compares c i d j x = Shows (compare_of c i d j) (symbols_at c i) (symbols_at d j) x
 

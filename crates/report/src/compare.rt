@@ -4,7 +4,7 @@ ghost use Rattle.field.specs.Question.{accepted};
 ghost use Rattle.code.specs.Demands.{occurs};
 ghost use Rattle.sheet.specs.Sheet.{quarters, sheet_size};
 ghost use Rattle.report.specs.Day.{sheet};
-ghost use Rattle.report.specs.inner.Parts.{PartFrom};
+ghost use Rattle.report.specs.inner.Parts.{choice_in, PartFrom};
 ghost use Rattle.report.specs.Compare.{sign_of, sheet_signs, same_day, chosen_of, compared_of, choice, Shows, TellsPart};
 ghost use Rattle.report.specs.Compare.{numbers_asked, Compares, ComparesSheets, into_asked, ComparesInto};
 
@@ -75,7 +75,13 @@ fn count(signs: &[u8], s: u8) -> u8
     requires { length signs.now ≤ quarters }
     ensures { result ≡ occurs s signs.now }
 {
-    signs.iter().filter(|x| **x == s).count() as u8
+    let mut n = 0;
+    for x in signs {
+        if *x == s {
+            n += 1;
+        }
+    }
+    n
 }
 
 // Are pump and date the same?
@@ -146,19 +152,20 @@ pub fn compare<'a>(
     side_by_side(a, b)
 }
 
-// The slot of the chosen sheet.
+// The slot of the sheet that a comparison chooses; nothing on a refusal.
 pub fn chosen_part<'a>(
     controller: &'a [u8],
     i: usize,
     cupboard: &'a [u8],
     j: usize,
-    side: Side,
+    side: Result<Side, Question>,
 ) -> &'a [u8]
-    ensures { PartFrom (choice side) controller.entry i cupboard.entry j result }
+    ensures { PartFrom (choice_in side) controller.entry i cupboard.entry j result }
 {
     match side {
-        Side::Controller => slot(controller, i),
-        Side::Cupboard => slot(cupboard, j),
+        Ok(Side::Controller) => slot(controller, i),
+        Ok(Side::Cupboard) => slot(cupboard, j),
+        Err(_) => &controller[..0],
     }
 }
 
@@ -172,7 +179,7 @@ pub fn compare_sheets<'a>(
     ensures { ComparesSheets controller.entry i cupboard.entry j result }
 {
     let comparison = compare(controller, i, cupboard, j)?;
-    let part = chosen_part(controller, i, cupboard, j, comparison.choice);
+    let part = chosen_part(controller, i, cupboard, j, Ok(comparison.choice));
     Ok(Compared { part, comparison })
 }
 

@@ -117,7 +117,7 @@ pub fn put_comparison<'a>(out: &mut Text, x: Comparison, a: &'a [u8], b: &'a [u8
 {
     let controller = read_day(a).unwrap();
     let cupboard = read_day(b).unwrap();
-    let chosen = read_day(chosen_part(a, 1, b, 1, x.choice)).unwrap();
+    let chosen = read_day(chosen_part(a, 1, b, 1, Ok(x.choice))).unwrap();
     put_sheets(
         out,
         x,

@@ -88,6 +88,11 @@ impl Fault {
         Fault::before(call, at, "kill -9 $PPID")
     }
 
+    /// The lseek of this number answers a place that is one byte behind.
+    pub fn misplaces(at: usize) -> Fault {
+        Fault(vec![("FAULT_CALL", "lseek".into()), ("FAULT_AT", at.to_string()), ("FAULT_ADD", "1".into())])
+    }
+
     /// And each read and write moves at most so many bytes.
     pub fn most(mut self, bytes: usize) -> Fault {
         self.0.push(("FAULT_MOST", bytes.to_string()));

@@ -11,4 +11,4 @@ returns c =
     let b = c.args.b in
     let room = ap (λ (w : Written). w.room) c.self.view_is in
     appends-put t.bytes.now (b ∷ []) _ t.used (omega (arith, room, c.requires, c.self.invariant)) (set_split t.bytes.now t.used b (omega (arith, room, c.requires)) ∙ rw (add-one t.used) refl)
-    c.args.self.now c.self.view_is _ refl
+    c.args.self.now _ c.self.view_is _ refl

@@ -11,7 +11,7 @@ returns-clause-stays c kept =
     let b = c.args.b in
     let room = ap (λ (w : Written). w.room) c.self.view_is in
     appends-put t.bytes.now (b ∷ []) _ t.used (omega (arith, room, c.requires, c.self.invariant)) (set_split t.bytes.now t.used b (omega (arith, room, c.requires)) ∙ rw (add-one t.used) refl)
-    c.args.self.now c.self.view_is _ (rw kept refl)
+    c.args.self.now _ c.self.view_is _ (rw kept refl)
 
 pub returns-clause-covered : goal.returns-clause-covered
 returns-clause-covered c left =
@@ -19,4 +19,4 @@ returns-clause-covered c left =
     let b = c.args.b in
     let room = ap (λ (w : Written). w.room) c.self.view_is in
     covers-put t.bytes.now _ b t.used (omega (arith, room, c.requires, c.self.invariant)) (set_split t.bytes.now t.used b (omega (arith, room, c.requires)) ∙ rw (add-one t.used) refl)
-    c.args.self.now c.self.view_is _ (rw left (add-zero t.used))
+    c.args.self.now _ c.self.view_is _ (rw left (add-zero t.used))

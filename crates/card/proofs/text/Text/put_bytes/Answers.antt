@@ -11,4 +11,4 @@ returns c =
     appends-put t.bytes.now c.args.text.now _ t.used (omega (arith, room, c.requires, c.self.invariant))
     (ap₂ (λ (x r : List ℕ). take t.used t.bytes.now ++ (x ++ r)) c.copy_from_slice.ensures.after
     (ap (λ (k : ℕ). drop k (drop t.used t.bytes.now)) (omega arith) ∙ sym (rest_both t.used (length c.args.text.now) t.bytes.now)))
-    c.args.self.now c.self.view_is _ refl
+    c.args.self.now _ c.self.view_is _ refl

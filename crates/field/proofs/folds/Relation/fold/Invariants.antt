@@ -1,10 +1,9 @@
 -- `field::folds::Relation::fold` meets its contract. The invariants: for each value that takes sums to sums, and each d at which the relation
 -- holds, the weighted sum over the numbers below top is that over the sixteen at the start, and the numbers from there on are 0; and while the
--- number x is spread, it counts at the places so far. Assumes nothing.
-use Rattle.field.proofs.Base.{◌≡◌, ℕ, ◌-◌, length, take}
-use Rattle.field.specs.Polynomial.{add}
+-- number x is spread, the places that are left make of the row what all make of it at the start. Assumes nothing.
+use Rattle.field.proofs.Base.{◌≡◌, ℕ, ◌-◌, length, drop}
 use Rattle.field.specs.inner.Folds.{Additive, Obeys, value_total}
-use Rattle.field.proofs.Relations.{spread, Cleared}
+use Rattle.field.proofs.Relations.{puts, Cleared}
 use Rattle.field.proofs.folds.Relation.fold.Given as goal
 
 abbrev pub invariant-loop-top : goal.invariant-loop-top
@@ -14,6 +13,6 @@ invariant-loop-top g l =
 
 abbrev pub invariant-loop-place : goal.invariant-loop-place
 invariant-loop-place g l =
+    let t = l.top - l.self.degree in
     (length l.w ≡ 16) × Cleared l.top l.w
-    × ((v : ℕ → ℕ) (d : ℕ) → Additive v
-    → value_total v d l.top l.w ≡ add (value_total v d l.top l.initial.w) (spread d (l.top - l.self.degree) (v l.x) (take l.place-index l.self.places)))
+    × (puts t l.x (drop l.place-index l.self.places) l.w ≡ puts t l.x l.self.places l.initial.w)

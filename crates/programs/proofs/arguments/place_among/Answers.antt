@@ -1,8 +1,8 @@
--- `programs::arguments::place_of` meets its contract. Assumes nothing.
+-- `programs::arguments::place_among` meets its contract. Assumes nothing.
 use Rattle.field.proofs.Base.{rules, ◌∙◌}
 use Rattle.programs.proofs.Roles.{place_found, place-counted, place-passed, place_none}
-use Rattle.programs.proofs.arguments.place_of.Goals.{then-eq+else-left-eq1, else-eq}
-use Rattle.programs.proofs.arguments.place_of.Goals as goal
+use Rattle.programs.proofs.arguments.place_among.Goals.{then-eq+else-left-eq1, else-eq}
+use Rattle.programs.proofs.arguments.place_among.Goals as goal
 
 pub returns-then-left-eq1 : goal.returns-then-left-eq1
 returns-then-left-eq1 c =

@@ -1,7 +1,0 @@
--- `programs::arguments::place_of` meets its contract. Assumes nothing.
-use Rattle.field.proofs.Base.{◌≡◌, drop}
-use Rattle.programs.specs.Arguments.{argument_from, argument_at}
-use Rattle.programs.proofs.arguments.place_of.Given as goal
-
-abbrev pub invariant-loop-i : goal.invariant-loop-i
-invariant-loop-i l = argument_at l.roles l.role l.n ≡ argument_from l.i (drop l.i l.roles) l.role l.left
