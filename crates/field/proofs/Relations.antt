@@ -3,7 +3,8 @@
 -- sums, so for numbers of eight, four, two lanes and one, and for every list: y^7 = y^3 + 1 has two places, y^8 = y^7 + y^4 + 1 three. What
 -- is asked of the relation is that it holds at α^d, where d is the exponent of the sum times the lanes of a number. Assumes nothing.
 use Rattle.field.proofs.Base.{◌≡◌, refl, sym, ap, ap₂, ◌∙◌, subst, List, [], ◌∷◌, ℕ, zero, suc, ◌+◌, ◌-◌, ◌*◌, ◌≤◌, ◌<◌, not-suc-le-zero}
-use Rattle.field.proofs.Base.{ℕ_discrete, add-one, arith, length, set, length-set, drop, drop-cons, drop_of_length-le, get_or-set_same, get_or-set_other}
+use Rattle.field.proofs.Base.{ℕ_discrete, le_refl, add-one, arith, length, set, length-set, take, take_all, drop, drop-cons, drop_of_length-le}
+use Rattle.field.proofs.Base.{get_or-set_same, get_or-set_other}
 use Rattle.field.specs.Polynomial.{add}
 use Rattle.field.specs.Field.{product, power, α}
 use Rattle.field.specs.inner.Operand.{arithmetic}
@@ -19,7 +20,7 @@ abbrev pub term : ℕ → ℕ → ℕ → ℕ
 term d p x = product 7 (power 7 α (d * p)) x
 
 -- what a number of value x counts at the places t + b together
-abbrev spread : ℕ → ℕ → ℕ → List ℕ → ℕ
+abbrev pub spread : ℕ → ℕ → ℕ → List ℕ → ℕ
 spread d t x bs = product 7 (power 7 α (d * t)) (product 7 (powers d bs) x)
 
 spread-none : (d t x : ℕ) → spread d t x [] ≡ 0
@@ -112,21 +113,32 @@ module _ (v : ℕ → ℕ) (additive : Additive v) (d : ℕ) where
       below : t + b < n
       below = omega (arith, h 0 (omega arith))
 
+  -- a row whose sum below n is that of ws, and what the number of ws at place n counts at the places of the relation, has the sum of ws up to n
+  pub fold-spread : (a t n j : ℕ) (bs ws us : List ℕ) → Obeys a bs d → t + a ≡ n → j ≡ length bs
+      → value_total v d n us ≡ add (value_total v d n (set ws n 0)) (spread d t (v (at ws n)) (take j bs))
+      → value_total v d n us ≡ value_total v d (suc n) ws
+  fold-spread a t n j bs ws us r h q e =
+      e
+      ∙ ap₂ add (total-before n n 0 ws (omega arith))
+      (ap (spread d t (v (at ws n))) (ap (λ (k : ℕ). take k bs) q ∙ take_all (length bs) bs (le_refl (length bs)))
+      ∙ ap (λ (y : ℕ). product 7 (power 7 α (d * t)) (product 7 y (v (at ws n)))) (sym r)
+      ∙ sym (power-apply (d * t) (d * a) (v (at ws n))) ∙ ap (λ (x : ℕ). product 7 (power 7 α x) (v (at ws n))) exponent)
+      ∙ sym (sum-suc n (λ i. term d i (v (at ws i))))
+    where
+      exponent : d * t + d * a ≡ d * n
+      exponent = omega (arith, ap (λ (x : ℕ). d * x) h)
+
   -- THE LAW: the last number goes to the places of the relation
   pub fold-top : (a t : ℕ) (bs ws : List ℕ) → Obeys a bs d → Within a bs → t + a < length ws
       → value_total v d (t + a) (puts t (at ws (t + a)) bs ws) ≡ value_total v d (suc (t + a)) ws
   fold-top a t bs ws r h l =
-      total-puts (t + a) t (at ws (t + a)) bs ws (subst (λ (n : ℕ). Within n bs) size h) (omega arith)
-      ∙ ap (add (value_total v d (t + a) ws))
-      (ap (λ (y : ℕ). product 7 (power 7 α (d * t)) (product 7 y (v (at ws (t + a))))) (sym r)
-      ∙ sym (power-apply (d * t) (d * a) (v (at ws (t + a)))) ∙ ap (λ (x : ℕ). product 7 (power 7 α x) (v (at ws (t + a)))) exponent)
-      ∙ sym (sum-suc (t + a) (λ i. term d i (v (at ws i))))
+      fold-spread a t (t + a) (length bs) bs ws (puts t (at ws (t + a)) bs ws) r refl refl
+      (total-puts (t + a) t (at ws (t + a)) bs ws (subst (λ (n : ℕ). Within n bs) size h) (omega arith)
+      ∙ ap₂ add (sym (total-before (t + a) (t + a) 0 ws (omega arith)))
+      (ap (spread d t (v (at ws (t + a)))) (sym (take_all (length bs) bs (le_refl (length bs))))))
     where
       size : a ≡ t + a - t
       size = omega arith
-
-      exponent : d * t + d * a ≡ d * (t + a)
-      exponent = omega arith
 
   -- as the code has it: the last number, at place n, is put to 0 first
   pub fold-cleared : (a t n : ℕ) (bs ws : List ℕ) → Obeys a bs d → Within a bs → t + a ≡ n → n < length ws
